@@ -1,0 +1,36 @@
+-- Absolute paths, as bytes. 47 is the slash and 46 the dot.
+use Rattle.std.specs.Prelude.{ℕ, ◌==◌, List, [], ◌∷◌, Bool, false, not, ◌&&◌, ◌||◌, if◌then◌else◌}
+use Rattle.std.specs.List.{list_any, slice_split}
+use Rattle.hc_base.specs.Bytes.{begins_with, ends_with}
+
+abbrev pub is_slash : ℕ → Bool
+is_slash b = b == 47
+
+abbrev pub begins_with_slash : List ℕ → Bool
+begins_with_slash path = begins_with 47 path
+
+abbrev pub ends_with_slash : List ℕ → Bool
+ends_with_slash path = ends_with 47 path
+
+-- Two slashes stand beside each other.
+abbrev pub has_double_slash : List ℕ → Bool
+has_double_slash [] = false
+has_double_slash (b ∷ []) = false
+has_double_slash (b ∷ c ∷ bs) = (is_slash b && is_slash c) || has_double_slash (c ∷ bs)
+
+-- The segment `.` or `..`.
+abbrev pub is_dots : List ℕ → Bool
+is_dots [] = false
+is_dots (a ∷ []) = a == 46
+is_dots (a ∷ b ∷ []) = (a == 46) && (b == 46)
+is_dots (a ∷ b ∷ c ∷ rest) = false
+
+-- A path is clean where it begins with a slash and has no `//` and no `.` or `..` between slashes.
+abbrev pub is_clean : List ℕ → Bool
+is_clean path = begins_with_slash path && not (has_double_slash path) && not (list_any is_dots (slice_split is_slash path))
+
+-- The path with each run of slashes as one.
+abbrev pub merge_slashes : List ℕ → List ℕ
+merge_slashes [] = []
+merge_slashes (b ∷ []) = b ∷ []
+merge_slashes (b ∷ c ∷ bs) = if (is_slash b && is_slash c) then merge_slashes (c ∷ bs) else b ∷ merge_slashes (c ∷ bs)

@@ -1,0 +1,30 @@
+//! What every crate of hc speaks of: texts, lists, places and refusals; sources and sinks that
+//! count their faults; a counter that costs nothing.
+#![tactic(auto)]
+
+pub mod bytes;
+mod console;
+pub mod laws;
+mod list;
+pub mod paths;
+mod place;
+mod sink;
+mod source;
+mod steps;
+mod tape;
+mod text;
+
+pub use console::{StdSink, StdSource};
+pub use list::List;
+pub use place::{Place, Refusal, Span};
+pub use sink::Sink;
+pub use source::{Failed, Source};
+pub use steps::Steps;
+pub use tape::{VecSink, VecSource};
+pub use text::Text;
+
+/// Memory was refused. It is std's error under the name that hc's answers have.
+pub use std::alloc::AllocError as NoMemory;
+
+#[cfg(test)]
+mod tests;

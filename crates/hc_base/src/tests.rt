@@ -1,0 +1,173 @@
+ghost use Rattle.std.specs.Prelude.{◌≡◌, ◌+◌, ◌<◌};
+
+use crate::{
+    Failed, List, NoMemory, Sink, Source, StdSink, StdSource, Steps, Text, VecSink, VecSource,
+};
+use std::alloc::Global;
+use std::fmt::Write as _;
+use std::marker::Brand;
+use std::sync::ledger::{Blank, Ledger};
+use std::test::Fail;
+
+#[test]
+fn texts_keep_their_bytes(rt: HostRuntime) -> Result<(), Fail> {
+    for bytes in ["", "a", "two\nlines"] {
+        let text = Text::copy_of(rt.alloc(), bytes.as_bytes())?;
+        assert_eq!(rt; text.as_bytes(), bytes.as_bytes());
+        let twin = text.clone()?;
+        assert_eq!(rt; twin.as_bytes(), bytes.as_bytes());
+        let again = Text::from(text.into_vec());
+        assert_eq!(rt; again.as_bytes(), bytes.as_bytes());
+    }
+    Ok(())
+}
+
+#[test]
+fn lists_keep_their_order(rt: HostRuntime) -> Result<(), Fail> {
+    let mut list = List::new(rt.alloc());
+    assert_eq!(rt; list.as_slice().len(), 0);
+    for item in [3u32, 1, 2] {
+        list.push(item)?;
+    }
+    let twin = list.copy()?;
+    list.push(9)?;
+    assert_eq!(rt; list.as_slice(), [3, 1, 2, 9].as_slice());
+    assert_eq!(rt; twin.as_slice(), [3, 1, 2].as_slice());
+    Ok(())
+}
+
+fn tick_twice<L: Ledger>(steps: &mut Steps<L>)
+    ensures { steps.new ≡ steps.old + 2 }
+{
+    steps.tick();
+    steps.tick();
+}
+
+fn count_two<L: Ledger>(blank: Blank)
+    requires name { blank.name ≡ L.name }
+    requires parts { blank.parts ≡ L.parts }
+    requires whole { 0 < blank.parts }
+{
+    tick_twice(&mut Steps::<L>::new(blank));
+}
+
+#[test]
+fn steps_are_counted() {
+    count_two::<Brand>(Blank::new(1));
+}
+
+// What this many calls into a buffer of this size read: the bytes of each, or `!` where it failed,
+// and then `|`.
+fn reads<S: Source>(
+    alloc: Global,
+    source: &mut S,
+    size: usize,
+    calls: usize,
+) -> Result<Vec<u8>, NoMemory> {
+    let mut buf = vec![in alloc; 0; size]?;
+    let mut seen = Vec::new(alloc);
+    for _ in 0..calls {
+        match source.read(&mut buf) {
+            Ok(count) => seen.extend_from_slice(&buf[..count])?,
+            Err(Failed) => seen.push(b'!')?,
+        }
+        seen.push(b'|')?;
+    }
+    Ok(seen)
+}
+
+// What a sink answers to the pieces: the count of each, or `!` where it failed, and then `|`.
+fn writes<K: Sink>(alloc: Global, sink: &mut K, pieces: &[&str]) -> Result<String, NoMemory> {
+    let mut counts = String::new(alloc);
+    for piece in pieces {
+        match sink.write(piece.as_bytes()) {
+            Ok(count) => write!(counts, "{count}|")?,
+            Err(Failed) => counts.push_str("!|")?,
+        }
+    }
+    Ok(counts)
+}
+
+#[test]
+fn a_source_in_memory_reads_and_fails(rt: HostRuntime) -> Result<(), Fail> {
+    let rows: [(&[u64], usize, &str); 9] = [
+        (&[], 0, "||||||"),
+        (&[], 1, "a|b|c|d|e|f|"),
+        (&[], 3, "abc|def|g||||"),
+        (&[], 8, "abcdefg||||||"),
+        (&[1], 3, "!|abc|def|g|||"),
+        (&[2], 3, "abc|!|def|g|||"),
+        (&[3], 3, "abc|def|!|g|||"),
+        (&[4], 3, "abc|def|g|!|||"),
+        (&[4, 2, 1], 3, "!|!|abc|!|def|g|"),
+    ];
+    for (failing, size, wanted) in rows {
+        let mut source = VecSource::new(rt.alloc(), b"abcdefg", failing)?;
+        let seen = reads(rt.alloc(), &mut source, size, 6)?;
+        assert_eq!(rt; seen.as_slice(), wanted.as_bytes(), "{wanted}");
+    }
+    Ok(())
+}
+
+#[test]
+fn a_sink_in_memory_takes_and_fails(rt: HostRuntime) -> Result<(), Fail> {
+    let rows: [(&[u64], usize, usize, &str, &str); 9] = [
+        (&[], 9, 99, "4|0|3|4|", "abcdefghijk"),
+        (&[], 1, 99, "1|0|1|1|", "aeh"),
+        (&[], 3, 99, "3|0|3|3|", "abcefghij"),
+        (&[], 9, 6, "4|0|2|!|", "abcdef"),
+        (&[], 9, 0, "!|0|!|!|", ""),
+        (&[1], 9, 99, "!|0|3|4|", "efghijk"),
+        (&[2], 9, 99, "4|!|3|4|", "abcdefghijk"),
+        (&[3], 9, 99, "4|0|!|4|", "abcdhijk"),
+        (&[4, 1], 9, 6, "!|0|3|!|", "efg"),
+    ];
+    for (failing, most, room, wanted, held) in rows {
+        assert!(rt; most > 0);
+        let mut sink = VecSink::new(rt.alloc(), failing, most, room)?;
+        let counts = writes(rt.alloc(), &mut sink, &["abcd", "", "efg", "hijk"])?;
+        assert_eq!(rt; counts.as_str(), wanted, "{failing:?}, {most}, {room}");
+        assert_eq!(rt;
+            sink.written(),
+            held.as_bytes(),
+            "{failing:?}, {most}, {room}"
+        );
+    }
+    Ok(())
+}
+
+#[test]
+fn readers_and_writers_of_std(rt: HostRuntime) -> Result<(), Fail> {
+    let bytes: &[u8] = b"abcdefg";
+    let seen = reads(rt.alloc(), &mut StdSource::new(bytes), 3, 4)?;
+    assert_eq!(rt; seen.as_slice(), b"abc|def|g||".as_slice());
+
+    let mut held = Vec::new(rt.alloc());
+    let counts = writes(
+        rt.alloc(),
+        &mut StdSink::new(&mut held),
+        &["abcd", "", "efg"],
+    )?;
+    assert_eq!(rt; counts.as_str(), "4|0|3|");
+    assert_eq!(rt; held.as_slice(), b"abcdefg".as_slice());
+
+    // A writer that is full takes nothing, which is a fault.
+    let mut full = [0u8; 5];
+    let slice: &mut [u8] = &mut full;
+    let counts = writes(
+        rt.alloc(),
+        &mut StdSink::new(slice),
+        &["abcd", "", "efg", "h", ""],
+    )?;
+    assert_eq!(rt; counts.as_str(), "4|0|1|!|0|");
+    assert_eq!(rt; full.as_slice(), b"abcde".as_slice());
+    Ok(())
+}
+
+// A test is given an empty input, or none.
+#[test]
+fn the_standard_input_ends_or_fails(rt: HostRuntime) -> Result<(), Fail> {
+    let seen = reads(rt.alloc(), &mut StdSource::new(rt.reader()), 8, 1)?;
+    assert!(rt; matches!(seen.as_slice(), b"|" | b"!|"));
+    Ok(())
+}
