@@ -1,0 +1,5 @@
+pub mod Configuration
+pub mod Mapping
+pub mod Node
+pub mod World
+pub mod Walking
