@@ -1,0 +1,5 @@
+mod Lookups
+mod Parents
+mod Slashes
+mod Worlds
+mod Walks

@@ -1,0 +1,240 @@
+-- Edits of a world.
+use Rattle.std.proofs.Common.{◌≡◌, ◌≢◌, ℕ, ◌+◌, ◌<◌, Bool, true, false, not, ◌&&◌, ◌||◌, cond, eqb, List, [], ◌∷◌, length, take, Option, Some, None, Result, Ok, Err, IsSome, Contains, refl, sym, ap, ◌∙◌, subst, arith, rules}
+use mathlib.Core.Logic.{⊎_elim}
+use Rattle.std.specs.Bool.{⊤}
+use Rattle.std.specs.List.{list_any}
+use Rattle.std.specs.Result.{is_err}
+use Rattle.std.specs.Ordering.{nat_cmp}
+use Rattle.std.specs.Cmp.Lexicographic.{slice_cmp}
+use Rattle.std.proofs.lemmas.Map.Lookups.{exact_bytes}
+use Rattle.std.specs.FinMap.{get, insert, remove, get-remove, get-empty, empty}
+use Rattle.std.proofs.lemmas.Bool.{cases_Bool, false≢true, true≢false, and_parts, eqb-true, cond-true, cond-false, cond_both, false_from_ne_true}
+use Rattle.std.proofs.lemmas.Cmp.{nat_list_cmp_total, eq_by_cmp_equiv}
+use Rattle.std.proofs.lemmas.List.Elements.{All-contains_itself, All-weaker}
+use Rattle.std.proofs.lemmas.List.Folds.{list_any_none}
+use Rattle.std.proofs.lemmas.Map.Views.{Contains-from_any, list_any-from_Contains, tells_apart}
+use Rattle.hc_model.specs.Node.{Node, dir, file, text, is_dir, is_file, kind_of}
+use Rattle.hc_model.specs.declared.walk.Kind.TheVariants.{Absent, Dir, File}
+use Rattle.hc_model.specs.World.{World, IsWorld, root, parents, with_dirs, new_world, is_path, is_under_file, put}
+use Rattle.hc_world.specs.Edits.{Edits}
+use Rattle.hc_world.specs.Entries.{add_in}
+use Rattle.hc_world.specs.declared.world.WorldFault.{WorldFault}
+use Rattle.hc_world.specs.declared.world.WorldFault.TheVariants.{NoMemory, Refused}
+use Rattle.hc_world.specs.Slashes.{IsNextSlash, fronts_from}
+use Rattle.hc_world.proofs.Lookups.{same_path, same_path-true, same_world, get_inserted}
+use Rattle.hc_world.proofs.Slashes.{fronts_from-some}
+use Rattle.hc_world.proofs.Parents.{is_among, parents-long, parent_shorter, parents_of_parent}
+
+-- ---- what stands at a path
+
+pub dir_from_kind : (o : Option Node) → kind_of o ≡ Dir → o ≡ Some dir
+dir_from_kind None h = cc
+dir_from_kind (Some dir) h = refl
+dir_from_kind (Some file) h = cc
+dir_from_kind (Some (text bytes)) h = cc
+
+pub none_from_kind : (o : Option Node) → kind_of o ≡ Absent → o ≡ None
+none_from_kind None h = refl
+none_from_kind (Some dir) h = cc
+none_from_kind (Some file) h = cc
+none_from_kind (Some (text bytes)) h = cc
+
+pub file_from_kind : (o : Option Node) → kind_of o ≡ File → is_file o ≡ true
+file_from_kind None h = cc
+file_from_kind (Some dir) h = cc
+file_from_kind (Some file) h = refl
+file_from_kind (Some (text bytes)) h = refl
+
+pub not_dir_from_kind : (o : Option Node) → (kind_of o ≡ Dir → ⊥) → is_dir o ≡ false
+not_dir_from_kind None h = refl
+not_dir_from_kind (Some dir) h = absurd (h refl)
+not_dir_from_kind (Some file) h = refl
+not_dir_from_kind (Some (text bytes)) h = refl
+
+-- ---- an insertion
+
+-- What is there already, put again, changes nothing.
+insert_same : (w : World) (path : List ℕ) (node : Node) → get w path ≡ Some node → insert w path node ≡ w
+insert_same w path node h = same_world _ _ (λ q.
+    get_inserted w path node q ∙ elim (same_path q path) as (λ b. same_path q path ≡ b → cond b (Some node) (get w q) ≡ get w q) [
+      | true ↦ λ e. sym h ∙ ap (get w) (sym (same_path-true q path e))
+      | false ↦ λ e. refl
+    ] refl)
+
+-- What was absent, put and removed, changes nothing.
+pub remove_inserted : (w : World) (path : List ℕ) (node : Node) → get w path ≡ None → remove (insert w path node) path ≡ w
+remove_inserted w path node h = same_world _ _ (λ q.
+    get-remove nat_list_cmp_total (insert w path node) path q ∙ ap (cond (same_path q path) None) (get_inserted w path node q)
+    ∙ elim (same_path q path) as (λ b. same_path q path ≡ b → cond b None (cond b (Some node) (get w q)) ≡ get w q) [
+      | true ↦ λ e. sym h ∙ ap (get w) (sym (same_path-true q path e))
+      | false ↦ λ e. refl
+    ] refl)
+
+-- ---- directories above a path
+
+get-with_dirs : (w : World) (paths : List (List ℕ)) (q : List ℕ) → get (with_dirs w paths) q ≡ cond (is_among paths q) (Some dir) (get w q)
+get-with_dirs w [] q = refl
+get-with_dirs w (p ∷ ps) q =
+    get-with_dirs (insert w p dir) ps q ∙ ap (cond (is_among ps q) (Some dir)) (get_inserted w p dir q)
+    ∙ elim (same_path q p) as (λ b. cond (is_among ps q) (Some dir) (cond b (Some dir) (get w q)) ≡ cond (b || is_among ps q) (Some dir) (get w q)) [
+      | true ↦ elim (is_among ps q) as (λ a. cond a (Some dir) (Some dir) ≡ Some dir) [ true ↦ refl | false ↦ refl ]
+      | false ↦ refl
+    ]
+
+-- A directory in place of what is no file makes no file.
+is_file-insert : (w : World) (p q : List ℕ) → is_file (get w p) ≡ false → is_file (get (insert w p dir) q) ≡ is_file (get w q)
+is_file-insert w p q h =
+    ap is_file (get_inserted w p dir q) ∙ elim (same_path q p) as (λ b. same_path q p ≡ b → is_file (cond b (Some dir) (get w q)) ≡ is_file (get w q)) [
+      | true ↦ λ e. sym h ∙ ap (λ x. is_file (get w x)) (sym (same_path-true q p e))
+      | false ↦ λ e. refl
+    ] refl
+
+list_any-same : {A : Type 0} (f g : A → Bool) → ((x : A) → f x ≡ g x) → (xs : List A) → list_any f xs ≡ list_any g xs
+list_any-same f g h [] = refl
+list_any-same f g h (x ∷ xs) = ap (λ b. b || list_any f xs) (h x) ∙ ap (λ b. g x || b) (list_any-same f g h xs)
+
+pub add_in-file : (w : World) (p : List ℕ) (ps : List (List ℕ)) (path : List ℕ) (node : Node) → is_file (get w p) ≡ true → add_in w (p ∷ ps) path node ≡ Err 42
+add_in-file w p ps path node h = ap (λ b. cond (b || list_any (λ a. is_file (get w a)) ps) (Err 42) (Ok (insert (with_dirs w (p ∷ ps)) path node))) h
+
+add_in-made : (w : World) (p : List ℕ) (ps : List (List ℕ)) (path : List ℕ) (node : Node) → is_file (get w p) ≡ false → add_in w (p ∷ ps) path node ≡ add_in (insert w p dir) ps path node
+add_in-made w p ps path node h =
+    ap (λ b. cond (b || list_any (λ a. is_file (get w a)) ps) (Err 42) (Ok (insert (with_dirs w (p ∷ ps)) path node))) h
+    ∙ ap (λ b. cond b (Err 42) (Ok (insert (with_dirs w (p ∷ ps)) path node))) (sym (list_any-same (λ a. is_file (get (insert w p dir) a)) (λ a. is_file (get w a)) (λ q. is_file-insert w p q h) ps))
+
+pub add_in-dir : (w : World) (p : List ℕ) (ps : List (List ℕ)) (path : List ℕ) (node : Node) → get w p ≡ Some dir → add_in w (p ∷ ps) path node ≡ add_in w ps path node
+add_in-dir w p ps path node h = add_in-made w p ps path node (ap is_file h) ∙ ap (λ v. add_in v ps path node) (insert_same w p dir h)
+
+-- The first missing directory is made, and the rest follows.
+pub add_in-absent : (w made : World) (path : List ℕ) (from slash : ℕ) (node : Node) → IsNextSlash path from slash → get w (take slash path) ≡ None → made ≡ insert w (take slash path) dir → add_in w (fronts_from path from) path node ≡ add_in made (fronts_from path (slash + 1)) path node
+add_in-absent w made path from slash node is none e =
+    ap (λ ps. add_in w ps path node) (fronts_from-some path from slash is)
+    ∙ add_in-made w (take slash path) (fronts_from path (slash + 1)) path node (ap is_file none) ∙ ap (λ v. add_in v (fronts_from path (slash + 1)) path node) (sym e)
+
+-- A failed edit of a world that was changed first, where the change is undone.
+pub Edits_undone : (result : Result ⊤ WorldFault) (old changed left new : World) (edit : Result World ℕ) → is_err result ≡ true → (left ≡ changed → new ≡ old) → Edits result changed left edit → Edits result old new edit
+Edits_undone (Ok _) old changed left new edit h undo e = absurd (false≢true h)
+Edits_undone (Err (Refused code)) old changed left new edit h undo e = (e.0, undo e.1)
+Edits_undone (Err NoMemory) old changed left new edit h undo e = undo e
+
+-- An edit that is made does not speak of the world before it.
+pub Edits_made : (result : Result ⊤ WorldFault) (old changed new : World) (edit : Result World ℕ) → is_err result ≡ false → Edits result changed new edit → Edits result old new edit
+Edits_made (Ok _) old changed new edit h e = e
+Edits_made (Err fault) old changed new edit h e = absurd (true≢false h)
+
+-- ---- an edit as a whole
+
+is_among-from_Contains : (paths : List (List ℕ)) (q : List ℕ) → Contains paths q → is_among paths q ≡ true
+is_among-from_Contains paths q h = list_any-from_Contains (eq_by_cmp_equiv nat_list_cmp_total) q paths h
+
+no_file_above : (w : World) (paths : List (List ℕ)) → ((above : List ℕ) → Contains paths above → get w above ≡ Some dir) → list_any (λ a. is_file (get w a)) paths ≡ false
+no_file_above w paths h = list_any_none (λ a. is_file (get w a)) paths (All-weaker (Contains paths) (λ a. is_file (get w a) ≡ false) (λ a c. ap is_file (h a c)) paths (All-contains_itself paths))
+
+is_some_dir : (o : Option Node) → is_dir o ≡ true → IsSome o
+is_some_dir None h = absurd (false≢true h)
+is_some_dir (Some node) h = search rules
+
+put_formed : (w : World) (path bytes : List ℕ) → is_path path ≡ true → put w path bytes ≡ cond (is_under_file w path) (Err 42) (cond (is_dir (get w path)) (Err 47) (Ok (insert (with_dirs w (parents path)) path (text bytes))))
+put_formed w path bytes h = ap (λ b. cond (not b) (Err 41) (cond (is_under_file w path) (Err 42) (cond (is_dir (get w path)) (Err 47) (Ok (insert (with_dirs w (parents path)) path (text bytes)))))) h
+
+-- What is there has no file above it.
+pub put-is_dir : (w : World) (path bytes : List ℕ) → IsWorld w → is_path path ≡ true → is_dir (get w path) ≡ true → put w path bytes ≡ Err 47
+put-is_dir w path bytes is formed h =
+    put_formed w path bytes formed
+    ∙ ap (λ b. cond b (Err 42) (cond (is_dir (get w path)) (Err 47) (Ok (insert (with_dirs w (parents path)) path (text bytes))))) (no_file_above w (parents path) (λ a c. is.parents_are_dirs path a (is_some_dir _ h) c))
+    ∙ ap (λ b. cond b (Err 47) (Ok (insert (with_dirs w (parents path)) path (text bytes)))) h
+
+-- The path is no root, since the root is a directory.
+long : (w : World) (path : List ℕ) → IsWorld w → is_path path ≡ true → is_dir (get w path) ≡ false → 1 < length path
+long w [] is formed h = absurd (false≢true formed)
+long w (x ∷ []) is formed h =
+    let slash : x ≡ 47 = eqb-true x 47 (and_parts (eqb x 47) _ (and_parts (eqb x 47 && true) _ formed).0).0 in
+    absurd (false≢true (sym h ∙ ap (λ b. is_dir (get w (b ∷ []))) slash ∙ ap is_dir is.root_is_dir))
+long w (x ∷ y ∷ rest) is formed h = omega arith
+
+put-parents : (w : World) (path bytes : List ℕ) → is_path path ≡ true → is_dir (get w path) ≡ false → put w path bytes ≡ add_in w (parents path) path (text bytes)
+put-parents w path bytes formed h = put_formed w path bytes formed ∙ ap (λ b. cond (is_under_file w path) (Err 42) (cond b (Err 47) (Ok (insert (with_dirs w (parents path)) path (text bytes))))) h
+
+put-add_in : (w : World) (path bytes : List ℕ) → IsWorld w → is_path path ≡ true → is_dir (get w path) ≡ false → put w path bytes ≡ add_in w (fronts_from path 1) path (text bytes)
+put-add_in w path bytes is formed h =
+    put-parents w path bytes formed h ∙ ap (λ ps. add_in w ps path (text bytes)) (parents-long path (long w path is formed h)) ∙ add_in-dir w root (fronts_from path 1) path (text bytes) is.root_is_dir
+
+accepted : (b : Bool) (v new : World) → cond {A = Result World ℕ} b (Err 42) (Ok v) ≡ Ok new → v ≡ new
+accepted true v new e = cc
+accepted false v new e = cc
+
+ok_from_add_in : (w new : World) (paths : List (List ℕ)) (path : List ℕ) (node : Node) → add_in w paths path node ≡ Ok new → insert (with_dirs w paths) path node ≡ new
+ok_from_add_in w new paths path node h = accepted (list_any (λ a. is_file (get w a)) paths) (insert (with_dirs w paths) path node) new h
+
+abbrev made : World → List ℕ → List ℕ → World
+made w path bytes = insert (with_dirs w (parents path)) path (text bytes)
+
+get-made : (w : World) (path bytes q : List ℕ) → get (made w path bytes) q ≡ cond (same_path q path) (Some (text bytes)) (cond (is_among (parents path) q) (Some dir) (get w q))
+get-made w path bytes q = get_inserted (with_dirs w (parents path)) path (text bytes) q ∙ ap (cond (same_path q path) (Some (text bytes))) (get-with_dirs w (parents path) q)
+
+get-made_apart : (w : World) (path bytes q : List ℕ) → same_path q path ≡ false → get (made w path bytes) q ≡ cond (is_among (parents path) q) (Some dir) (get w q)
+get-made_apart w path bytes q e = get-made w path bytes q ∙ ap (λ b. cond b (Some (text bytes)) (cond (is_among (parents path) q) (Some dir) (get w q))) e
+
+apart : (q path : List ℕ) → (q ≡ path → ⊥) → same_path q path ≡ false
+apart q path h = false_from_ne_true _ (λ e. h (same_path-true q path e))
+
+dir_made : (w : World) (path bytes q : List ℕ) → is_among (parents path) q ≡ true → get (made w path bytes) q ≡ Some dir
+dir_made w path bytes q h =
+    get-made_apart w path bytes q (apart q path (λ e. let l = parent_shorter path q h in let m : length q ≡ length path = ap length e in omega arith)) ∙ cond-true _ (Some dir) (get w q) h
+
+dir_stays : (w : World) (path bytes q : List ℕ) → is_dir (get w path) ≡ false → get w q ≡ Some dir → get (made w path bytes) q ≡ Some dir
+dir_stays w path bytes q h is =
+    get-made_apart w path bytes q (apart q path (λ e. false≢true (sym h ∙ ap (λ p. is_dir (get w p)) (sym e) ∙ ap is_dir is)))
+    ∙ cond_both (is_among (parents path) q) (Some dir) (get w q) (λ o. o ≡ Some dir) (λ _. refl) (λ _. is)
+
+IsWorld-made : (w : World) (path bytes : List ℕ) → IsWorld w → is_dir (get w path) ≡ false → IsWorld (made w path bytes)
+IsWorld-made w path bytes is h = record {
+  root_is_dir = dir_stays w path bytes root h is.root_is_dir;
+  parents_are_dirs = λ q above there c.
+      let k = is_among-from_Contains (parents q) above c in
+      ⊎_elim
+      (λ e. dir_made w path bytes above (ap (λ p. is_among (parents p) above) (sym (same_path-true q path e)) ∙ k))
+      (λ e. ⊎_elim
+      (λ a. dir_made w path bytes above (parents_of_parent path q above a k))
+      (λ a. dir_stays w path bytes above h (is.parents_are_dirs q above (subst IsSome (get-made_apart w path bytes q e ∙ cond-false _ (Some dir) (get w q) a) there) c))
+      (cases_Bool (is_among (parents path) q)))
+      (cases_Bool (same_path q path));
+}
+
+-- What all edits of one path keep: the other paths, and that it is a world.
+pub record IsEdit (path : List ℕ) (old new : World) : Type 0 where
+  pub valid : IsWorld new
+  pub others : (q : List ℕ) → q ≢ path → (Contains (parents path) q → ⊥) → get new q ≡ get old q
+
+IsEdit_same : (path : List ℕ) (old new : World) → IsWorld old → new ≡ old → IsEdit path old new
+IsEdit_same path old new is e = record {
+  valid = subst IsWorld (sym e) is;
+  others = λ q _ _. ap (λ w. get w q) e;
+}
+
+IsEdit-made : (w : World) (path bytes : List ℕ) → IsWorld w → is_dir (get w path) ≡ false → IsEdit path w (made w path bytes)
+IsEdit-made w path bytes is h = record {
+  valid = IsWorld-made w path bytes is h;
+  others = λ q ne no. get-made_apart w path bytes q (apart q path ne)
+      ∙ cond-false _ (Some dir) (get w q) (false_from_ne_true _ (λ e. no (Contains-from_any (tells_apart exact_bytes) q (parents path) e)));
+}
+
+pub IsEdit-from_Edits : (result : Result ⊤ WorldFault) (w new : World) (path bytes : List ℕ) → IsWorld w → is_path path ≡ true → is_dir (get w path) ≡ false → Edits result w new (put w path bytes) → IsEdit path w new
+IsEdit-from_Edits (Ok _) w new path bytes is formed h e =
+    subst (IsEdit path w) (ok_from_add_in w new (parents path) path (text bytes) (sym (put-parents w path bytes formed h) ∙ e)) (IsEdit-made w path bytes is h)
+IsEdit-from_Edits (Err (Refused code)) w new path bytes is formed h e = IsEdit_same path w new is e.1
+IsEdit-from_Edits (Err NoMemory) w new path bytes is formed h e = IsEdit_same path w new is e
+
+pub Edits-from_add : (result : Result ⊤ WorldFault) (w new : World) (path bytes : List ℕ) → IsWorld w → is_path path ≡ true → is_dir (get w path) ≡ false → Edits result w new (add_in w (fronts_from path 1) path (text bytes)) → Edits result w new (put w path bytes)
+Edits-from_add result w new path bytes is formed h e = subst (Edits result w new) (sym (put-add_in w path bytes is formed h)) e
+
+-- ---- the world of the root alone
+
+pub IsWorld-new_world : IsWorld new_world
+IsWorld-new_world = record {
+  root_is_dir = get_inserted empty root dir root;
+  parents_are_dirs = λ q above there c.
+      ⊎_elim
+      (λ e. let k : is_among (parents root) above ≡ true = ap (λ p. is_among (parents p) above) (sym (same_path-true q root e)) ∙ is_among-from_Contains (parents q) above c in absurd (false≢true k))
+      (λ e. absurd (search (rules, subst IsSome (get_inserted empty root dir q ∙ cond-false _ (Some dir) (get empty q) e ∙ get-empty (slice_cmp nat_cmp) q) there)))
+      (cases_Bool (same_path q root));
+}

@@ -1,0 +1,10 @@
+use Rattle.std.proofs.Common.{rules, tests}
+use Rattle.std.proofs.lemmas.Iterator.Search.{all_from_yields_List}
+use Rattle.std.proofs.lemmas.Iterator.Splits.{YieldsList-from_slice_split}
+use Rattle.hc_base.specs.Paths.{is_slash}
+use Rattle.hc_model.specs.World.{is_component}
+use Rattle.hc_world.proofs.path.has_components.Goals as goal
+
+pub returns : goal.returns
+returns c =
+    all_from_yields_List is_component _ _ _ c.all.ensures.ran (YieldsList-from_slice_split _ is_slash c.args.names.now c.split.ensures.rest c.split.ensures.done c.split.ensures.closure (λ x b q k. search (rules, tests))) (λ x b q k. search (rules, tests))

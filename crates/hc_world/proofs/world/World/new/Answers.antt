@@ -1,0 +1,15 @@
+use Rattle.std.proofs.Common.{◌≡◌, sym, subst, rules}
+use Rattle.hc_model.specs.World.{IsWorld, new_world}
+use Rattle.hc_world.specs.Entries.{world_of}
+use Rattle.hc_world.proofs.Worlds.{IsWorld-new_world}
+use Rattle.hc_world.proofs.world.World.new.Goals as goal
+
+pub invariant_of-result : goal.invariant_of-result
+invariant_of-result c =
+    let same : world_of c.insert.new.self.entries ≡ new_world = search rules in
+    subst IsWorld (sym same) IsWorld-new_world
+
+pub returns-clause-valid : goal.returns-clause-valid
+returns-clause-valid c =
+    let same : world_of c.insert.new.self.entries ≡ new_world = search rules in
+    subst IsWorld (sym same) IsWorld-new_world

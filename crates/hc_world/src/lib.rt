@@ -1,0 +1,12 @@
+//! The world of files that a session holds.
+#![tactic(auto)]
+
+mod entries;
+mod path;
+mod walk;
+mod world;
+
+pub use world::{World, WorldFault};
+
+#[cfg(test)]
+mod tests;
