@@ -1,0 +1,8 @@
+pub mod Answering
+pub mod AnsweringLoop
+pub mod Completing
+pub mod Known
+pub mod Parsing
+pub mod Reading
+pub mod Serving
+pub mod Words

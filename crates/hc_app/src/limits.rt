@@ -1,0 +1,8 @@
+/// A line of a script has fewer bytes than this without its LF.
+pub const LINE_LIMIT: usize = 16_777_216;
+
+/// A script has fewer bytes than this.
+pub const SCRIPT_LIMIT: usize = 1_073_741_824;
+
+/// At most so many bytes are read at once.
+pub const CHUNK: usize = 16_384;
