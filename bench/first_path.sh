@@ -1,0 +1,134 @@
+#!/usr/bin/env bash
+# Times the program on a growing tree and checks that time and memory stay within their limits:
+#
+#     bench/first_path.sh [PROGRAM]
+#
+# Each input puts a main file, then small files in 1,000 folders, and asks of each of those. It runs
+# on 10,000 and on 100,000 lines, three times each, and the best run counts. Nothing is built here.
+set -euo pipefail
+
+top=$(dirname -- "$(dirname -- "$(readlink -f -- "${BASH_SOURCE[0]}")")")
+program=${1:-$top/crates/hc_app/out/hc_app}
+
+if [[ ! -x $program ]]; then
+    printf 'first_path: there is no program at %s\n' "$program" >&2
+    exit 2
+fi
+
+room=$(mktemp -d)
+trap 'rm -rf -- "$room"' EXIT
+
+python3 - "$program" "$room" << 'PYTHON'
+import json
+import os
+import shutil
+import subprocess
+import sys
+import time
+
+TIME = shutil.which("time")
+FOLDERS = 1_000
+RUNS = 3
+SIZES = (10_000, 100_000)
+
+# The words of a reply that gives no answer.
+NO_ANSWER = {"no_memory", "refused"}
+
+# How much longer a line may take on the larger input.
+GROWTH = 1.5
+# Peak memory: this many times the bytes of the input, and the rest.
+MEMORY_PER_BYTE = 3
+MEMORY_KIB = 64 * 1024
+
+MAIN_FILE = {
+    "do": "put",
+    "path": "/etc/httpd/conf/httpd.conf",
+    "text": "DocumentRoot /var/www\nAlias /image /ftp/pub/image\n",
+}
+
+
+def commands(lines):
+    """The main file, the puts, and an ask of each file. Where a line is left, it asks once more."""
+    yield MAIN_FILE
+    files = [f"/d{at % FOLDERS}/f{at // FOLDERS}.html" for at in range((lines - 1) // 2)]
+    for at, file in enumerate(files):
+        yield {"do": "put", "path": f"/var/www{file}", "text": f"<p>page {at}</p>\n"}
+    asked = [*files, *files[: lines - 1 - 2 * len(files)]]
+    for file in asked:
+        yield {"do": "ask", "target": file}
+
+
+def write_input(path, lines):
+    with open(path, "w", encoding="ascii") as out:
+        for command in commands(lines):
+            out.write(json.dumps(command, separators=(",", ":")) + "\n")
+
+
+def run_once(program, source, replies):
+    """The seconds, the peak memory in KiB and the status of one run."""
+    report = f"{replies}.peak"
+    # A child's peak is at least that of the process that starts it, so a small one does where there
+    # is one.
+    words = [TIME, "-f", "%M", "-o", report] if TIME else []
+    with open(source, "rb") as given, open(replies, "wb") as made:
+        began = time.perf_counter()
+        child = subprocess.Popen([*words, program], stdin=given, stdout=made)
+        _, status, usage = os.wait4(child.pid, 0)
+        seconds = time.perf_counter() - began
+    child.returncode = os.waitstatus_to_exitcode(status)
+    peak = usage.ru_maxrss
+    if TIME:
+        with open(report, encoding="ascii") as told:
+            peak = int(told.read().split()[-1])
+    return seconds, peak, child.returncode
+
+
+def faults_of(replies, lines):
+    """What is wrong with the replies: their number, or one that gives no answer."""
+    count, reply = 0, "\n"
+    with open(replies, encoding="utf-8") as given:
+        for count, reply in enumerate(given, 1):
+            if not NO_ANSWER.isdisjoint(json.loads(reply)):
+                return f"reply {count} is {reply[:200]}"
+    if count != lines:
+        return f"{count} replies to {lines} lines"
+    return None if reply.endswith("\n") else "the last reply has no end of line"
+
+
+def measure(program, room, lines):
+    """The best of the runs: the bytes of the input, the seconds and the peak memory in KiB."""
+    source, replies = f"{room}/{lines}.jsonl", f"{room}/{lines}.replies"
+    write_input(source, lines)
+    runs = []
+    for _ in range(RUNS):
+        seconds, peak, status = run_once(program, source, replies)
+        fault = f"the program ended with status {status}" if status else faults_of(replies, lines)
+        if fault:
+            sys.exit(f"FAIL  at {lines} lines: {fault}")
+        runs.append((seconds, peak))
+    size = os.path.getsize(source)
+    seconds, peak = min(run[0] for run in runs), min(run[1] for run in runs)
+    print(
+        f"{lines:>7} lines  {size:>9} bytes  {seconds:8.3f} s"
+        f"  {lines / seconds:>10.0f} lines/s  {peak:>8} KiB"
+    )
+    return size, seconds, peak
+
+
+def main():
+    program, room = sys.argv[1:]
+    found = {lines: measure(program, room, lines) for lines in SIZES}
+    small, large = SIZES
+    growth = (found[large][1] / large) / (found[small][1] / small)
+    checks = [(growth <= GROWTH, f"time per line grows {growth:.2f} times, at most {GROWTH}")]
+    for lines in SIZES:
+        size, _, peak = found[lines]
+        limit = MEMORY_PER_BYTE * size // 1024 + MEMORY_KIB
+        checks.append((peak <= limit, f"{peak} KiB at {lines} lines, at most {limit}"))
+    for holds, what in checks:
+        print(f"{'PASS' if holds else 'FAIL'}  {what}")
+    sys.exit(0 if all(holds for holds, _ in checks) else 1)
+
+
+main()
+PYTHON

@@ -1,0 +1,125 @@
+#!/usr/bin/env bash
+# Refuses each allocation of the program in turn, and checks what it then answers:
+#
+#     bench/refused_memory.sh [PROGRAM]
+#
+# A run in which one allocation is refused either ends with status 5 and nothing written, or answers
+# each line; and a line that was answered `no_memory` has changed nothing: without it, the other lines
+# have the same replies. Nothing is built here but a small library that refuses the allocation.
+set -euo pipefail
+
+top=$(dirname -- "$(dirname -- "$(readlink -f -- "${BASH_SOURCE[0]}")")")
+program=${1:-$top/crates/hc_app/out/hc_app}
+
+if [[ ! -x $program ]]; then
+    printf 'refused_memory: there is no program at %s\n' "$program" >&2
+    exit 2
+fi
+
+room=$(mktemp -d)
+trap 'rm -rf -- "$room"' EXIT
+
+cat > "$room/refuse.c" << 'C'
+#include <errno.h>
+#include <stdlib.h>
+
+extern void *__libc_malloc(size_t), *__libc_realloc(void *, size_t);
+extern void *__libc_calloc(size_t, size_t), *__libc_memalign(size_t, size_t);
+
+static long calls, refused = -1;
+
+static int refuse(void)
+{
+    if (refused < 0) {
+        const char *at = getenv("REFUSE_AT");
+        refused = at ? atol(at) : 0;
+    }
+    calls++;
+    if (calls == refused) {
+        errno = ENOMEM;
+        return 1;
+    }
+    return 0;
+}
+
+void *malloc(size_t n) { return refuse() ? 0 : __libc_malloc(n); }
+void *realloc(void *p, size_t n) { return refuse() ? 0 : __libc_realloc(p, n); }
+void *calloc(size_t a, size_t b) { return refuse() ? 0 : __libc_calloc(a, b); }
+void *aligned_alloc(size_t a, size_t n) { return refuse() ? 0 : __libc_memalign(a, n); }
+int posix_memalign(void **p, size_t a, size_t n)
+{
+    if (refuse())
+        return ENOMEM;
+    *p = __libc_memalign(a, n);
+    return *p ? 0 : ENOMEM;
+}
+C
+gcc -O1 -shared -fPIC -o "$room/refuse.so" "$room/refuse.c"
+
+python3 - "$program" "$room/refuse.so" << 'PYTHON'
+import collections
+import os
+import subprocess
+import sys
+
+PROGRAM, LIBRARY = sys.argv[1:]
+NO_MEMORY = '{"no_memory":true}'
+# So many runs in a row that lose nothing are taken for the end.
+QUIET = 5
+
+SCRIPT = r"""
+{"do":"ask","target":"/a"}
+{"do":"put","path":"/etc/httpd/conf/httpd.conf","text":"# a comment\n\nlisten 80\n"}
+{"do":"ask","target":"/a"}
+{"do":"put","path":"/etc/httpd/conf/httpd.conf","text":"documentroot /srv\nALIAS /i/ /srv/\nAlias /j /a/b\n"}
+{"do":"put","path":"/srv/x/y/z/f","text":"one"}
+{"do":"put","path":"/srv/x/y/z/f/g","text":""}
+{"do":"put","path":"/srv/x/y/w/f","text":"one"}
+{"do":"put","path":"/srv","text":""}
+{"do":"put","path":"/srv/x/y/z/f","text":"two"}
+{"do":"put","path":"/srv/f","text":"two","\u00e9\\":0}
+{"do":"ask","target":"/x/y/z/f/more"}
+{"do":"ask","target":"/x/y/q"}
+{"do":"ask","target":"/i/x/y/w"}
+{"do":"ask","target":"/x/y/"}
+{"do":"ask","target":"/j"}
+[1,{"a":"b"}]
+nonsense
+{"do":"ask","target":"/x/y/z/f"}
+{"do":"ask","target":"/x/y/w/f"}
+""".strip().splitlines()
+
+
+def answers(lines, refused=0):
+    """The status and the replies of a run in which this allocation is refused."""
+    env = {"REFUSE_AT": str(refused), "LD_PRELOAD": LIBRARY} if refused else {}
+    text = "".join(line + "\n" for line in lines)
+    done = subprocess.run([PROGRAM], input=text.encode(), capture_output=True, env={**os.environ, **env})
+    return done.returncode, done.stdout.decode().splitlines()
+
+
+def fault_of(status, replies):
+    """What is wrong with a run, and how many lines found no memory."""
+    if status == 5:
+        return (None if not replies else "status 5, and something was written"), "status 5"
+    if status != 0 or len(replies) != len(SCRIPT):
+        return f"status {status}, {len(replies)} replies", "broken"
+    kept = [line for line, reply in zip(SCRIPT, replies) if reply != NO_MEMORY]
+    others = [reply for reply in replies if reply != NO_MEMORY]
+    lost = len(SCRIPT) - len(kept)
+    same = answers(kept)[1] == others
+    return (None if same else "a line without memory changed something"), f"{lost} lines lost"
+
+
+counts, at, quiet = collections.Counter(), 0, 0
+while quiet < QUIET:
+    at += 1
+    fault, kind = fault_of(*answers(SCRIPT, at))
+    if fault:
+        sys.exit(f"FAIL  allocation {at}: {fault}")
+    counts[kind] += 1
+    quiet = quiet + 1 if kind == "0 lines lost" else 0
+for kind, count in sorted(counts.items()):
+    print(f"{count:>5} runs: {kind}")
+print(f"PASS  {at} allocations refused, one a run")
+PYTHON
