@@ -1,7 +1,10 @@
 ghost use Rattle.std.specs.Prelude.{◌≡◌, ◌+◌, ◌<◌};
 
+use crate::bytes::{begins_with, ends_with};
+use crate::paths::{begins_with_slash, ends_with_slash, is_dots};
 use crate::{
-    Failed, List, NoMemory, Sink, Source, StdSink, StdSource, Steps, Text, VecSink, VecSource,
+    Failed, List, NoMemory, Place, Refusal, Sink, Source, StdSink, StdSource, Steps, Text, VecSink,
+    VecSource,
 };
 use std::alloc::Global;
 use std::fmt::Write as _;
@@ -34,6 +37,33 @@ fn lists_keep_their_order(rt: HostRuntime) -> Result<(), Fail> {
     assert_eq!(rt; list.as_slice(), [3, 1, 2, 9].as_slice());
     assert_eq!(rt; twin.as_slice(), [3, 1, 2].as_slice());
     Ok(())
+}
+
+#[test]
+fn a_refusal_is_cloned(rt: HostRuntime) -> Result<(), Fail> {
+    let refusal = Refusal {
+        place: Place {
+            file: Text::copy_of(rt.alloc(), b"/f")?,
+            line: 7,
+        },
+        code: 1,
+        at: 2,
+        field: Text::copy_of(rt.alloc(), b"do")?,
+    };
+    let twin = refusal.clone()?;
+    assert_eq!(rt; twin.place.file.as_bytes(), b"/f".as_slice());
+    assert_eq!(rt; (twin.place.line, twin.code, twin.at), (7, 1, 2));
+    assert_eq!(rt; twin.field.as_bytes(), b"do".as_slice());
+    Ok(())
+}
+
+#[test]
+fn ends_of_texts_and_paths(rt: HostRuntime) {
+    assert!(rt; begins_with(b"ab", b'a') && !begins_with(b"ab", b'b') && !begins_with(b"", b'a'));
+    assert!(rt; ends_with(b"ab", b'b') && !ends_with(b"ab", b'a') && !ends_with(b"", b'a'));
+    assert!(rt; begins_with_slash(b"/a") && !begins_with_slash(b"a/"));
+    assert!(rt; ends_with_slash(b"a/") && !ends_with_slash(b"/a"));
+    assert!(rt; is_dots(b".") && is_dots(b"..") && !is_dots(b"...") && !is_dots(b".a"));
 }
 
 fn tick_twice<L: Ledger>(steps: &mut Steps<L>)
