@@ -5,18 +5,7 @@
 #
 # Each input puts a main file, then small files in 1,000 folders, and asks of each of those. It runs
 # on 10,000 and on 100,000 lines, three times each, and the best run counts. Nothing is built here.
-set -euo pipefail
-
-top=$(dirname -- "$(dirname -- "$(readlink -f -- "${BASH_SOURCE[0]}")")")
-program=${1:-$top/crates/hc_app/out/hc_app}
-
-if [[ ! -x $program ]]; then
-    printf 'first_path: there is no program at %s\n' "$program" >&2
-    exit 2
-fi
-
-room=$(mktemp -d)
-trap 'rm -rf -- "$room"' EXIT
+source "$(dirname -- "$(readlink -f -- "$0")")/program.sh"
 
 python3 - "$program" "$room" << 'PYTHON'
 import json

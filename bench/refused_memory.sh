@@ -6,18 +6,7 @@
 # A run in which one allocation is refused either ends with status 5 and nothing written, or answers
 # each line; and a line that was answered `no_memory` has changed nothing: without it, the other lines
 # have the same replies. Nothing is built here but a small library that refuses the allocation.
-set -euo pipefail
-
-top=$(dirname -- "$(dirname -- "$(readlink -f -- "${BASH_SOURCE[0]}")")")
-program=${1:-$top/crates/hc_app/out/hc_app}
-
-if [[ ! -x $program ]]; then
-    printf 'refused_memory: there is no program at %s\n' "$program" >&2
-    exit 2
-fi
-
-room=$(mktemp -d)
-trap 'rm -rf -- "$room"' EXIT
+source "$(dirname -- "$(readlink -f -- "$0")")/program.sh"
 
 cat > "$room/refuse.c" << 'C'
 #include <errno.h>

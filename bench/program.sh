@@ -1,0 +1,13 @@
+# For the scripts of this folder, which read it first. It sets `program`, the program that they run:
+# their first word, or else the one that is built. `room` is a folder that goes away at their end.
+set -euo pipefail
+
+program=${1:-$(dirname -- "$(dirname -- "$(readlink -f -- "${BASH_SOURCE[0]}")")")/crates/hc_app/out/hc_app}
+
+if [[ ! -x $program ]]; then
+    printf '%s: there is no program at %s\n' "$(basename -- "$0")" "$program" >&2
+    exit 2
+fi
+
+room=$(mktemp -d)
+trap 'rm -rf -- "$room"' EXIT
