@@ -1,5 +1,8 @@
 pub mod Bytes
+pub mod Codes
+pub mod Cow
 pub mod Faults
+pub mod Gives
 pub mod Lines
 pub mod Paths
 pub mod Tape

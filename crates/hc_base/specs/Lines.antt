@@ -3,9 +3,10 @@
 -- separated by white space. What a last piece without LF counts for is our own choice.
 use Rattle.std.specs.Prelude.{◌≡◌, ℕ, ◌==◌, List, [], ◌∷◌, ◌++◌, length, Bool, false, not, ◌||◌, filter, if◌then◌else◌}
 use Rattle.std.specs.List.{AllByRecursion, flat_map, list_any, slice_split}
+use Rattle.hc_base.specs.Bytes.{lf, space, tab}
 
 abbrev pub is_lf : ℕ → Bool
-is_lf b = b == 10
+is_lf b = b == lf
 
 -- A byte before the first line is put at that line's front, if there is a line.
 abbrev pub onto_line : ℕ → List (List ℕ) → List (List ℕ)
@@ -28,7 +29,7 @@ HasNoLf bytes = list_any is_lf bytes ≡ false
 
 -- A text is these lines, each with the LF that ends it, and then this rest.
 pub record IsCutInto (text : List ℕ) (lines : List (List ℕ)) (rest : List ℕ) : Type 0 where
-  pub whole : text ≡ flat_map (λ line. line ++ 10 ∷ []) lines ++ rest
+  pub whole : text ≡ flat_map (λ line. line ++ lf ∷ []) lines ++ rest
   pub each : AllByRecursion HasNoLf lines
   pub last : HasNoLf rest
 
@@ -47,7 +48,7 @@ physical_lines text = whole_lines text ++ if_any (rest_of text)
 
 -- Blanks are space and tab.
 abbrev pub is_blank : ℕ → Bool
-is_blank b = (b == 32) || (b == 9)
+is_blank b = (b == space) || (b == tab)
 
 -- The words of a line: the pieces between its blanks that aren't empty.
 abbrev pub words_of : List ℕ → List (List ℕ)

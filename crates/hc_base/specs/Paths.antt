@@ -1,16 +1,16 @@
--- Absolute paths, as bytes. 47 is the slash and 46 the dot.
+-- Absolute paths, as bytes.
 use Rattle.std.specs.Prelude.{ℕ, ◌==◌, List, [], ◌∷◌, Bool, false, not, ◌&&◌, ◌||◌, if◌then◌else◌}
 use Rattle.std.specs.List.{list_any, slice_split}
-use Rattle.hc_base.specs.Bytes.{begins_with, ends_with}
+use Rattle.hc_base.specs.Bytes.{begins_with, dot, ends_with, slash}
 
 abbrev pub is_slash : ℕ → Bool
-is_slash b = b == 47
+is_slash b = b == slash
 
 abbrev pub begins_with_slash : List ℕ → Bool
-begins_with_slash path = begins_with 47 path
+begins_with_slash path = begins_with slash path
 
 abbrev pub ends_with_slash : List ℕ → Bool
-ends_with_slash path = ends_with 47 path
+ends_with_slash path = ends_with slash path
 
 -- Two slashes stand beside each other.
 abbrev pub has_double_slash : List ℕ → Bool
@@ -21,8 +21,8 @@ has_double_slash (b ∷ c ∷ bs) = (is_slash b && is_slash c) || has_double_sla
 -- The segment `.` or `..`.
 abbrev pub is_dots : List ℕ → Bool
 is_dots [] = false
-is_dots (a ∷ []) = a == 46
-is_dots (a ∷ b ∷ []) = (a == 46) && (b == 46)
+is_dots (a ∷ []) = a == dot
+is_dots (a ∷ b ∷ []) = (a == dot) && (b == dot)
 is_dots (a ∷ b ∷ c ∷ rest) = false
 
 -- A path is clean where it begins with a slash and has no `//` and no `.` or `..` between slashes.

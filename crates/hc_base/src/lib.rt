@@ -3,7 +3,10 @@
 #![tactic(auto)]
 
 pub mod bytes;
+pub mod codes;
 mod console;
+mod cow;
+mod fault;
 pub mod laws;
 mod list;
 pub mod paths;
@@ -15,6 +18,8 @@ mod tape;
 mod text;
 
 pub use console::{StdSink, StdSource};
+pub use cow::CowStr;
+pub use fault::{AtByte, AtLine, Fault};
 pub use list::List;
 pub use place::{Place, Refusal, Span};
 pub use sink::Sink;
@@ -25,6 +30,3 @@ pub use text::Text;
 
 /// Memory was refused. It is std's error under the name that hc's answers have.
 pub use std::alloc::AllocError as NoMemory;
-
-#[cfg(test)]
-mod tests;
