@@ -1,1 +1,10 @@
-mod Cuts
+mod Ends
+mod Joins
+mod Passing
+mod Pieces
+mod Reading
+mod Runs
+mod Spans
+mod Trims
+mod WordsCount
+mod WordsScan

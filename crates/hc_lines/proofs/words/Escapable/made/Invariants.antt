@@ -1,0 +1,14 @@
+use denote.Shadow.{shadow}
+use denote.Text.{Utf8}
+use Rattle.std.proofs.Common.{◌≡◌, ◌++◌, length, string_bytes}
+use Rattle.hc_lines.specs.Words.{unescaped}
+use Rattle.hc_lines.specs.WordsView.{escapable_view}
+use Rattle.hc_lines.proofs.words.Escapable.made.Given as goal
+
+-- what was made, and what the rest says
+abbrev pub invariant-loop-front : goal.invariant-loop-front
+invariant-loop-front l = shadow (Utf8 l.rest)
+    × (string_bytes l.made ++ unescaped (escapable_view l.self) l.rest ≡ unescaped (escapable_view l.self) l.text)
+
+abbrev pub decreases-loop-front : goal.decreases-loop-front
+decreases-loop-front l = length l.rest

@@ -1,0 +1,15 @@
+use denote.Shadow.{shadow}
+use denote.Text.{Utf8}
+use Rattle.std.proofs.Common.{◌≡◌, length}
+use Rattle.hc_lines.specs.Words.{words_of}
+use Rattle.hc_lines.specs.WordsView.{spelling_view}
+use Rattle.hc_lines.proofs.WordsCount.{after}
+use Rattle.hc_lines.proofs.words.words.Given as goal
+
+-- the words so far, and those of the rest
+abbrev pub invariant-loop-words : goal.invariant-loop-words
+invariant-loop-words l = shadow (Utf8 l.rest)
+    × (words_of (spelling_view l.spelling) l.text ≡ after l.words.items (words_of (spelling_view l.spelling) l.rest))
+
+abbrev pub decreases-loop-words : goal.decreases-loop-words
+decreases-loop-words l = length l.rest

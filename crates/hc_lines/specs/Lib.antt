@@ -1,0 +1,4 @@
+pub mod Logical
+pub mod Run
+pub mod Words
+pub mod WordsView
