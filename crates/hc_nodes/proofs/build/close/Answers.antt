@@ -1,0 +1,10 @@
+use Rattle.std.proofs.Common.{ap, ◌∙◌, refl}
+use Rattle.hc_nodes.specs.NodeView.{nodes_view}
+use Rattle.hc_nodes.specs.Sections.{followed}
+use Rattle.hc_nodes.proofs.Building.{nodes_view-last, put_Block}
+use Rattle.hc_nodes.proofs.build.close.Goals as goal
+
+pub returns : goal.returns
+returns c =
+    let section = c.in-Some.section in
+    rw c.in-Some.ensures (refl, ap nodes_view c.in_ok-push.ensures.items ∙ nodes_view-last section.before.items _ ∙ ap (followed (nodes_view section.before.items)) (put_Block _ _ _ _))

@@ -1,0 +1,5 @@
+pub mod Closes
+pub mod NodeView
+pub mod Openings
+pub mod Sections
+pub mod Tree

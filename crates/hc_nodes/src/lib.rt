@@ -1,0 +1,12 @@
+//! The section trees of configuration lines.
+#![tactic(auto)]
+
+mod build;
+pub mod laws;
+mod node;
+mod refusal;
+mod section;
+mod stack;
+
+pub use build::read_nodes;
+pub use node::{Node, NodeFault};
