@@ -1,0 +1,37 @@
+-- The rows of a table of names, and how a name is looked up.
+use Rattle.std.specs.Prelude.{ℕ, List, [], ◌∷◌, if◌then◌else◌, Option, Some, None, map}
+use Rattle.std.specs.List.{flat_map}
+use Rattle.std.specs.Str.{str_eq_ignore_ascii_case}
+use Rattle.hc_base.specs.Lines.{words_of}
+use Rattle.hc_table.specs.Classes.{no_class}
+use Rattle.hc_table.specs.Contexts.{no_contexts}
+use Rattle.hc_table.specs.declared.table.Row.{Row}
+use Rattle.hc_table.specs.declared.table.RowKind.{RowKind}
+
+-- A name, and what it stands for.
+pub record NamedRow : Type 0 where
+  pub name : List ℕ
+  pub kind : RowKind
+
+-- What a row of the code stands for.
+abbrev pub row_of : Row → NamedRow
+row_of row = record { name = row.name.now; kind = row.kind }
+
+-- What the first row with this name, without case, stands for.
+abbrev pub find_in : List NamedRow → List ℕ → Option RowKind
+find_in [] name = None
+find_in (row ∷ rows) name = if str_eq_ignore_ascii_case row.name name then Some row.kind else find_in rows name
+
+-- A row for each word of a text, all of one meaning, contexts and class.
+abbrev pub rows_of : ℕ → ℕ → ℕ → List ℕ → List NamedRow
+rows_of meaning contexts class names =
+    let kind : RowKind = record { meaning = meaning; contexts = contexts; class = class } in
+    map (λ name. record { name = name; kind = kind }) (words_of names)
+
+-- The same of a flag or a variable, which have neither contexts nor a class.
+abbrev pub plain_rows_of : ℕ → List ℕ → List NamedRow
+plain_rows_of meaning names = rows_of meaning no_contexts no_class names
+
+-- The rows of some groups, in order.
+abbrev pub all_rows : List (List NamedRow) → List NamedRow
+all_rows groups = flat_map (λ rows. rows) groups

@@ -1,0 +1,14 @@
+//! The names that a configuration may have: directives and containers, the flags of a `RewriteRule`,
+//! and variables; and how a name is looked up.
+#![tactic(auto)]
+
+pub mod class;
+pub mod context;
+pub mod flag;
+pub mod meaning;
+mod rows;
+mod table;
+pub mod variable;
+
+pub use rows::{DIRECTIVES, RULE_FLAGS, VARIABLES, directives, rule_flags, variables};
+pub use table::{Row, RowKind, Table, find_in};

@@ -1,0 +1,231 @@
+ghost use Rattle.std.specs.Prelude.{◌≡◌, map};
+ghost use Rattle.hc_table.specs.Directives.{directive_rows};
+ghost use Rattle.hc_table.specs.Flags.{flag_rows};
+ghost use Rattle.hc_table.specs.Table.{row_of};
+ghost use Rattle.hc_table.specs.Variables.{variable_rows};
+
+use crate::table::{Row, RowKind, Table};
+use crate::{class, context, flag, meaning, variable};
+
+/// How many rows the table of directives and containers has.
+pub const DIRECTIVES: usize = 145;
+
+/// How many rows the table of a `RewriteRule`'s flags has.
+pub const RULE_FLAGS: usize = 46;
+
+/// How many rows the table of variables has.
+pub const VARIABLES: usize = 21;
+
+// Rows: a meaning of a module, contexts and a class, and each name that has them.
+macro_rules! rows {
+    ($module:ident: $($meaning:ident, $contexts:ident, $class:ident => $($name:literal)+;)*) => {
+        [$($(Row {
+            name: $name,
+            kind: RowKind {
+                meaning: $module::$meaning,
+                contexts: context::$contexts,
+                class: class::$class,
+            },
+        },)+)*]
+    };
+}
+
+// Rows with neither contexts nor a class.
+macro_rules! plain_rows {
+    ($module:ident: $($meaning:ident => $($name:literal)+;)*) => {
+        rows! { $module: $($meaning, NONE, NONE => $($name)+;)* }
+    };
+}
+
+macro_rules! directive_rows {
+    () => {
+        rows! {
+            meaning:
+            SERVER_ROOT, MAIN_SERVER, NONE => "ServerRoot";
+            DOCUMENT_ROOT, SERVERS, NONE => "DocumentRoot";
+            SERVER_NAME, SERVERS, NONE => "ServerName";
+            SERVER_ALIAS, VIRTUAL_HOST, NONE => "ServerAlias";
+            DEFINE, ALL_BUT_HTACCESS, NONE => "Define";
+            INCLUDE, ALL_BUT_HTACCESS, NONE => "Include";
+            INCLUDE_OPTIONAL, ALL_BUT_HTACCESS, NONE => "IncludeOptional";
+            ALIAS, SERVERS, NONE => "Alias";
+            SCRIPT_ALIAS, SERVERS, NONE => "ScriptAlias";
+            ALIAS_MATCH, SERVERS, NONE => "AliasMatch";
+            REDIRECT, SERVERS_AND_DIRECTORIES, FILE_INFO => "Redirect";
+            REDIRECT_MATCH, SERVERS_AND_DIRECTORIES, FILE_INFO => "RedirectMatch";
+            REDIRECT_PERMANENT, SERVERS_AND_DIRECTORIES, FILE_INFO => "RedirectPermanent";
+            REDIRECT_TEMP, SERVERS_AND_DIRECTORIES, FILE_INFO => "RedirectTemp";
+            OPTIONS, EVERYWHERE, OPTIONS => "Options";
+            ALLOW_OVERRIDE, DIRECTORY, NONE => "AllowOverride";
+            REQUIRE, ALL_BUT_SERVERS, AUTH_CONFIG => "Require";
+            AUTH_MERGING, ALL_BUT_SERVERS, AUTH_CONFIG => "AuthMerging";
+            REWRITE_ENGINE, SERVERS_AND_DIRECTORIES, FILE_INFO => "RewriteEngine";
+            REWRITE_BASE, DIRECTORIES, FILE_INFO => "RewriteBase";
+            REWRITE_COND, SERVERS_AND_DIRECTORIES, FILE_INFO => "RewriteCond";
+            REWRITE_RULE, SERVERS_AND_DIRECTORIES, FILE_INFO => "RewriteRule";
+            REWRITE_OPTIONS, SERVERS_AND_DIRECTORIES, FILE_INFO => "RewriteOptions";
+            LIMIT_INTERNAL_RECURSION, SERVERS, NONE => "LimitInternalRecursion";
+            REWRITE_MAP, SERVERS, NONE => "RewriteMap";
+            USE_CANONICAL_NAME, ALL_BUT_HTACCESS, NONE => "UseCanonicalName";
+            USER_DIR, SERVERS, NONE => "UserDir";
+            ACCESS_FILE_NAME, SERVERS, NONE => "AccessFileName";
+            LOAD_MODULE, SERVERS, NONE => "LoadModule";
+
+            VIRTUAL_HOST, MAIN_SERVER, NONE => "VirtualHost";
+            DIRECTORY, SERVERS, NONE => "Directory";
+            DIRECTORY_MATCH, SERVERS, NONE => "DirectoryMatch";
+            LOCATION, SERVERS, NONE => "Location";
+            LOCATION_MATCH, SERVERS, NONE => "LocationMatch";
+            FILES, AROUND_FILES, NONE => "Files";
+            FILES_MATCH, AROUND_FILES, NONE => "FilesMatch";
+            IF, ALL_BUT_IF, NONE => "If";
+            ELSE_IF, ALL_BUT_IF, NONE => "ElseIf";
+            ELSE, ALL_BUT_IF, NONE => "Else";
+            REQUIRE_ALL, ALL_BUT_SERVERS, AUTH_CONFIG => "RequireAll";
+            REQUIRE_ANY, ALL_BUT_SERVERS, AUTH_CONFIG => "RequireAny";
+            REQUIRE_NONE, ALL_BUT_SERVERS, AUTH_CONFIG => "RequireNone";
+            IF_DEFINE, EVERYWHERE, NONE => "IfDefine";
+            IF_MODULE, EVERYWHERE, NONE => "IfModule";
+
+            INERT, SERVERS, NONE =>
+                "Listen" "User" "Group" "ServerAdmin" "ServerTokens" "DefaultRuntimeDir"
+                "RequestReadTimeout";
+            INERT, SERVERS, NONE =>
+                "Timeout" "KeepAlive" "MaxKeepAliveRequests" "KeepAliveTimeout" "PidFile"
+                "Mutex";
+            INERT, SERVERS, NONE =>
+                "ErrorLog" "CustomLog" "LogFormat" "TypesConfig" "MIMEMagicFile" "TraceEnable";
+            INERT, SERVERS, NONE =>
+                "StartServers" "MinSpareServers" "MaxSpareServers" "MinSpareThreads"
+                "MaxSpareThreads";
+            INERT, SERVERS, NONE =>
+                "ThreadsPerChild" "ThreadLimit" "ServerLimit" "MaxRequestWorkers"
+                "MaxConnectionsPerChild";
+            INERT, SERVERS, NONE =>
+                "ExtendedStatus" "Protocols" "SSLEngine" "SSLCertificateFile"
+                "SSLCertificateKeyFile";
+            INERT, SERVERS, NONE =>
+                "SSLCertificateChainFile" "SSLCACertificateFile" "SSLProtocol"
+                "SSLHonorCipherOrder";
+            INERT, SERVERS, NONE =>
+                "SSLSessionCache" "SSLSessionCacheTimeout" "SSLSessionTickets"
+                "SSLPassPhraseDialog";
+            INERT, SERVERS, NONE =>
+                "SSLRandomSeed" "SSLCryptoDevice" "SSLUseStapling" "SSLStaplingCache";
+            INERT, EVERYWHERE, FILE_INFO =>
+                "AddType" "AddHandler" "AddCharset" "AddLanguage" "AddEncoding"
+                "AddDefaultCharset";
+            INERT, EVERYWHERE, FILE_INFO =>
+                "AddOutputFilter" "AddOutputFilterByType" "SetHandler" "SetOutputFilter"
+                "SetInputFilter";
+            INERT, EVERYWHERE, FILE_INFO =>
+                "ForceType" "RemoveHandler" "RemoveType" "ErrorDocument" "Header"
+                "RequestHeader";
+            INERT, EVERYWHERE, FILE_INFO =>
+                "SetEnv" "UnsetEnv" "PassEnv" "SetEnvIf" "SetEnvIfNoCase" "BrowserMatch"
+                "BrowserMatchNoCase";
+            INERT, EVERYWHERE, FILE_INFO =>
+                "FileETag" "DefaultLanguage" "LanguagePriority" "ForceLanguagePriority";
+            INERT, EVERYWHERE, FILE_INFO => "EnableSendfile" "EnableMMAP" "AcceptPathInfo";
+            INERT, EVERYWHERE, INDEXES =>
+                "DirectoryIndex" "DirectorySlash" "IndexOptions" "IndexIgnore" "AddIcon"
+                "AddIconByType";
+            INERT, EVERYWHERE, INDEXES =>
+                "AddIconByEncoding" "DefaultIcon" "AddAlt" "AddDescription" "HeaderName"
+                "ReadmeName";
+            INERT, EVERYWHERE, INDEXES =>
+                "IndexOrderDefault" "IndexStyleSheet" "ExpiresActive" "ExpiresByType"
+                "ExpiresDefault";
+            INERT, EVERYWHERE, OPTIONS => "SSLOptions" "php_value" "php_flag";
+            INERT, EVERYWHERE, AUTH_CONFIG => "SSLCipherSuite";
+            INERT, EVERYWHERE, NONE => "ServerSignature";
+            INERT, ALL_BUT_HTACCESS, NONE => "HostnameLookups" "LogLevel";
+        }
+    };
+}
+
+macro_rules! flag_rows {
+    () => {
+        plain_rows! {
+            flag:
+            LAST => "L" "last";
+            END => "END";
+            NEXT => "N" "next";
+            CHAIN => "C" "chain";
+            SKIP => "S" "skip";
+            FORBIDDEN => "F" "forbidden";
+            GONE => "G" "gone";
+            REDIRECT => "R" "redirect";
+            APPEND_QUERY => "QSA" "qsappend";
+            DISCARD_QUERY => "QSD" "qsdiscard";
+            NO_CASE => "NC" "nocase";
+            NO_ESCAPE => "NE" "noescape";
+            PASS_THROUGH => "PT" "passthrough";
+            DISCARD_PATH => "DPI" "discardpath";
+            ENVIRONMENT => "E" "env";
+            TYPE => "T" "type";
+            HANDLER => "H" "handler";
+            COOKIE => "CO" "cookie";
+            NO_SUBREQUEST => "NS" "nosubreq";
+            UNSUPPORTED_FLAG =>
+                "P" "proxy" "B" "BNP" "BCTLS" "BNE" "QSL"
+                "UnsafeAllow3F" "UnsafePrefixStat";
+        }
+    };
+}
+
+macro_rules! variable_rows {
+    () => {
+        plain_rows! {
+            variable:
+            HTTP_HOST => "HTTP_HOST";
+            HTTP_USER_AGENT => "HTTP_USER_AGENT";
+            HTTP_REFERER => "HTTP_REFERER";
+            HTTP_COOKIE => "HTTP_COOKIE";
+            HTTP_ACCEPT => "HTTP_ACCEPT";
+            HEADER => "HTTP:";
+            ENVIRONMENT => "ENV:";
+            REQUEST_METHOD => "REQUEST_METHOD";
+            REQUEST_SCHEME => "REQUEST_SCHEME";
+            REQUEST_URI => "REQUEST_URI";
+            REQUEST_FILENAME => "REQUEST_FILENAME";
+            SCRIPT_FILENAME => "SCRIPT_FILENAME";
+            PATH_INFO => "PATH_INFO";
+            QUERY_STRING => "QUERY_STRING";
+            REMOTE_ADDR => "REMOTE_ADDR";
+            SERVER_ADDR => "SERVER_ADDR";
+            SERVER_PORT => "SERVER_PORT";
+            SERVER_NAME => "SERVER_NAME";
+            DOCUMENT_ROOT => "DOCUMENT_ROOT";
+            HTTPS => "HTTPS";
+            THE_REQUEST => "THE_REQUEST";
+        }
+    };
+}
+
+/// The directives and the containers.
+#[tactic(auto, unfolding(crate::specs::Directives::directive_rows))]
+pub fn directives() -> Table<DIRECTIVES>
+    ensures { map row_of result.rows ≡ directive_rows }
+{
+    static ROWS: &[Row; DIRECTIVES] = &directive_rows!();
+    Table { rows: *ROWS }
+}
+
+/// The flags of a `RewriteRule`.
+#[tactic(auto, unfolding(crate::specs::Flags::flag_rows))]
+pub fn rule_flags() -> Table<RULE_FLAGS>
+    ensures { map row_of result.rows ≡ flag_rows }
+{
+    static ROWS: &[Row; RULE_FLAGS] = &flag_rows!();
+    Table { rows: *ROWS }
+}
+
+/// The variables.
+#[tactic(auto, unfolding(crate::specs::Variables::variable_rows))]
+pub fn variables() -> Table<VARIABLES>
+    ensures { map row_of result.rows ≡ variable_rows }
+{
+    static ROWS: &[Row; VARIABLES] = &variable_rows!();
+    Table { rows: *ROWS }
+}
