@@ -1,4 +1,3 @@
-pub mod Configuration
 pub mod Mapping
 pub mod Node
 pub mod World

@@ -16,12 +16,16 @@ use Rattle.hc_model.specs.declared.outcome.Outcome.TheVariants as outcome
 -- A path that ends in a slash matches what begins with it; another matches itself, and what begins
 -- with it and a slash.
 abbrev pub matches_prefix : List ℕ → List ℕ → Bool
-matches_prefix from path = starts_with nat_eq path from && (ends_with_slash from || (length path == length from) || begins_with_slash (drop (length from) path))
+matches_prefix from path =
+    starts_with nat_eq path from
+    && (ends_with_slash from || (length path == length from) || begins_with_slash (drop (length from) path))
 
 -- The first alias that matches counts; what follows its path is appended to its target.
 abbrev pub aliased : List Alias → List ℕ → Option (List ℕ)
 aliased [] path = None
-aliased (alias ∷ aliases) path = if matches_prefix alias.from path then Some (alias.to ++ drop (length alias.from) path) else aliased aliases path
+aliased (alias ∷ aliases) path =
+    if matches_prefix alias.from path then Some (alias.to ++ drop (length alias.from) path)
+    else aliased aliases path
 
 abbrev pub or_root : Option (List ℕ) → Option (List ℕ) → List ℕ → Option (List ℕ)
 or_root (Some name) root path = Some name

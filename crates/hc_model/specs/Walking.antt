@@ -12,7 +12,9 @@ use Rattle.hc_model.specs.declared.walk.Walk.{Walk}
 -- on. `seen` stands before all. Behind a final slash there is no further component.
 abbrev pub steps : List ℕ → List ℕ → List (List ℕ × List ℕ)
 steps seen [] = if ends_with_slash seen then [] else (seen, []) ∷ []
-steps seen (b ∷ bs) = if is_slash b then (seen, b ∷ bs) ∷ steps (seen ++ b ∷ []) bs else steps (seen ++ b ∷ []) bs
+steps seen (b ∷ bs) =
+    if is_slash b then (seen, b ∷ bs) ∷ steps (seen ++ b ∷ []) bs
+    else steps (seen ++ b ∷ []) bs
 
 abbrev pub steps_of : List ℕ → List (List ℕ × List ℕ)
 steps_of name = steps (take 1 name) (drop 1 name)
@@ -24,8 +26,11 @@ is_step_dir world step = is_dir (get world step.0)
 -- none, the whole name, which is a directory.
 abbrev pub end_of : World → List ℕ → Option (List ℕ × List ℕ) → List (List ℕ) → Walk
 end_of world name None dirs = record { name = name; info = []; kind = Dir; dirs = dirs }
-end_of world name (Some step) dirs = record { name = step.0; info = step.1; kind = kind_of (get world step.0); dirs = dirs }
+end_of world name (Some step) dirs =
+    record { name = step.0; info = step.1; kind = kind_of (get world step.0); dirs = dirs }
 
 -- Components are followed while they are directories.
 abbrev pub walk : World → List ℕ → Walk
-walk world name = end_of world name (find (λ step. not (is_step_dir world step)) (steps_of name)) (root ∷ map (λ step. step.0) (take_while (is_step_dir world) (steps_of name)))
+walk world name =
+    end_of world name (find (λ step. not (is_step_dir world step)) (steps_of name))
+    (root ∷ map (λ step. step.0) (take_while (is_step_dir world) (steps_of name)))

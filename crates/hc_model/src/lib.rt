@@ -3,8 +3,6 @@
 
 mod config;
 mod outcome;
-#[cfg(test)]
-mod tests;
 mod walk;
 
 pub use config::{Alias, Config, Server};

@@ -18,8 +18,9 @@ use Rattle.hc_model.specs.declared.walk.Kind.TheVariants.{Absent, Dir, File}
 use Rattle.hc_model.specs.World.{World, IsWorld, root, parents, with_dirs, new_world, is_path, is_under_file, put}
 use Rattle.hc_world.specs.Edits.{Edits}
 use Rattle.hc_world.specs.Entries.{add_in}
-use Rattle.hc_world.specs.declared.world.WorldFault.{WorldFault}
-use Rattle.hc_world.specs.declared.world.WorldFault.TheVariants.{NoMemory, Refused}
+use Rattle.hc_base.specs.declared.codes.TheConstants.{IS_DIRECTORY, PATH_FORM, UNDER_FILE}
+use Rattle.hc_base.specs.declared.fault.Fault.{Fault}
+use Rattle.hc_base.specs.declared.fault.Fault.TheVariants.{NoMemory, Refused}
 use Rattle.hc_world.specs.Slashes.{IsNextSlash, fronts_from}
 use Rattle.hc_world.proofs.Lookups.{same_path, same_path-true, same_world, get_inserted}
 use Rattle.hc_world.proofs.Slashes.{fronts_from-some}
@@ -93,13 +94,13 @@ list_any-same : {A : Type 0} (f g : A → Bool) → ((x : A) → f x ≡ g x) �
 list_any-same f g h [] = refl
 list_any-same f g h (x ∷ xs) = ap (λ b. b || list_any f xs) (h x) ∙ ap (λ b. g x || b) (list_any-same f g h xs)
 
-pub add_in-file : (w : World) (p : List ℕ) (ps : List (List ℕ)) (path : List ℕ) (node : Node) → is_file (get w p) ≡ true → add_in w (p ∷ ps) path node ≡ Err 42
-add_in-file w p ps path node h = ap (λ b. cond (b || list_any (λ a. is_file (get w a)) ps) (Err 42) (Ok (insert (with_dirs w (p ∷ ps)) path node))) h
+pub add_in-file : (w : World) (p : List ℕ) (ps : List (List ℕ)) (path : List ℕ) (node : Node) → is_file (get w p) ≡ true → add_in w (p ∷ ps) path node ≡ Err UNDER_FILE
+add_in-file w p ps path node h = ap (λ b. cond (b || list_any (λ a. is_file (get w a)) ps) (Err UNDER_FILE) (Ok (insert (with_dirs w (p ∷ ps)) path node))) h
 
 add_in-made : (w : World) (p : List ℕ) (ps : List (List ℕ)) (path : List ℕ) (node : Node) → is_file (get w p) ≡ false → add_in w (p ∷ ps) path node ≡ add_in (insert w p dir) ps path node
 add_in-made w p ps path node h =
-    ap (λ b. cond (b || list_any (λ a. is_file (get w a)) ps) (Err 42) (Ok (insert (with_dirs w (p ∷ ps)) path node))) h
-    ∙ ap (λ b. cond b (Err 42) (Ok (insert (with_dirs w (p ∷ ps)) path node))) (sym (list_any-same (λ a. is_file (get (insert w p dir) a)) (λ a. is_file (get w a)) (λ q. is_file-insert w p q h) ps))
+    ap (λ b. cond (b || list_any (λ a. is_file (get w a)) ps) (Err UNDER_FILE) (Ok (insert (with_dirs w (p ∷ ps)) path node))) h
+    ∙ ap (λ b. cond b (Err UNDER_FILE) (Ok (insert (with_dirs w (p ∷ ps)) path node))) (sym (list_any-same (λ a. is_file (get (insert w p dir) a)) (λ a. is_file (get w a)) (λ q. is_file-insert w p q h) ps))
 
 pub add_in-dir : (w : World) (p : List ℕ) (ps : List (List ℕ)) (path : List ℕ) (node : Node) → get w p ≡ Some dir → add_in w (p ∷ ps) path node ≡ add_in w ps path node
 add_in-dir w p ps path node h = add_in-made w p ps path node (ap is_file h) ∙ ap (λ v. add_in v ps path node) (insert_same w p dir h)
@@ -111,13 +112,13 @@ add_in-absent w made path from slash node is none e =
     ∙ add_in-made w (take slash path) (fronts_from path (slash + 1)) path node (ap is_file none) ∙ ap (λ v. add_in v (fronts_from path (slash + 1)) path node) (sym e)
 
 -- A failed edit of a world that was changed first, where the change is undone.
-pub Edits_undone : (result : Result ⊤ WorldFault) (old changed left new : World) (edit : Result World ℕ) → is_err result ≡ true → (left ≡ changed → new ≡ old) → Edits result changed left edit → Edits result old new edit
+pub Edits_undone : (result : Result ⊤ (Fault ℕ)) (old changed left new : World) (edit : Result World ℕ) → is_err result ≡ true → (left ≡ changed → new ≡ old) → Edits result changed left edit → Edits result old new edit
 Edits_undone (Ok _) old changed left new edit h undo e = absurd (false≢true h)
 Edits_undone (Err (Refused code)) old changed left new edit h undo e = (e.0, undo e.1)
 Edits_undone (Err NoMemory) old changed left new edit h undo e = undo e
 
 -- An edit that is made does not speak of the world before it.
-pub Edits_made : (result : Result ⊤ WorldFault) (old changed new : World) (edit : Result World ℕ) → is_err result ≡ false → Edits result changed new edit → Edits result old new edit
+pub Edits_made : (result : Result ⊤ (Fault ℕ)) (old changed new : World) (edit : Result World ℕ) → is_err result ≡ false → Edits result changed new edit → Edits result old new edit
 Edits_made (Ok _) old changed new edit h e = e
 Edits_made (Err fault) old changed new edit h e = absurd (true≢false h)
 
@@ -133,15 +134,15 @@ is_some_dir : (o : Option Node) → is_dir o ≡ true → IsSome o
 is_some_dir None h = absurd (false≢true h)
 is_some_dir (Some node) h = search rules
 
-put_formed : (w : World) (path bytes : List ℕ) → is_path path ≡ true → put w path bytes ≡ cond (is_under_file w path) (Err 42) (cond (is_dir (get w path)) (Err 47) (Ok (insert (with_dirs w (parents path)) path (text bytes))))
-put_formed w path bytes h = ap (λ b. cond (not b) (Err 41) (cond (is_under_file w path) (Err 42) (cond (is_dir (get w path)) (Err 47) (Ok (insert (with_dirs w (parents path)) path (text bytes)))))) h
+put_formed : (w : World) (path bytes : List ℕ) → is_path path ≡ true → put w path bytes ≡ cond (is_under_file w path) (Err UNDER_FILE) (cond (is_dir (get w path)) (Err IS_DIRECTORY) (Ok (insert (with_dirs w (parents path)) path (text bytes))))
+put_formed w path bytes h = ap (λ b. cond (not b) (Err PATH_FORM) (cond (is_under_file w path) (Err UNDER_FILE) (cond (is_dir (get w path)) (Err IS_DIRECTORY) (Ok (insert (with_dirs w (parents path)) path (text bytes)))))) h
 
 -- What is there has no file above it.
-pub put-is_dir : (w : World) (path bytes : List ℕ) → IsWorld w → is_path path ≡ true → is_dir (get w path) ≡ true → put w path bytes ≡ Err 47
+pub put-is_dir : (w : World) (path bytes : List ℕ) → IsWorld w → is_path path ≡ true → is_dir (get w path) ≡ true → put w path bytes ≡ Err IS_DIRECTORY
 put-is_dir w path bytes is formed h =
     put_formed w path bytes formed
-    ∙ ap (λ b. cond b (Err 42) (cond (is_dir (get w path)) (Err 47) (Ok (insert (with_dirs w (parents path)) path (text bytes))))) (no_file_above w (parents path) (λ a c. is.parents_are_dirs path a (is_some_dir _ h) c))
-    ∙ ap (λ b. cond b (Err 47) (Ok (insert (with_dirs w (parents path)) path (text bytes)))) h
+    ∙ ap (λ b. cond b (Err UNDER_FILE) (cond (is_dir (get w path)) (Err IS_DIRECTORY) (Ok (insert (with_dirs w (parents path)) path (text bytes))))) (no_file_above w (parents path) (λ a c. is.parents_are_dirs path a (is_some_dir _ h) c))
+    ∙ ap (λ b. cond b (Err IS_DIRECTORY) (Ok (insert (with_dirs w (parents path)) path (text bytes)))) h
 
 -- The path is no root, since the root is a directory.
 long : (w : World) (path : List ℕ) → IsWorld w → is_path path ≡ true → is_dir (get w path) ≡ false → 1 < length path
@@ -152,13 +153,13 @@ long w (x ∷ []) is formed h =
 long w (x ∷ y ∷ rest) is formed h = omega arith
 
 put-parents : (w : World) (path bytes : List ℕ) → is_path path ≡ true → is_dir (get w path) ≡ false → put w path bytes ≡ add_in w (parents path) path (text bytes)
-put-parents w path bytes formed h = put_formed w path bytes formed ∙ ap (λ b. cond (is_under_file w path) (Err 42) (cond b (Err 47) (Ok (insert (with_dirs w (parents path)) path (text bytes))))) h
+put-parents w path bytes formed h = put_formed w path bytes formed ∙ ap (λ b. cond (is_under_file w path) (Err UNDER_FILE) (cond b (Err IS_DIRECTORY) (Ok (insert (with_dirs w (parents path)) path (text bytes))))) h
 
 put-add_in : (w : World) (path bytes : List ℕ) → IsWorld w → is_path path ≡ true → is_dir (get w path) ≡ false → put w path bytes ≡ add_in w (fronts_from path 1) path (text bytes)
 put-add_in w path bytes is formed h =
     put-parents w path bytes formed h ∙ ap (λ ps. add_in w ps path (text bytes)) (parents-long path (long w path is formed h)) ∙ add_in-dir w root (fronts_from path 1) path (text bytes) is.root_is_dir
 
-accepted : (b : Bool) (v new : World) → cond {A = Result World ℕ} b (Err 42) (Ok v) ≡ Ok new → v ≡ new
+accepted : (b : Bool) (v new : World) → cond {A = Result World ℕ} b (Err UNDER_FILE) (Ok v) ≡ Ok new → v ≡ new
 accepted true v new e = cc
 accepted false v new e = cc
 
@@ -218,13 +219,13 @@ IsEdit-made w path bytes is h = record {
       ∙ cond-false _ (Some dir) (get w q) (false_from_ne_true _ (λ e. no (Contains-from_any (tells_apart exact_bytes) q (parents path) e)));
 }
 
-pub IsEdit-from_Edits : (result : Result ⊤ WorldFault) (w new : World) (path bytes : List ℕ) → IsWorld w → is_path path ≡ true → is_dir (get w path) ≡ false → Edits result w new (put w path bytes) → IsEdit path w new
+pub IsEdit-from_Edits : (result : Result ⊤ (Fault ℕ)) (w new : World) (path bytes : List ℕ) → IsWorld w → is_path path ≡ true → is_dir (get w path) ≡ false → Edits result w new (put w path bytes) → IsEdit path w new
 IsEdit-from_Edits (Ok _) w new path bytes is formed h e =
     subst (IsEdit path w) (ok_from_add_in w new (parents path) path (text bytes) (sym (put-parents w path bytes formed h) ∙ e)) (IsEdit-made w path bytes is h)
 IsEdit-from_Edits (Err (Refused code)) w new path bytes is formed h e = IsEdit_same path w new is e.1
 IsEdit-from_Edits (Err NoMemory) w new path bytes is formed h e = IsEdit_same path w new is e
 
-pub Edits-from_add : (result : Result ⊤ WorldFault) (w new : World) (path bytes : List ℕ) → IsWorld w → is_path path ≡ true → is_dir (get w path) ≡ false → Edits result w new (add_in w (fronts_from path 1) path (text bytes)) → Edits result w new (put w path bytes)
+pub Edits-from_add : (result : Result ⊤ (Fault ℕ)) (w new : World) (path bytes : List ℕ) → IsWorld w → is_path path ≡ true → is_dir (get w path) ≡ false → Edits result w new (add_in w (fronts_from path 1) path (text bytes)) → Edits result w new (put w path bytes)
 Edits-from_add result w new path bytes is formed h e = subst (Edits result w new) (sym (put-add_in w path bytes is formed h)) e
 
 -- ---- the world of the root alone

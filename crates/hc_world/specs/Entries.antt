@@ -3,6 +3,7 @@ use Rattle.std.specs.Prelude.{ℕ, List, map, if◌then◌else◌, Vec, string_b
 use Rattle.std.specs.declared.alloc.Global.{Global}
 use Rattle.std.specs.FinMap.{from_entries, get, insert}
 use Rattle.std.specs.List.{list_any}
+use Rattle.hc_base.specs.declared.codes.TheConstants.{UNDER_FILE}
 use Rattle.hc_model.specs.Node.{Node, dir, text, is_file}
 use Rattle.hc_model.specs.World.{World, with_dirs}
 use Rattle.hc_world.specs.declared.entries.Entry.{Entry}
@@ -21,4 +22,6 @@ world_of entries = from_entries (map entry_of entries)
 
 -- The world with a node at a path and directories above it, or the refusal where one of these is a file.
 abbrev pub add_in : World → List (List ℕ) → List ℕ → Node → Result World ℕ
-add_in world above path node = if list_any (λ a. is_file (get world a)) above then Err 42 else Ok (insert (with_dirs world above) path node)
+add_in world above path node =
+    if list_any (λ a. is_file (get world a)) above then Err UNDER_FILE
+    else Ok (insert (with_dirs world above) path node)

@@ -1,18 +1,19 @@
 -- A path that is read from slash to slash.
 use Rattle.std.specs.Prelude.{◌≡◌, ◌≢◌, ℕ, ◌<◌, ◌≤◌, List, length, take, drop, slice_index}
+use Rattle.hc_base.specs.Bytes.{slash}
 use Rattle.hc_model.specs.World.{fronts}
 use Rattle.hc_model.specs.Walking.{steps}
 
 -- No slash stands from one place up to another.
 abbrev pub HasNoSlash : List ℕ → ℕ → ℕ → Type 0
-HasNoSlash path from end = (k : ℕ) → from ≤ k → k < end → slice_index path k ≢ 47
+HasNoSlash path from end = (k : ℕ) → from ≤ k → k < end → slice_index path k ≢ slash
 
 -- The first slash at or after a place.
-pub record IsNextSlash (path : List ℕ) (from slash : ℕ) : Type 0 where
-  pub from_on : from ≤ slash
-  pub within : slash < length path
-  pub is_slash : slice_index path slash ≡ 47
-  pub first : HasNoSlash path from slash
+pub record IsNextSlash (path : List ℕ) (from at : ℕ) : Type 0 where
+  pub from_on : from ≤ at
+  pub within : at < length path
+  pub is_slash : slice_index path at ≡ slash
+  pub first : HasNoSlash path from at
 
 -- The fronts and the components that end at or after a place.
 abbrev pub fronts_from : List ℕ → ℕ → List (List ℕ)

@@ -7,12 +7,11 @@ ghost use Rattle.hc_world.specs.Slashes.{fronts_from};
 
 use crate::path::next_slash;
 use crate::world::WorldFault;
+use hc_base::Fault;
+use hc_base::codes::UNDER_FILE;
 use hc_model::Kind;
 use std::alloc::Global;
 use std::collections::BTreeMap;
-
-/// A file stands above the path.
-const UNDER_FILE: u8 = 42;
 
 /// What the world has at a path.
 #[derive(Debug, Drop)]
@@ -49,7 +48,7 @@ pub(crate) fn add(
     };
     let above = &path[..slash];
     match kind_at(entries, above) {
-        Kind::File => Err(WorldFault::Refused(UNDER_FILE)),
+        Kind::File => Err(Fault::Refused(UNDER_FILE)),
         Kind::Dir => add(alloc, entries, path, slash + 1, entry),
         Kind::Absent => {
             entries.insert(above.to_vec(alloc)?, Entry::Dir)?;

@@ -7,6 +7,3 @@ mod walk;
 mod world;
 
 pub use world::{World, WorldFault};
-
-#[cfg(test)]
-mod tests;

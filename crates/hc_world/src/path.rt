@@ -1,7 +1,8 @@
 ghost use Rattle.std.specs.Prelude.{◌≡◌, length, IfSome, IfNone};
 ghost use Rattle.std.specs.List.{list_all, list_any, slice_split};
 ghost use Rattle.hc_base.specs.Paths.{is_slash};
-ghost use Rattle.hc_model.specs.World.{is_component, is_control, is_path};
+ghost use Rattle.hc_base.specs.Bytes.{is_control};
+ghost use Rattle.hc_model.specs.World.{is_component, is_path};
 ghost use Rattle.hc_world.specs.Slashes.{HasNoSlash, IsNextSlash};
 
 use hc_base::paths::is_dots;

@@ -9,45 +9,15 @@ ghost use Rattle.hc_world.specs.Edits.{Edits};
 use crate::entries::{Entry, add, kind_at};
 use crate::path::is_path;
 use crate::walk::walk;
-use hc_base::NoMemory;
+use hc_base::codes::{IS_DIRECTORY, PATH_FORM};
+use hc_base::{Fault, NoMemory};
 use hc_model::{Kind, Walk};
-use std::alloc::{AllocFailed, Global};
+use std::alloc::Global;
 use std::collections::BTreeMap;
 use std::marker::Model;
 
-// The rules that an edit may break (docs/RULES.md).
-const PATH_FORM: u8 = 41;
-
-const IS_DIRECTORY: u8 = 47;
-
-/// Why an edit was not made. The number is that of the broken rule (docs/RULES.md).
-#[derive(Clone, Copy, Debug, PartialEq, Eq)]
-pub enum WorldFault {
-    NoMemory,
-    Refused(u8),
-}
-
-impl From<NoMemory> for WorldFault {
-    ghost use Rattle.std.specs.Prelude.{◌≡◌};
-    ghost use Rattle.hc_world.specs.declared.world.WorldFault.TheVariants.{NoMemory};
-
-    ghost from_gives = { λ _ e. e ≡ NoMemory };
-
-    fn from(_refused: NoMemory) -> WorldFault {
-        WorldFault::NoMemory
-    }
-}
-
-impl<T: Drop> From<AllocFailed<T>> for WorldFault {
-    ghost use Rattle.std.specs.Prelude.{◌≡◌};
-    ghost use Rattle.hc_world.specs.declared.world.WorldFault.TheVariants.{NoMemory};
-
-    ghost from_gives = { λ _ e. e ≡ NoMemory };
-
-    fn from(_refused: AllocFailed<T>) -> WorldFault {
-        WorldFault::NoMemory
-    }
-}
+/// Why an edit was not made: its number is that of the broken rule.
+pub type WorldFault = Fault<u8>;
 
 /// Files and directories by their absolute paths. The root is always there, and what is above a
 /// path is a directory.
@@ -110,11 +80,11 @@ impl World {
     {
         let alloc = self.alloc;
         if !is_path(path) {
-            return Err(WorldFault::Refused(PATH_FORM));
+            return Err(Fault::Refused(PATH_FORM));
         }
         // What stands at a path has no file above it, so this is no case of a parent that is a file.
         if kind_at(&self.entries, path) == Kind::Dir {
-            return Err(WorldFault::Refused(IS_DIRECTORY));
+            return Err(Fault::Refused(IS_DIRECTORY));
         }
         let text = String::from_str(alloc, text)?;
         add(alloc, &mut self.entries, path, 1, Entry::Text(text))
