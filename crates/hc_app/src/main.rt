@@ -2,27 +2,20 @@
 //! standard input and answers each by a line of JSON on standard output.
 #![tactic(auto)]
 
-mod command;
-mod config;
-mod limits;
-mod line_buffer;
-mod mapping;
-mod path;
-mod reply;
-mod run;
-mod serve;
-mod session;
-mod status;
-#[cfg(test)]
-mod tests;
+ghost use Rattle.std.specs.Prelude.{◌≡◌, ◌-◌, ◌<◌, ◌^◌};
 
-use hc_base::{StdSink, StdSource};
+mod run;
+
+use hc_base::{Sink, Source, StdSink, StdSource, Steps};
+use hc_session::Status;
 pub use run::run;
-pub use status::Status;
+use std::alloc::Global;
 use std::env;
 use std::io::ErrorKind;
+use std::marker::Brand;
 use std::process::ExitCode;
 use std::rt::Env;
+use std::sync::ledger::{Blank, Ledger};
 
 // The words of the command line without the program's name, or how the program ends without them.
 fn command_line(rt: &(impl Env + AllocGlobal)) -> Result<Vec<String>, Status> {
@@ -40,11 +33,35 @@ fn command_line(rt: &(impl Env + AllocGlobal)) -> Result<Vec<String>, Status> {
     Ok(words)
 }
 
+// A run with a counter of bytes that begins at 0.
+fn run_counted<S: Source, K: Sink, B: Ledger>(
+    alloc: Global,
+    words: &[String],
+    source: &mut S,
+    sink: &mut K,
+    blank: Blank,
+) -> Status
+    requires source_counts { S.faults source.old < 2 ^ 64 - 1 }
+    requires sink_counts { K.faults sink.old < 2 ^ 64 - 1 }
+    requires name { blank.name ≡ B.name }
+    requires parts { blank.parts ≡ B.parts }
+    requires whole { 0 < blank.parts }
+{
+    let mut bytes = Steps::<B>::new(blank);
+    run(alloc, words, source, sink, &mut bytes)
+}
+
 fn main(rt: HostRuntime) -> ExitCode {
     let mut source = StdSource::new(rt.stdin());
     let mut sink = StdSink::new(rt.stdout());
     let status = match command_line(&rt) {
-        Ok(words) => run(rt.alloc(), &words, &mut source, &mut sink),
+        Ok(words) => run_counted::<_, _, Brand>(
+            rt.alloc(),
+            &words,
+            &mut source,
+            &mut sink,
+            Blank::new(1),
+        ),
         Err(status) => status,
     };
     if let Some(message) = status.message() {

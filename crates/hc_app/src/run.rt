@@ -1,24 +1,19 @@
-ghost use Rattle.std.specs.Prelude.{◌≡◌, ◌≢◌, ◌↔◌, ◌⊎◌, ◌<◌, ◌^◌, ◌-◌, ◌≤◌, [], IfOk, OnErr, length};
-ghost use Rattle.std.specs.Io.KnownBytes.{Consumes, Keeps, IsAtEnd};
-ghost use Rattle.hc_base.specs.Faults.{HasCause};
-ghost use Rattle.hc_app.specs.Conversation.{Served, Completes, status_at_end};
-ghost use Rattle.hc_model.specs.World.{new_world};
+ghost use Rattle.std.specs.Prelude.{◌≡◌, ◌≢◌, ◌↔◌, ◌⊎◌, ◌<◌, ◌^◌, ◌-◌, []};
+ghost use Rattle.hc_session.specs.Conversation.{Completes, Served};
 
-use crate::limits::{CHUNK, LINE_LIMIT, SCRIPT_LIMIT};
-use crate::line_buffer::LineBuffer;
-use crate::serve::answer_lines;
-use crate::session::Session;
-use crate::status::Status;
-use hc_base::{Failed, NoMemory, Sink, Source};
+use hc_base::{Sink, Source, Steps};
+use hc_session::{Status, serve_session};
 use std::alloc::Global;
+use std::sync::ledger::Ledger;
 
 /// All that the program does: it answers each line of the source by a line to the sink, until the
-/// source ends.
-pub fn run<S: Source, K: Sink>(
+/// source ends. `bytes` rises by the bytes of the configuration texts that are read.
+pub fn run<S: Source, K: Sink, B: Ledger>(
     alloc: Global,
     words: &[String],
     source: &mut S,
     sink: &mut K,
+    bytes: &mut Steps<B>,
 ) -> Status
     requires source_counts { S.faults source.old < 2 ^ 64 - 1 }
     requires sink_counts { K.faults sink.old < 2 ^ 64 - 1 }
@@ -38,86 +33,9 @@ pub fn run<S: Source, K: Sink>(
     ensures write_fault { result ≡ Status.WriteFault → K.faults sink.old < K.faults sink.new }
     ensures untouched { (result ≡ Status.Words) ⊎ (result ≡ Status.NoMemory) → (source.new ≡ source.old) × (sink.new ≡ sink.old) }
 {
-    if !words.is_empty() {
-        return Status::Words;
-    }
-    match Desk::new(alloc) {
-        Ok(desk) => serve(desk, source, sink),
-        Err(NoMemory) => Status::NoMemory,
-    }
-}
-
-// All that takes memory before the first byte is read.
-#[derive(Drop)]
-struct Desk {
-    session: Session,
-    line: LineBuffer,
-}
-
-impl Desk {
-    fn new(alloc: Global) -> Result<Desk, NoMemory>
-        ensures session { IfOk result (λ desk. desk.session ≡ new_world) }
-        ensures line { IfOk result (λ desk. desk.line ≡ []) }
-    {
-        Ok(Desk {
-            session: Session::new(alloc)?,
-            line: LineBuffer::new(alloc)?,
-        })
-    }
-}
-
-fn serve<S: Source, K: Sink>(desk: Desk, source: &mut S, sink: &mut K) -> Status
-    requires session { desk.session ≡ new_world }
-    requires line { desk.line ≡ [] }
-    requires source_counts { S.faults source.old < 2 ^ 64 - 1 }
-    requires sink_counts { K.faults sink.old < 2 ^ 64 - 1 }
-    ensures served { Served (S.left source.old) (S.left source.new) (K.written sink.old) (K.written sink.new) result }
-    ensures read_fault { result ≡ Status.ReadFault → S.faults source.old < S.faults source.new }
-    ensures write_fault { result ≡ Status.WriteFault → K.faults sink.old < K.faults sink.new }
-{
-    let Desk {
-        mut session,
-        mut line,
-    } = desk;
-    let mut chunk = [0u8; CHUNK];
-    let mut taken = 0usize;
-    'reads: while line.len() < LINE_LIMIT && taken < SCRIPT_LIMIT {
-        let room = CHUNK.min(LINE_LIMIT - line.len()).min(SCRIPT_LIMIT - taken);
-        let Ok(bytes) = fill(source, &mut chunk, room) else {
-            return Status::ReadFault;
-        };
-        if bytes.is_empty() {
-            return end_of_input(&line);
-        }
-        taken += bytes.len();
-        let Ok(()) = answer_lines(&mut session, &mut line, bytes, sink) else {
-            return Status::WriteFault;
-        };
-    }
-    Status::CutLine
-}
-
-// How an input ends behind these bytes of its last line.
-fn end_of_input(line: &LineBuffer) -> Status
-    ensures { result ≡ status_at_end line.now }
-{
-    if line.is_empty() {
-        Status::Done
+    if words.is_empty() {
+        serve_session(alloc, source, sink, bytes)
     } else {
-        Status::CutLine
+        Status::Words
     }
-}
-
-// The next bytes of the source, at most `room`; none at its end.
-fn fill<'c, S: Source>(source: &mut S, chunk: &'c mut [u8], room: usize) -> Result<&'c [u8], Failed>
-    requires some { 0 < room }
-    requires fits { room ≤ length chunk.old }
-    ensures bound { IfOk result (λ bytes. length bytes.now ≤ room) }
-    ensures bytes { IfOk result (λ bytes. Consumes (S.left source.old) (S.left source.new) bytes.now) }
-    ensures end { IfOk result (λ bytes. bytes.now ≡ [] → IsAtEnd (S.left source.new)) }
-    ensures err { OnErr result (Keeps (S.left source.old) (S.left source.new)) }
-    ensures cause { HasCause (S.faults source.old) (S.faults source.new) result }
-{
-    let count = source.read(&mut chunk[..room])?;
-    Ok(&chunk[..count])
 }

@@ -1,8 +1,0 @@
-pub mod Answering
-pub mod AnsweringLoop
-pub mod Completing
-pub mod Known
-pub mod Parsing
-pub mod Reading
-pub mod Serving
-pub mod Words

@@ -1,0 +1,6 @@
+pub mod Answering
+pub mod AnsweringLoop
+pub mod Completing
+pub mod Known
+pub mod Parsing
+pub mod Serving

@@ -1,0 +1,63 @@
+-- The replies to a script's lines: their JSON values and their bytes. Our own choice.
+use Rattle.std.specs.Prelude.{ℕ, ◌+◌, ◌/◌, ◌%◌, ◌-◌, ◌==◌, List, [], ◌∷◌, ◌++◌, ◌&&◌, if◌then◌else◌, nat_le, nat_lt, codes, true}
+use Rattle.std.specs.List.{flat_map}
+use Rattle.serde_json.specs.Data.{Data, boolean, number, unsigned, string, object, no_members, member}
+use Rattle.serde_json.specs.Written.{compact_text}
+use Rattle.hc_base.specs.Bytes.{backslash, digit_zero, letter_a, letter_x, lf, space, tilde}
+use Rattle.hc_base.specs.Codes.{name_of_code}
+use Rattle.hc_base.specs.declared.place.Refusal.{Refusal}
+use Rattle.hc_model.specs.declared.outcome.Outcome.{Outcome}
+use Rattle.hc_model.specs.declared.outcome.Outcome.TheVariants.{File, Directory, NotFound}
+
+pub data Reply : Type 0 where
+  done_put : Reply
+  outcome : Outcome → Reply
+  refused : Refusal → Reply
+  no_memory : Reply
+
+abbrev pub hex_digit : ℕ → ℕ
+hex_digit n = if nat_lt n 10 then digit_zero + n else letter_a + (n - 10)
+
+-- 0x20 to 0x7E as it is but for the backslash, which is doubled; every other byte as a backslash,
+-- `x` and two lower-case hexadecimal digits.
+abbrev pub shown_byte : ℕ → List ℕ
+shown_byte b =
+    if b == backslash then backslash ∷ backslash ∷ []
+    else (if nat_le space b && nat_le b tilde then b ∷ []
+    else backslash ∷ letter_x ∷ hex_digit (b / 16) ∷ hex_digit (b % 16) ∷ [])
+
+-- A text of bytes as it is printed.
+abbrev pub shown : List ℕ → List ℕ
+shown bytes = flat_map shown_byte bytes
+
+-- An object with one member.
+abbrev pub only : List ℕ → Data → Data
+only key d = object (member key d no_members)
+
+abbrev pub outcome_data : Outcome → Data
+outcome_data (File path info) =
+    only (codes "file") (object (
+    member (codes "info") (string (shown info)) (
+    member (codes "path") (string (shown path)) no_members)))
+outcome_data (Directory path) = only (codes "directory") (string (shown path))
+outcome_data NotFound = only (codes "not_found") (boolean true)
+
+abbrev pub refusal_data : Refusal → Data
+refusal_data r =
+    object (
+    member (codes "at") (number (unsigned r.at)) (
+    member (codes "code") (number (unsigned r.code)) (
+    member (codes "field") (string (shown r.field)) (
+    member (codes "file") (string (shown r.place.file)) (
+    member (codes "line") (number (unsigned r.place.line)) (
+    member (codes "name") (string (name_of_code r.code)) no_members))))))
+
+abbrev pub reply_data : Reply → Data
+reply_data done_put = only (codes "done") (string (codes "put"))
+reply_data (outcome o) = only (codes "outcome") (outcome_data o)
+reply_data (refused r) = only (codes "refused") (refusal_data r)
+reply_data no_memory = only (codes "no_memory") (boolean true)
+
+-- A reply's line: compact JSON, and LF.
+abbrev pub reply_line : Reply → List ℕ
+reply_line reply = compact_text (reply_data reply) ++ lf ∷ []

@@ -1,0 +1,9 @@
+-- What a reply of the code is seen as.
+use Rattle.hc_session.specs.Reply as spec
+use Rattle.hc_session.specs.declared.reply.Reply.{Reply}
+use Rattle.hc_session.specs.declared.reply.Reply.TheVariants.{DonePut, Outcome, Refused}
+
+abbrev pub reply_view : Reply → spec.Reply
+reply_view DonePut = spec.done_put
+reply_view (Outcome o) = spec.outcome o
+reply_view (Refused r) = spec.refused r

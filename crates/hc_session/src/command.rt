@@ -1,0 +1,108 @@
+ghost use Rattle.std.specs.Prelude.{◌≡◌, ℕ, List, IfOk, None, map};
+ghost use Rattle.std.specs.List.{list_any};
+ghost use Rattle.std.specs.Option.{option_map};
+ghost use Rattle.std.specs.Str.{bytes_eq};
+ghost use Rattle.serde_json.specs.View.{view, members_view};
+ghost use Rattle.hc_session.specs.Command.{json_of, required, unless_unknown, unknown_field, unknown_member, put_fields, ask_fields, put_in, ask_in, command_in};
+ghost use Rattle.hc_session.specs.CommandView.{read_view, field_view};
+
+use hc_base::NoMemory;
+use serde_json::{Map, Value};
+use std::alloc::Global;
+
+/// A command of a script. It borrows from the JSON value that it is read from.
+#[derive(Clone, Copy, Debug)]
+pub enum Command<'v> {
+    /// Makes or replaces a file with a text.
+    Put { path: &'v str, text: &'v str },
+    /// Asks what a request for a target receives.
+    Ask { target: &'v str },
+}
+
+/// The first wrong field of a value that is no command: `do` where it is missing or unknown; else
+/// the least unknown field; else the first field of the command that is missing or no text.
+#[derive(Clone, Copy, Debug)]
+pub struct BadField<'v>(pub &'v str);
+
+/// The JSON value that a line is; none where it is no JSON.
+#[tactic(auto, using(crate::proofs::Parsing::parsing))]
+pub fn parse(alloc: Global, line: &[u8]) -> Result<Option<Value>, NoMemory>
+    ensures { IfOk result (λ value. option_map view value ≡ json_of line.now) }
+{
+    let Ok(text) = std::str::from_utf8(line) else {
+        return Ok(None);
+    };
+    match Value::from_str(alloc, text) {
+        Ok(value) => Ok(Some(value)),
+        Err(error) if error.is_memory() => Err(NoMemory),
+        Err(_) => Ok(None),
+    }
+}
+
+/// The command that a value is.
+pub fn read_command(value: &Value) -> Result<Command<'_>, BadField<'_>>
+    ensures { read_view result ≡ command_in (view value.now) }
+{
+    match required(value, "do")? {
+        "put" => read_put(value),
+        "ask" => read_ask(value),
+        _ => Err(BadField("do")),
+    }
+}
+
+fn read_put(value: &Value) -> Result<Command<'_>, BadField<'_>>
+    ensures { read_view result ≡ unless_unknown (unknown_field put_fields (view value.now)) (put_in (view value.now)) }
+{
+    if let Some(field) = unknown_field(value, &["do", "path", "text"]) {
+        return Err(BadField(field));
+    }
+    let path = required(value, "path")?;
+    let text = required(value, "text")?;
+    Ok(Command::Put { path, text })
+}
+
+fn read_ask(value: &Value) -> Result<Command<'_>, BadField<'_>>
+    ensures { read_view result ≡ unless_unknown (unknown_field ask_fields (view value.now)) (ask_in (view value.now)) }
+{
+    if let Some(field) = unknown_field(value, &["do", "target"]) {
+        return Err(BadField(field));
+    }
+    let target = required(value, "target")?;
+    Ok(Command::Ask { target })
+}
+
+// The text at a key that must be there.
+fn required<'v>(value: &'v Value, key: &'v str) -> Result<&'v str, BadField<'v>>
+    ensures { field_view result ≡ required key.now (view value.now) }
+{
+    value.get(key).and_then(Value::as_str).ok_or(BadField(key))
+}
+
+// The first key, in byte order, that is not among the known ones.
+fn unknown_field<'v>(value: &'v Value, known: &[&str]) -> Option<&'v str>
+    ensures { option_map (λ field. field.now) result
+        ≡ unknown_field (map (λ k. k.now) known.now) (view value.now) }
+{
+    unknown_member(value.as_object()?, known)
+}
+
+fn unknown_member<'v>(members: &'v Map<String, Value>, known: &[&str]) -> Option<&'v str>
+    ensures { option_map (λ field. field.now) result
+        ≡ unknown_member (map (λ k. k.now) known.now) (members_view members.now.entries) }
+{
+    for (key, _) in members.iter() {
+        if !is_among(known, key.as_str()) {
+            return Some(key.as_str());
+        }
+    }
+    None
+}
+
+fn is_among(keys: &[&str], key: &str) -> bool
+    ensures { result ≡ list_any (bytes_eq key.now) (map (λ k. k.now) keys.now) }
+{
+    match keys {
+        [] => false,
+        [first, rest @ ..] => key == *first || is_among(rest, key),
+    }
+}

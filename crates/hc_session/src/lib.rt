@@ -1,0 +1,18 @@
+//! An open session: a world of files, which lines of a script edit and ask about, and the loop that
+//! serves a source of lines.
+#![tactic(auto)]
+
+mod command;
+mod conversation;
+mod limits;
+mod line_buffer;
+mod mapping;
+mod path;
+mod reply;
+mod serve;
+mod session;
+mod status;
+
+pub use conversation::serve_session;
+pub use session::{MAIN_FILE, Session};
+pub use status::Status;

@@ -1,0 +1,111 @@
+ghost use Rattle.std.specs.Prelude.{◌≡◌, ◌<◌, ◌++◌, ◌∷◌, [], IfOk, OnOk, string_bytes};
+ghost use Rattle.serde_json.specs.View.{view};
+ghost use Rattle.hc_session.specs.Reply.{shown, shown_byte, hex_digit, outcome_data, refusal_data, reply_data, reply_line};
+ghost use Rattle.hc_session.specs.ReplyView.{reply_view};
+
+use hc_base::codes::name_of_code;
+use hc_base::{NoMemory, Refusal, Text};
+use hc_model::Outcome;
+use serde_json::{Value, json};
+use std::alloc::Global;
+
+/// The answer to a line.
+#[derive(Debug, Drop)]
+pub enum Reply {
+    /// A put was done.
+    DonePut,
+    /// What a request receives.
+    Outcome(Outcome),
+    /// Why the line is not answered.
+    Refused(Refusal),
+}
+
+/// The reply's line: compact JSON, and LF.
+pub fn print_reply(alloc: Global, reply: &Reply) -> Result<Text, NoMemory>
+    ensures { IfOk result (λ line. line ≡ reply_line (reply_view reply.now)) }
+{
+    let mut line = reply_value(alloc, reply)?.to_vec(alloc)?;
+    line.push(b'\n')?;
+    Ok(Text::from(line))
+}
+
+fn reply_value(alloc: Global, reply: &Reply) -> Result<Value, NoMemory>
+    ensures { IfOk result (λ value. view value ≡ reply_data (reply_view reply.now)) }
+{
+    match reply {
+        Reply::DonePut => json!(in alloc; {"done": "put"}),
+        Reply::Outcome(outcome) => {
+            let outcome = outcome_value(alloc, outcome)?;
+            json!(in alloc; {"outcome": outcome})
+        }
+        Reply::Refused(refusal) => {
+            let refusal = refusal_value(alloc, refusal)?;
+            json!(in alloc; {"refused": refusal})
+        }
+    }
+}
+
+fn outcome_value(alloc: Global, outcome: &Outcome) -> Result<Value, NoMemory>
+    ensures { IfOk result (λ value. view value ≡ outcome_data outcome.now) }
+{
+    match outcome {
+        Outcome::File { path, info } => {
+            let path = shown(alloc, path.as_bytes())?;
+            let info = shown(alloc, info.as_bytes())?;
+            json!(in alloc; {"file": {"info": info, "path": path}})
+        }
+        Outcome::Directory { path } => {
+            let path = shown(alloc, path.as_bytes())?;
+            json!(in alloc; {"directory": path})
+        }
+        Outcome::NotFound => json!(in alloc; {"not_found": true}),
+    }
+}
+
+fn refusal_value(alloc: Global, refusal: &Refusal) -> Result<Value, NoMemory>
+    ensures { IfOk result (λ value. view value ≡ refusal_data refusal.now) }
+{
+    let field = shown(alloc, refusal.field.as_bytes())?;
+    let file = shown(alloc, refusal.place.file.as_bytes())?;
+    let name = name_of_code(refusal.code);
+    json!(in alloc; {
+        "at": refusal.at,
+        "code": refusal.code,
+        "field": field,
+        "file": file,
+        "line": refusal.place.line,
+        "name": name
+    })
+}
+
+// A text of bytes as it is printed.
+fn shown(alloc: Global, bytes: &[u8]) -> Result<String, NoMemory>
+    ensures { IfOk result (λ text. string_bytes text ≡ shown bytes.now) }
+{
+    let mut text = String::new(alloc);
+    for byte in bytes {
+        push_shown(&mut text, *byte)?;
+    }
+    Ok(text)
+}
+
+fn push_shown(text: &mut String, byte: u8) -> Result<(), NoMemory>
+    ensures { OnOk result (string_bytes text.new ≡ string_bytes text.old ++ shown_byte byte) }
+{
+    match byte {
+        b'\\' => text.push_str("\\\\"),
+        b' '..=b'~' => text.push(char::from(byte)),
+        _ => {
+            text.push_str("\\x")?;
+            text.push(hex_digit(byte / 16))?;
+            text.push(hex_digit(byte % 16))
+        }
+    }
+}
+
+fn hex_digit(n: u8) -> char
+    requires { n < 16 }
+    ensures { result ≡ hex_digit n }
+{
+    char::from(if n < 10 { b'0' + n } else { b'a' + (n - 10) })
+}

@@ -1,0 +1,73 @@
+ghost use Rattle.std.specs.Prelude.{◌≡◌, ◌+◌, ◌≤◌, ◌++◌, length, OnOk, OnErr};
+ghost use Rattle.std.specs.Io.KnownBytes.{Appends};
+ghost use Rattle.hc_base.specs.Faults.{HasCause};
+ghost use Rattle.hc_base.specs.Lines.{whole_lines, rest_of};
+ghost use Rattle.hc_session.specs.Sending.{AppendsFront, AnswersLine, AnswersInPart, AnswersLines, AnswersLinesInPart};
+ghost use Rattle.hc_session.specs.declared.limits.TheConstants.{LINE_LIMIT};
+
+use crate::line_buffer::LineBuffer;
+use crate::session::Session;
+use hc_base::{Failed, NoMemory, Sink, Steps};
+use memchr::memchr;
+use std::sync::ledger::Ledger;
+
+const NO_MEMORY_LINE: &[u8] = b"{\"no_memory\":true}\n";
+
+// Writes a piece; what a call doesn't take goes to the next call.
+fn send<K: Sink>(sink: &mut K, piece: &[u8]) -> Result<(), Failed>
+    ensures ok { OnOk result (Appends (K.written sink.old) (K.written sink.new) piece.now) }
+    ensures err { OnErr result (AppendsFront (K.written sink.old) (K.written sink.new) piece.now) }
+    ensures cause { HasCause (K.faults sink.old) (K.faults sink.new) result }
+{
+    let mut rest = piece;
+    while !rest.is_empty() {
+        let count = sink.write(rest)?;
+        rest = rest.split_at(count).1;
+    }
+    Ok(())
+}
+
+// Answers one line.
+fn answer_line<K: Sink, L: Ledger>(
+    session: &mut Session,
+    line: &[u8],
+    sink: &mut K,
+    bytes: &mut Steps<L>,
+) -> Result<(), Failed>
+    ensures ok { OnOk result (AnswersLine session.old session.new line.now (K.written sink.old) (K.written sink.new)) }
+    ensures err { OnErr result (AnswersInPart session.old session.new line.now (K.written sink.old) (K.written sink.new)) }
+    ensures cause { HasCause (K.faults sink.old) (K.faults sink.new) result }
+{
+    match session.step(line, bytes) {
+        Ok(printed) => send(sink, printed.as_bytes()),
+        Err(NoMemory) => send(sink, NO_MEMORY_LINE),
+    }
+}
+
+// Answers each line that these bytes end. `line` has the bytes of a line that has not ended, and
+// has those of the next one afterwards.
+pub(crate) fn answer_lines<K: Sink, L: Ledger>(
+    session: &mut Session,
+    line: &mut LineBuffer,
+    piece: &[u8],
+    sink: &mut K,
+    bytes: &mut Steps<L>,
+) -> Result<(), Failed>
+    requires unended { rest_of line.old ≡ line.old }
+    requires room { length line.old + length piece.now ≤ LINE_LIMIT }
+    ensures ok { OnOk result (AnswersLines session.old session.new (whole_lines (line.old ++ piece.now)) (K.written sink.old) (K.written sink.new)) }
+    ensures err { OnErr result (AnswersLinesInPart session.old (whole_lines (line.old ++ piece.now)) (K.written sink.old) (K.written sink.new)) }
+    ensures rest { OnOk result (line.new ≡ rest_of (line.old ++ piece.now)) }
+    ensures cause { HasCause (K.faults sink.old) (K.faults sink.new) result }
+{
+    let mut rest = piece;
+    while let Some(end) = memchr(b'\n', rest) {
+        let (front, behind) = rest.split_at(end);
+        line.extend(front);
+        answer_line(session, line.as_slice(), sink, bytes)?;
+        line.clear();
+        rest = behind.split_at(1).1;
+    }
+    line.extend(rest);
+    Ok(())
+}
