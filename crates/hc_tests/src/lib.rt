@@ -1,0 +1,22 @@
+//! Tests of what the crates offer: tables of cases, whose answers come from the manual or from our own
+//! rules, and never from the code.
+#![tactic(auto)]
+
+#[cfg(test)]
+mod base;
+#[cfg(test)]
+mod lines;
+#[cfg(test)]
+mod model;
+#[cfg(test)]
+mod nodes;
+#[cfg(test)]
+mod session;
+#[cfg(test)]
+mod show;
+#[cfg(test)]
+mod table;
+#[cfg(test)]
+mod words;
+#[cfg(test)]
+mod world;

@@ -1,0 +1,117 @@
+use hc_base::codes::{IS_DIRECTORY, PATH_FORM, UNDER_FILE};
+use hc_base::{Fault, NoMemory};
+use hc_model::{Kind, Walk};
+use hc_world::{World, WorldFault};
+use std::alloc::Global;
+use std::process::Abort;
+use std::test::Fail;
+
+// A world with two files, one of them in a directory.
+fn two_files(alloc: Global) -> Result<World, WorldFault> {
+    let mut world = World::new(alloc)?;
+    world.put(b"/site/a.txt", "one")?;
+    world.put(b"/b", "")?;
+    Ok(world)
+}
+
+// That the world is the one of two files.
+fn check_two_files(rt: &impl Abort, world: &World) {
+    static ROWS: &[(&str, Kind, Option<&str>)] = &[
+        ("/", Kind::Dir, None),
+        ("/site", Kind::Dir, None),
+        ("/site/a.txt", Kind::File, Some("one")),
+        ("/b", Kind::File, Some("")),
+        ("/b/c", Kind::Absent, None),
+        ("/site/", Kind::Absent, None),
+        ("/c", Kind::Absent, None),
+    ];
+    for &(path, kind, text) in ROWS {
+        assert_eq!(rt; world.kind(path.as_bytes()), kind, "at {path}");
+        assert_eq!(rt; world.text(path.as_bytes()), text, "at {path}");
+    }
+}
+
+#[test]
+fn puts_files(rt: HostRuntime) -> Result<(), Fail> {
+    let alloc = rt.alloc();
+    let mut world = two_files(alloc)?;
+    check_two_files(&rt, &world);
+    world.put(b"/b", "two")?;
+    assert_eq!(rt; world.text(b"/b"), Some("two"));
+    let component = format!(in alloc; "/{}", "a".repeat(alloc, 255)?)?;
+    let longest = component.repeat(alloc, 16)?;
+    world.put(longest.as_bytes(), "deep")?;
+    assert_eq!(rt; world.text(longest.as_bytes()), Some("deep"));
+    Ok(())
+}
+
+// That a put is refused with this code and changes nothing.
+fn check_refused(rt: &impl Abort, world: &mut World, path: &str, code: u8) {
+    let answer = world.put(path.as_bytes(), "new");
+    assert_eq!(rt; answer, Err(Fault::Refused(code)), "at {path}");
+    check_two_files(rt, world);
+}
+
+#[test]
+fn refuses_edits(rt: HostRuntime) -> Result<(), Fail> {
+    static ROWS: &[(&str, u8)] = &[
+        ("a", PATH_FORM),
+        ("", PATH_FORM),
+        ("/c/", PATH_FORM),
+        ("/c//b", PATH_FORM),
+        ("/c/../b", PATH_FORM),
+        ("/c/.", PATH_FORM),
+        ("/c\n", PATH_FORM),
+        ("/b/g", UNDER_FILE),
+        ("/b/g/h", UNDER_FILE),
+        ("/", IS_DIRECTORY),
+        ("/site", IS_DIRECTORY),
+    ];
+    let alloc = rt.alloc();
+    let mut world = two_files(alloc)?;
+    for &(path, code) in ROWS {
+        check_refused(&rt, &mut world, path, code);
+    }
+    let long_component = format!(in alloc; "/{}", "a".repeat(alloc, 256)?)?;
+    check_refused(&rt, &mut world, &long_component, PATH_FORM);
+    let long_path = format!(in alloc; "{}a", "/a".repeat(alloc, 2048)?)?;
+    check_refused(&rt, &mut world, &long_path, PATH_FORM);
+    Ok(())
+}
+
+// A walk as `name|info|kind|` and its directories with a colon behind each.
+fn show_walk(alloc: Global, walk: &Walk) -> Result<Vec<u8>, NoMemory> {
+    let mut shown = walk.name.as_bytes().to_vec(alloc)?;
+    shown.push(b'|')?;
+    shown.extend_from_slice(walk.info.as_bytes())?;
+    shown.extend_from_slice(match walk.kind {
+        Kind::Absent => b"|absent|",
+        Kind::Dir => b"|dir|",
+        Kind::File => b"|file|",
+    })?;
+    for dir in walk.dirs.as_slice() {
+        shown.extend_from_slice(dir.as_bytes())?;
+        shown.push(b':')?;
+    }
+    Ok(shown)
+}
+
+#[test]
+fn walks(rt: HostRuntime) -> Result<(), Fail> {
+    let world = two_files(rt.alloc())?;
+    static ROWS: &[(&str, &str)] = &[
+        ("/", "/||dir|/:"),
+        ("/site", "/site||dir|/:/site:"),
+        ("/site/", "/site/||dir|/:/site:"),
+        ("/site/a.txt", "/site/a.txt||file|/:/site:"),
+        ("/site/a.txt/x/y", "/site/a.txt|/x/y|file|/:/site:"),
+        ("/b/", "/b|/|file|/:"),
+        ("/none/x", "/none|/x|absent|/:"),
+        ("/site/none", "/site/none||absent|/:/site:"),
+    ];
+    for &(given, wanted) in ROWS {
+        let shown = show_walk(rt.alloc(), &world.walk(given.as_bytes())?)?;
+        assert_eq!(rt; shown.as_slice(), wanted.as_bytes(), "at {given}");
+    }
+    Ok(())
+}
