@@ -10,12 +10,10 @@ source "$(dirname -- "$(readlink -f -- "$0")")/program.sh"
 python3 - "$program" "$room" << 'PYTHON'
 import json
 import os
-import shutil
-import subprocess
 import sys
-import time
 
-TIME = shutil.which("time")
+from measure import judge, run_once
+
 FOLDERS = 1_000
 RUNS = 3
 SIZES = (10_000, 100_000)
@@ -53,25 +51,6 @@ def write_input(path, lines):
             out.write(json.dumps(command, separators=(",", ":")) + "\n")
 
 
-def run_once(program, source, replies):
-    """The seconds, the peak memory in KiB and the status of one run."""
-    report = f"{replies}.peak"
-    # A child's peak is at least that of the process that starts it, so a small one does where there
-    # is one.
-    words = [TIME, "-f", "%M", "-o", report] if TIME else []
-    with open(source, "rb") as given, open(replies, "wb") as made:
-        began = time.perf_counter()
-        child = subprocess.Popen([*words, program], stdin=given, stdout=made)
-        _, status, usage = os.wait4(child.pid, 0)
-        seconds = time.perf_counter() - began
-    child.returncode = os.waitstatus_to_exitcode(status)
-    peak = usage.ru_maxrss
-    if TIME:
-        with open(report, encoding="ascii") as told:
-            peak = int(told.read().split()[-1])
-    return seconds, peak, child.returncode
-
-
 def faults_of(replies, lines):
     """What is wrong with the replies: their number, or one that gives no answer."""
     count, reply = 0, "\n"
@@ -107,16 +86,7 @@ def measure(program, room, lines):
 def main():
     program, room = sys.argv[1:]
     found = {lines: measure(program, room, lines) for lines in SIZES}
-    small, large = SIZES
-    growth = (found[large][1] / large) / (found[small][1] / small)
-    checks = [(growth <= GROWTH, f"time per line grows {growth:.2f} times, at most {GROWTH}")]
-    for lines in SIZES:
-        size, _, peak = found[lines]
-        limit = MEMORY_PER_BYTE * size // 1024 + MEMORY_KIB
-        checks.append((peak <= limit, f"{peak} KiB at {lines} lines, at most {limit}"))
-    for holds, what in checks:
-        print(f"{'PASS' if holds else 'FAIL'}  {what}")
-    sys.exit(0 if all(holds for holds, _ in checks) else 1)
+    judge(found, GROWTH, MEMORY_PER_BYTE, MEMORY_KIB)
 
 
 main()

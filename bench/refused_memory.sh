@@ -58,9 +58,9 @@ QUIET = 5
 
 SCRIPT = r"""
 {"do":"ask","target":"/a"}
-{"do":"put","path":"/etc/httpd/conf/httpd.conf","text":"# a comment\n\nlisten 80\n"}
+{"do":"put","path":"/etc/httpd/conf/httpd.conf","text":"# a comment\n\n<Directory /x>\nListen 80\n</Directory>\n"}
 {"do":"ask","target":"/a"}
-{"do":"put","path":"/etc/httpd/conf/httpd.conf","text":"documentroot /srv\nALIAS /i/ /srv/\nAlias /j /a/b\n"}
+{"do":"put","path":"/etc/httpd/conf/httpd.conf","text":"documentroot \\\n \"/s\\\\rv\"\nDocumentRoot /srv\r\nALIAS /i/ \\\n'/srv/'\nAlias /j /a/b\nListen 80\n"}
 {"do":"put","path":"/srv/x/y/z/f","text":"one"}
 {"do":"put","path":"/srv/x/y/z/f/g","text":""}
 {"do":"put","path":"/srv/x/y/w/f","text":"one"}

@@ -1,0 +1,83 @@
+#!/usr/bin/env bash
+# Times the reading of a large main file and checks that time and memory stay within their limits:
+#
+#     bench/lines.sh [PROGRAM]
+#
+# The main file has 10,000 and 1,000,000 physical lines: a third are comments, a third inert
+# directives with quoted words, some of them joined, and the rest are `Alias` lines. It is put once
+# and read at each of three asks. Three runs each, and the best counts. Nothing is built here.
+source "$(dirname -- "$(readlink -f -- "$0")")/program.sh"
+
+python3 - "$program" "$room" << 'PYTHON'
+import json
+import os
+import sys
+
+from measure import judge, run_once
+
+RUNS = 3
+ASKS = 3
+SIZES = (10_000, 1_000_000)
+
+# How much longer a line may take in the larger file.
+GROWTH = 1.3
+# Peak memory: this many times the bytes of the text, and the rest.
+MEMORY_PER_BYTE = 6
+MEMORY_KIB = 64 * 1024
+
+MAIN_FILE = "/etc/httpd/conf/httpd.conf"
+
+
+def text_of(lines):
+    """A main file of so many physical lines."""
+    made = ["DocumentRoot /srv"]
+    while len(made) < lines:
+        at = len(made)
+        if at % 3 == 0:
+            made.append(f"# line {at}")
+        elif at % 3 == 1:
+            made.append('User "a b"' if at % 4 else 'User "a b" \\')
+        else:
+            made.append(f"Alias /{at} /b")
+    made[-1] = "# the end"
+    return "\n".join(made) + "\n"
+
+
+def write_input(path, lines):
+    text = text_of(lines)
+    commands = [{"do": "put", "path": MAIN_FILE, "text": text}]
+    commands += [{"do": "ask", "target": "/none"}] * ASKS
+    with open(path, "w", encoding="ascii") as out:
+        for command in commands:
+            out.write(json.dumps(command, separators=(",", ":")) + "\n")
+    return len(text)
+
+
+def measure(program, room, lines):
+    """The best of the runs: the bytes of the text, the seconds and the peak memory in KiB."""
+    source, replies = f"{room}/{lines}.jsonl", f"{room}/{lines}.replies"
+    size = write_input(source, lines)
+    wanted = '{"done":"put"}\n' + '{"outcome":{"not_found":true}}\n' * ASKS
+    runs = []
+    for _ in range(RUNS):
+        seconds, peak, status = run_once(program, source, replies)
+        with open(replies, encoding="utf-8") as given:
+            if status or given.read() != wanted:
+                sys.exit(f"FAIL  at {lines} lines: status {status}, or another reply")
+        runs.append((seconds, peak))
+    seconds, peak = min(run[0] for run in runs), min(run[1] for run in runs)
+    print(
+        f"{lines:>7} lines  {size:>9} bytes  {seconds:8.3f} s"
+        f"  {ASKS * size / seconds / 1e6:>7.1f} MB/s read  {peak:>8} KiB"
+    )
+    return size, seconds, peak
+
+
+def main():
+    program, room = sys.argv[1:]
+    found = {lines: measure(program, room, lines) for lines in SIZES}
+    judge(found, GROWTH, MEMORY_PER_BYTE, MEMORY_KIB)
+
+
+main()
+PYTHON

@@ -1,0 +1,45 @@
+"""For the scripts of this folder: one run of the program, and the judgement of what was measured."""
+
+import os
+import shutil
+import subprocess
+import sys
+import time
+
+TIME = shutil.which("time")
+
+
+def run_once(program, source, replies):
+    """The seconds, the peak memory in KiB and the status of one run."""
+    report = f"{replies}.peak"
+    # A child's peak is at least that of the process that starts it, so a small one does where there
+    # is one.
+    words = [TIME, "-f", "%M", "-o", report] if TIME else []
+    with open(source, "rb") as given, open(replies, "wb") as made:
+        began = time.perf_counter()
+        child = subprocess.Popen([*words, program], stdin=given, stdout=made)
+        _, status, usage = os.wait4(child.pid, 0)
+        seconds = time.perf_counter() - began
+    child.returncode = os.waitstatus_to_exitcode(status)
+    peak = usage.ru_maxrss
+    if TIME:
+        with open(report, encoding="ascii") as told:
+            peak = int(told.read().split()[-1])
+    return seconds, peak, child.returncode
+
+
+def judge(found, growth, memory_per_byte, memory_kib):
+    """Prints whether time and memory stay within their limits, and ends with status 0 where they do.
+
+    `found` has, by the number of lines, the bytes that were given, the seconds and the peak memory in
+    KiB. A line may take `growth` times as long in the largest as in the smallest.
+    """
+    small, large = min(found), max(found)
+    grown = (found[large][1] / large) / (found[small][1] / small)
+    checks = [(grown <= growth, f"time per line grows {grown:.2f} times, at most {growth}")]
+    for lines, (size, _, peak) in found.items():
+        limit = memory_per_byte * size // 1024 + memory_kib
+        checks.append((peak <= limit, f"{peak} KiB at {lines} lines, at most {limit}"))
+    for holds, what in checks:
+        print(f"{'PASS' if holds else 'FAIL'}  {what}")
+    sys.exit(0 if all(holds for holds, _ in checks) else 1)
