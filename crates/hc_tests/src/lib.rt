@@ -3,6 +3,8 @@
 #![tactic(auto)]
 
 #[cfg(test)]
+mod addr;
+#[cfg(test)]
 mod base;
 #[cfg(test)]
 mod lines;
