@@ -1,0 +1,146 @@
+-- Sets of states that grow by one state.
+use Rattle.std.proofs.Common.{◌≡◌, ◌≢◌, ℕ, ◌+◌, ◌-◌, ◌<◌, ◌≤◌, ◌∙◌, sym, arith, ◌||◌, ap, refl, subst, not, count_by, length-set, slice_index_or, List, length, slice_set, Bool, true, false, ◌⊎◌, inl, inr, get_or-set_same, get_or-set_other}
+use Rattle.std.proofs.lemmas.Bool.{cases_eq}
+use Rattle.std.proofs.lemmas.List.{get_or_default}
+use Rattle.std.proofs.lemmas.Grind.{common_steps}
+use Rattle.hc_dfa.specs.Machines.{Steps, Reads, IsSilent}
+use Rattle.hc_dfa.specs.Sets.{AreChanges, Marks, Has, IsClosed, IsStep, SilentPath, Follows}
+use Rattle.hc_dfa.specs.Sets.SilentPath.{stays, goes_on}
+use Rattle.hc_dfa.specs.declared.machine.ReadingStep.{ReadingStep}
+use Rattle.hc_dfa.specs.declared.machine.SilentStep.{SilentStep}
+
+pub has_added : (set : List Bool) (added state : ℕ) → added < length set → Has set state → Has (slice_set set added true) state
+has_added set added state below has =
+    elim (cases_eq state added) [ inl e ↦ rw e (get_or-set_same set added true false below) | inr ne ↦ rw (get_or-set_other set added state true false ne) has ]
+
+pub has_before : (set : List Bool) (added state : ℕ) → added < length set → Has (slice_set set added true) state → (state ≡ added) ⊎ Has set state
+has_before set added state below has =
+    elim (cases_eq state added) [ inl e ↦ inl e | inr ne ↦ inr (rw (get_or-set_other set added state true false ne) at has) ]
+
+-- One more state in a set leaves one fewer outside.
+pub fewer_added : (set : List Bool) (added : ℕ) → added < length set → (Has set added → ⊥) → count_by not (slice_set set added true) < count_by not set
+fewer_added set added below out = grind (arith, common_steps)
+
+pub silent_append : (m : Steps) (from middle : ℕ) {to : ℕ} → SilentPath m from middle → SilentPath m middle to → SilentPath m from to
+silent_append m from middle front stays = front
+silent_append m from middle front (goes_on path step) = goes_on (silent_append m from middle front path) step
+
+-- A round over the first silent steps.
+pub record Spreading (m : Steps) (set more : List Bool) (grew : Bool) (count : ℕ) : Type 0 where
+  pub len : length more ≡ length set
+  pub keeps : (state : ℕ) → Has set state → Has more state
+  pub sound : (state : ℕ) → Has more state → (before : ℕ) × Has set before × SilentPath m before state
+  pub closed : grew ≡ false → (k : ℕ) (d : SilentStep) → k < count → Has more (slice_index_or m.silent k d).from → Has more (slice_index_or m.silent k d).to
+  pub most : count_by not more ≤ count_by not set
+  pub fewer : grew ≡ true → count_by not more < count_by not set
+
+pub spreading_first : (m : Steps) (set : List Bool) → Spreading m set set false 0
+spreading_first m set = record { len = refl; keeps = λ state has. has; sound = λ state has. (state, has, stays); closed = λ is k d below. absurd (omega arith); most = omega arith; fewer = λ is. absurd (cc) }
+
+pub spreading_more : (m : Steps) (set more next : List Bool) (grew added : Bool) (count : ℕ) (step : SilentStep) → Spreading m set more grew count
+    → count < length m.silent → slice_index_or m.silent count step ≡ step → step.to < length more → Follows step more next added → Spreading m set next (grew || added) (count + 1)
+spreading_more m set more next grew true count step is below at to follows =
+    let new = follows.new refl in
+    let fewer = fewer_added more step.to to new.1 in
+    let silent : IsSilent m step.from step.to = record { step = step; among = (count, below, at); leaves = refl; enters = refl } in
+    rw new.2 (record {
+      len = length-set _ _ _ ∙ is.len;
+      keeps = λ state has. has_added more step.to state to (is.keeps state has);
+      sound = λ state has. elim (has_before more step.to state to has) [
+        | inl e ↦ (let path = is.sound step.from new.0 in (path.0, path.1, rw e (goes_on path.2 silent)))
+        | inr old ↦ is.sound state old
+      ];
+      closed = λ same. absurd (grew_or grew same);
+      most = (let f = is.most in omega arith);
+      fewer = λ yes. (let f = is.most in omega arith);
+    })
+  where
+    grew_or : (g : Bool) → (g || true) ≡ false → ⊥
+    grew_or true same = cc
+    grew_or false same = cc
+spreading_more m set more next grew false count step is below at to follows =
+    let kept = follows.kept refl in
+    rw (kept.1, or_false grew) (record {
+      len = is.len;
+      keeps = is.keeps;
+      sound = is.sound;
+      closed = λ same k d k_below.
+          let cases : (k < count) ⊎ (k ≡ count) = grind arith in
+          elim cases [
+            | inl old ↦ is.closed same k d old
+            | inr e ↦ (let item : slice_index_or m.silent k d ≡ step = ap (λ n. slice_index_or m.silent n d) e ∙ (get_or_default m.silent count d step below ∙ at) in
+                subst (λ (x : SilentStep). Has more x.from → Has more x.to) (sym item) kept.0)
+          ];
+      most = is.most;
+      fewer = is.fewer;
+    })
+  where
+    or_false : (g : Bool) → (g || false) ≡ g
+    or_false true = refl
+    or_false false = refl
+
+-- A whole round that added nothing leaves a closed set.
+pub spread_closed : (m : Steps) (set more : List Bool) (grew : Bool) (count : ℕ) → Spreading m set more grew count → length m.silent ≤ count → grew ≡ false → IsClosed m more
+spread_closed m set more grew count is all same state next has silent =
+    let k = silent.among.0 in
+    let item = silent.among.2 in
+    let from = subst (λ (x : SilentStep). Has more x.from) (sym item) (subst (λ (x : ℕ). Has more x) (sym silent.leaves) has) in
+    let to = is.closed same k silent.step (let w = silent.among.1 in omega arith) from in
+    subst (λ (x : ℕ). Has more x) silent.enters (subst (λ (x : SilentStep). Has more x.to) item to)
+
+-- A byte at which no step begins, and before which none ends, leads to what the byte before it leads to.
+pub step_same : (m : Steps) (changes from to : List Bool) (byte : ℕ) → AreChanges m changes → 0 < byte → (Has changes byte → ⊥) → IsStep m from (byte - 1) to → IsStep m from byte to
+step_same m changes from to byte are more isnt step = record {
+  read = step.read;
+  closes = step.closes;
+  reads = record {
+    len = step.reads.len;
+    sound = λ state has. let r = step.reads.sound state has in (r.0, r.1, later r.0 state r.2);
+    complete = λ before state has reads. step.reads.complete before state has (earlier before state reads);
+  };
+}
+  where
+    later : (before state : ℕ) → Reads m before (byte - 1) state → Reads m before byte state
+    later before state r =
+        let high = are.high r.step r.among in
+        let other : byte ≢ r.step.high + 1 = λ e. isnt (subst (λ (x : ℕ). Has changes x) (sym e) high) in
+        record { step = r.step; among = r.among; leaves = r.leaves; enters = r.enters; low = (let l = r.low in omega arith); high = (let h = r.high in omega arith) }
+
+    earlier : (before state : ℕ) → Reads m before byte state → Reads m before (byte - 1) state
+    earlier before state r =
+        let low = are.low r.step r.among in
+        let other : byte ≢ r.step.low = λ e. isnt (subst (λ (x : ℕ). Has changes x) (sym e) low) in
+        record { step = r.step; among = r.among; leaves = r.leaves; enters = r.enters; low = (let l = r.low in omega arith); high = (let h = r.high in omega arith) }
+
+-- The changes of the first reading steps.
+pub record ChangesBelow (m : Steps) (changes : List Bool) (count : ℕ) : Type 0 where
+  pub len : length changes ≡ 257
+  pub low : (k : ℕ) (d : ReadingStep) → k < count → Has changes (slice_index_or m.reading k d).low
+  pub high : (k : ℕ) (d : ReadingStep) → k < count → Has changes ((slice_index_or m.reading k d).high + 1)
+
+pub changes_more : (m : Steps) (changes more : List Bool) (count : ℕ) (base : ReadingStep) → ChangesBelow m changes count → count < length m.reading
+    → Marks (slice_index_or m.reading count base) changes more → ChangesBelow m more (count + 1)
+changes_more m changes more count base is below marks = record {
+  len = marks.len ∙ is.len;
+  low = λ k d k_below. elim (place k k_below) [
+    | inl old ↦ marks.keeps (slice_index_or m.reading k d).low (is.low k d old)
+    | inr e ↦ subst (λ (x : ReadingStep). Has more x.low) (here k d e) marks.low
+  ];
+  high = λ k d k_below. elim (place k k_below) [
+    | inl old ↦ marks.keeps ((slice_index_or m.reading k d).high + 1) (is.high k d old)
+    | inr e ↦ subst (λ (x : ReadingStep). Has more (x.high + 1)) (here k d e) marks.high
+  ];
+}
+  where
+    place : (k : ℕ) → k < count + 1 → (k < count) ⊎ (count ≡ k)
+    place k k_below = grind arith
+
+    here : (k : ℕ) (d : ReadingStep) → count ≡ k → slice_index_or m.reading count base ≡ slice_index_or m.reading k d
+    here k d e = get_or_default m.reading count base d below ∙ ap (λ n. slice_index_or m.reading n d) e
+
+pub all_changes : (m : Steps) (changes : List Bool) (count : ℕ) → ChangesBelow m changes count → length m.reading ≤ count → AreChanges m changes
+all_changes m changes count is all = record {
+  len = is.len;
+  low = λ step among. subst (λ (x : ReadingStep). Has changes x.low) among.2 (is.low among.0 step (let w = among.1 in omega arith));
+  high = λ step among. subst (λ (x : ReadingStep). Has changes (x.high + 1)) among.2 (is.high among.0 step (let w = among.1 in omega arith));
+}

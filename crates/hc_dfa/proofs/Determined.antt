@@ -1,0 +1,69 @@
+-- The automaton of sets of a machine's states.
+use Rattle.std.proofs.Common.{◌≡◌, ℕ, ◌*◌, ◌<◌, ◌≤◌, List, [], ◌∷◌, length, Bool, true, Some, slice_get, Vec, arith}
+use Rattle.std.proofs.lemmas.Option.{slice_get_within}
+use Rattle.std.specs.declared.alloc.Global.{Global}
+use Rattle.hc_dfa.specs.Automata.{Automaton, next_state, accepts_from, accepts}
+use Rattle.hc_dfa.specs.Machines.{Steps, PathToFinal, AcceptsPathsOf}
+use Rattle.hc_dfa.specs.Machines.PathToFinal.{ends, silently, by_byte}
+use Rattle.hc_dfa.specs.Sets.{Has, IsSetOf, SilentPath, IsClosure, IsProper, IsStep, IsMark, IsSameSet, SetsExplored}
+use Rattle.hc_dfa.specs.Sets.SilentPath.{stays, goes_on}
+use Rattle.hc_dfa.specs.Texts.{IsText}
+use Rattle.hc_dfa.proofs.Rows.{Marked, mark_at, leads_at}
+
+abbrev pub SetsMarked : Steps → List (Vec Bool Global) → List Bool → Type 0
+SetsMarked m sets finals = Marked (λ set answer. IsMark m.finals set.items answer) sets finals
+
+-- Each set has a row and a mark.
+pub record AllSets (m : Steps) (sets : List (Vec Bool Global)) (made : Automaton) : Type 0 where
+  pub explored : SetsExplored m sets made.next
+  pub marked : SetsMarked m sets made.finals
+  pub whole : length made.next ≡ 256 * length made.finals
+  pub all : length sets ≤ length made.finals
+
+-- A silent path in front of a path.
+pub after_silent : (m : Steps) (from : ℕ) {state : ℕ} (text : List ℕ) → SilentPath m from state → PathToFinal m state text → PathToFinal m from text
+after_silent m from text stays path = path
+after_silent m from text (goes_on silent step) path = after_silent m from text silent (silently step path)
+
+module _ (m : Steps) (sets : List (Vec Bool Global)) (made : Automaton) (is : AllSets m sets made) where
+  mark_here : (state : ℕ) (set : Vec Bool Global) → slice_get sets state ≡ Some set → IsMark m.finals set.items (accepts_from made state [])
+  mark_here state set at =
+      mark_at (λ set answer. IsMark m.finals set.items answer) sets made.finals state set is.marked (let w = slice_get_within sets state set at in omega (arith, is.all)) at
+
+  step_here : (state byte : ℕ) (set : Vec Bool Global) → slice_get sets state ≡ Some set → byte < 256
+      → (to : Vec Bool Global) × (slice_get sets (next_state made state byte) ≡ Some to) × IsStep m set.items byte to.items
+  step_here state byte set at below =
+      leads_at IsSameSet (λ set. IsProper m set.items) (λ from byte to. IsStep m from.items byte to.items) sets made.next state byte set is.explored at
+      (let w = slice_get_within sets state set at in omega (arith, is.all, is.whole, below)) below
+
+  -- What a set accepts, a path from one of its states reads.
+  pub to_path : (text : List ℕ) (state : ℕ) (set : Vec Bool Global) → slice_get sets state ≡ Some set → IsText text → accepts_from made state text ≡ true
+      → (from : ℕ) × Has set.items from × PathToFinal m from text
+  to_path [] state set at bytes accepted = let found = (mark_here state set at).found accepted in (found.0, found.1, ends found.2)
+  to_path (byte ∷ text) state set at bytes accepted =
+      let to = step_here state byte set at bytes.0 in
+      let later = to_path text (next_state made state byte) to.0 to.1 bytes.1 accepted in
+      let closed = to.2.closes.sound later.0 later.1 in
+      let read = to.2.reads.sound closed.0 closed.1 in
+      (read.0, read.1, by_byte read.2 (after_silent m closed.0 text closed.2 later.2))
+
+  -- A set accepts what a path from one of its states reads.
+  pub from_path : {text : List ℕ} {from : ℕ} (state : ℕ) (set : Vec Bool Global) → slice_get sets state ≡ Some set → IsText text → Has set.items from
+      → PathToFinal m from text → accepts_from made state text ≡ true
+  from_path {from = from} state set at bytes has (ends final) = (mark_here state set at).none from has final
+  from_path {from = from} state set at bytes has (silently {next = next} step path) =
+      from_path state set at bytes ((is.explored.proper state set at).closed from next has step) path
+  from_path {from = from} state set at bytes has (by_byte {next = next} {byte = byte} step path) =
+      let to = step_here state byte set at bytes.0 in
+      from_path (next_state made state byte) to.0 to.1 bytes.1 (to.2.closes.keeps next (to.2.reads.complete from next has step)) path
+
+  pub determined : (starts : List Bool) (first : Vec Bool Global) → IsSetOf m.states m.starts starts → IsClosure m starts first.items
+      → slice_get sets 0 ≡ Some first → AcceptsPathsOf m made
+  unfolding accepts
+  determined starts first set closure at text bytes = (
+    (λ accepted.
+        let path = to_path text 0 first at bytes accepted in
+        let closed = closure.sound path.0 path.1 in
+        record { start = closed.0; among = set.sound closed.0 closed.1; path = after_silent m closed.0 text closed.2 path.2 }),
+    (λ path. from_path 0 first at bytes (closure.keeps path.start (set.complete path.start path.among)) path.path),
+  )

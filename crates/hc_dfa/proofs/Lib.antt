@@ -1,0 +1,11 @@
+pub mod Runs
+pub mod Rows
+pub mod Pairs
+pub mod Nearest
+pub mod Outside
+pub mod Closures
+pub mod Determined
+pub mod Replaced
+pub mod Merged
+pub mod Alone
+pub mod Found

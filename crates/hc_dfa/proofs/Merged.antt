@@ -1,0 +1,87 @@
+-- Automata whose states with the same test are made one.
+use Rattle.std.proofs.Common.{◌≡◌, ℕ, ◌-◌, ◌⊎◌, inl, inr, [], ◌∷◌, ◌++◌, length-append, ◌+◌, ◌*◌, ◌<◌, List, length, slice_index, Bool, true, false, ◌&&◌, refl, sym, ◌∙◌, ap, subst, arith, Some, slice_get, ◌≤◌, Vec}
+use Rattle.std.proofs.lemmas.List.{get_or_append_left}
+use Rattle.std.proofs.Math.Seq.{get_or-append_seam}
+use Rattle.std.proofs.lemmas.Option.{slice_get_within}
+use Rattle.std.specs.declared.alloc.Global.{Global}
+use Rattle.hc_dfa.specs.Automata.{Automaton, states, next_state, accepts}
+use Rattle.hc_dfa.specs.Blocks.{RespectsFinals, Refines, IsStable, AreLeaders, IsSignature, Represents, RepresentsBelow, block_on}
+use Rattle.hc_dfa.specs.Built.{Accepts, product_of}
+use Rattle.hc_dfa.specs.declared.products.Keep.TheVariants.{Both}
+use Rattle.hc_dfa.proofs.Runs.{IsAutomaton, next_within, simulated}
+
+pub refined_finals : (a : Automaton) (blocks finer : List ℕ) → Refines a blocks finer → RespectsFinals a blocks → RespectsFinals a finer
+refined_finals a blocks finer refines finals s t sb tb same = finals s t sb tb (refines.own s t sb tb same)
+
+pub stable : (a : Automaton) (blocks finer : List ℕ) → Refines a blocks finer → RespectsFinals a blocks → finer ≡ blocks → IsStable a finer
+stable a blocks finer refines finals e = record {
+  len = refines.len;
+  bound = refines.bound;
+  finals = refined_finals a blocks finer refines finals;
+  steps = λ s t byte sb tb same b. subst (λ (xs : List ℕ). block_on a xs s byte ≡ block_on a xs t byte) (sym e) (refines.steps s t byte sb tb same b);
+}
+
+pub merged : (a made : Automaton) (blocks leaders : List ℕ) → IsAutomaton a → IsStable a blocks → AreLeaders (states a) blocks leaders
+    → ((cell : ℕ) → cell < 256 * states a → slice_index made.next cell ≡ slice_index leaders (slice_index blocks (slice_index a.next cell)))
+    → made.finals ≡ a.finals → Accepts made (accepts a)
+unfolding accepts
+merged a made blocks leaders is stable leads each finals text bytes =
+    simulated a made (λ answer. answer) (λ s t. (s < states a) × (t < states a) × (slice_index blocks s ≡ slice_index blocks t))
+    (λ s t byte r b.
+    let sn = next_within a is s byte r.0 b in
+    let tn = next_within a is t byte r.1 b in
+    let cell = each (256 * t + byte) (let h = r.1 in omega arith) in
+    let target = leads.bound (block_on a blocks t byte) (stable.bound (next_state a t byte) tn) in (
+      sn,
+      subst (λ (x : ℕ). x < states a) (sym cell) target,
+      (stable.steps s t byte r.0 r.1 r.2 b ∙ (sym (leads.block (next_state a t byte) tn) ∙ ap (λ (x : ℕ). slice_index blocks x) (sym cell))),
+    ))
+    (λ s t r. rw finals (sym (stable.finals s t r.0 r.1 r.2)))
+    0 0 text (is.some, is.some, refl) bytes
+
+both_same : (answer : Bool) → (answer && answer) ≡ answer
+both_same true = refl
+both_same false = refl
+
+pub reduced : (a met merged made : Automaton) → Accepts met (product_of Both a a) → Accepts merged (accepts met) → Accepts made (product_of Both merged merged) → Accepts made (accepts a)
+reduced a met merged made first second third text bytes =
+    third text bytes ∙ (both_same (accepts merged text) ∙ (second text bytes ∙ (first text bytes ∙ both_same (accepts a text))))
+
+-- Each state's number is that of its signature.
+abbrev pub AreNumbered : Automaton → List ℕ → List ℕ → List (Vec ℕ Global) → ℕ → ℕ → Type 0
+AreNumbered a bytes blocks signatures state number = (signature : Vec ℕ Global) × (slice_get signatures number ≡ Some signature) × IsSignature a bytes blocks state signature.items
+
+pub refines : (a : Automaton) (bytes blocks finer : List ℕ) (signatures : List (Vec ℕ Global)) → Represents a bytes → length finer ≡ states a → length signatures ≤ states a
+    → ((s : ℕ) → s < states a → AreNumbered a bytes blocks signatures s (slice_index finer s)) → Refines a blocks finer
+refines a bytes blocks finer signatures represents len few each = record {
+  len = len;
+  bound = λ s sb. let e = each s sb in let w = slice_get_within signatures (slice_index finer s) e.0 e.1 in omega arith;
+  own = λ s t sb tb same. sym (each s sb).2.block ∙ (ap (λ (v : Vec ℕ Global). slice_index v.items (length bytes)) (one s t sb tb same) ∙ (each t tb).2.block);
+  steps = λ s t byte sb tb same b.
+      let r = represents byte b in
+      ap (λ (x : ℕ). slice_index blocks x) (r.2 s sb) ∙ (sym ((each s sb).2.steps r.0 r.1)
+      ∙ (ap (λ (v : Vec ℕ Global). slice_index v.items r.0) (one s t sb tb same) ∙ ((each t tb).2.steps r.0 r.1 ∙ ap (λ (x : ℕ). slice_index blocks x) (sym (r.2 t tb)))));
+}
+  where
+    one : (s t : ℕ) (sb : s < states a) (tb : t < states a) → slice_index finer s ≡ slice_index finer t → (each s sb).0 ≡ (each t tb).0
+    one s t sb tb same = let x = (each s sb).1 in let y = (each t tb).1 in cc
+
+-- A byte that leads each state where the byte before leads it is represented.
+pub represents_same : (a : Automaton) (byte : ℕ) (bytes : List ℕ) → RepresentsBelow a byte bytes → 0 < byte → ((s : ℕ) → s < states a → next_state a s byte ≡ next_state a s (byte - 1))
+    → RepresentsBelow a (byte + 1) bytes
+represents_same a byte bytes is more same other below =
+    let cases : (other < byte) ⊎ (other ≡ byte) = grind arith in
+    elim cases [
+      | inl old ↦ is other old
+      | inr e ↦ (let r = is (byte - 1) (omega arith) in (r.0, r.1, λ s sb. ap (λ x. next_state a s x) e ∙ (same s sb ∙ r.2 s sb)))
+    ]
+
+-- A byte that is added represents itself.
+pub represents_itself : (a : Automaton) (byte : ℕ) (bytes : List ℕ) → RepresentsBelow a byte bytes → RepresentsBelow a (byte + 1) (bytes ++ byte ∷ [])
+represents_itself a byte bytes is other below =
+    let cases : (other < byte) ⊎ (other ≡ byte) = grind arith in
+    let len = length-append bytes (byte ∷ []) in
+    elim cases [
+      | inl old ↦ (let r = is other old in (r.0, omega (arith, r.1), λ s sb. r.2 s sb ∙ ap (λ x. next_state a s x) (sym (get_or_append_left bytes (byte ∷ []) 0 r.0 r.1))))
+      | inr e ↦ (length bytes, omega arith, λ s sb. ap (λ x. next_state a s x) (e ∙ sym (get_or-append_seam bytes byte [] 0)))
+    ]

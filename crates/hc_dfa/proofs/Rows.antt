@@ -1,0 +1,166 @@
+-- Automata that are built row by row from keys.
+use Rattle.std.proofs.Common.{◌≡◌, ℕ, ◌+◌, ◌*◌, ◌/◌, ◌%◌, ◌<◌, ◌≤◌, List, [], ◌∷◌, ◌++◌, length, get_or, Some, None, slice_get, slice_index, refl, sym, ◌∙◌, ap, subst, arith, inl, inr, ◌⊎◌, Bool, true, false, ◌^◌, if◌then◌else◌, length-append}
+use Rattle.std.proofs.lemmas.Grind.{common_steps}
+use Rattle.std.proofs.lemmas.Nat.{div-mul-add, mod-mul-add}
+use Rattle.std.proofs.lemmas.List.{get_or_append_left}
+use Rattle.std.specs.List.{list_any}
+use Rattle.std.specs.Cmp.Lexicographic.{pointwise}
+use Rattle.std.proofs.Math.Bool.{beq}
+use Rattle.indexmap.specs.IndexSet.{insert_key}
+use Rattle.std.proofs.Math.Seq.{get_or-append_seam}
+use Rattle.std.proofs.lemmas.Option.{slice_get_within, slice_get-get_or, slice_get_cases, get_or_from_slice_get}
+use Rattle.hc_dfa.specs.Automata.{IsTable}
+use Rattle.hc_dfa.specs.Explored.{Extends, IsMet, Leads, Explored}
+
+-- Where no key stands, the keys have ended.
+pub keys_ended : {K : Type 0} (keys : List K) (i : ℕ) → slice_get keys i ≡ None → length keys ≤ i
+keys_ended keys i none = elim (slice_get_cases keys i).1 [ inl here ↦ (let found = here.2 in absurd (cc)) | inr past ↦ past.0 ]
+
+-- A key that a set of keys took in.
+pub met_inserted : {K : Type 0} (eq : K → K → Bool) (Same : K → K → Type 0) → ((x y : K) → eq x y ≡ true → Same x y) → (keys : List K) (key : K) (more : List K) (number : ℕ)
+    → more ≡ insert_key eq keys key → (k : K) × (slice_get more number ≡ Some k) × (eq key k ≡ true) → IsMet Same keys key more number
+met_inserted {K} eq Same law keys key more number inserted stored =
+    record {
+      to = stored.0;
+      stored = stored.1;
+      same = law key stored.0 stored.2;
+      len = len (list_any (eq key) keys) inserted;
+      extends = λ i k at. extends (list_any (eq key) keys) inserted i k at;
+      only = λ i k at. only (list_any (eq key) keys) inserted i k at;
+    }
+  where
+    len : (had : Bool) → more ≡ (if had then keys else keys ++ key ∷ []) → length more ≤ length keys + 1
+    len true e = rw e (omega arith)
+    len false e = rw (e, length-append) (omega arith)
+
+    extends : (had : Bool) → more ≡ (if had then keys else keys ++ key ∷ []) → Extends keys more
+    extends true e i k at = rw e at
+    extends false e i k at =
+        let within = slice_get_within keys i k at in
+        rw e (slice_get-get_or (keys ++ key ∷ []) i k (omega (arith, length-append keys (key ∷ []))) ∙ (ap Some (get_or_append_left keys (key ∷ []) k i within) ∙ (sym (slice_get-get_or keys i k within) ∙ at)))
+
+    only : (had : Bool) → more ≡ (if had then keys else keys ++ key ∷ []) → (i : ℕ) (k : K) → slice_get more i ≡ Some k → (slice_get keys i ≡ Some k) ⊎ (k ≡ key)
+    only true e i k at = inl (rw e at at)
+    only false e i k at =
+        let here = rw e at at in
+        let within = slice_get_within (keys ++ key ∷ []) i k here in
+        let is = get_or_from_slice_get (keys ++ key ∷ []) i k k here in
+        let cases : (i < length keys) ⊎ (i ≡ length keys) = (let l = length-append keys (key ∷ []) in grind arith) in
+        elim cases [
+          | inl old ↦ inl (slice_get-get_or keys i k old ∙ (ap Some (sym (get_or_append_left keys (key ∷ []) k i old) ∙ is)))
+          | inr last ↦ inr (sym is ∙ rw last (get_or-append_seam keys key [] k))
+        ]
+
+-- Two lists of marks that compare as equal are one.
+pub same_marks : (xs ys : List Bool) → pointwise beq xs ys ≡ true → xs ≡ ys
+same_marks [] [] same = refl
+same_marks [] (y ∷ ys) same = absurd (cc)
+same_marks (x ∷ xs) [] same = absurd (cc)
+same_marks (true ∷ xs) (true ∷ ys) same = ap (λ rest. true ∷ rest) (same_marks xs ys same)
+same_marks (true ∷ xs) (false ∷ ys) same = absurd (cc)
+same_marks (false ∷ xs) (true ∷ ys) same = absurd (cc)
+same_marks (false ∷ xs) (false ∷ ys) same = ap (λ rest. false ∷ rest) (same_marks xs ys same)
+
+module _ {K : Type 0} (Same : K → K → Type 0) (Proper : K → Type 0) (Step : K → ℕ → K → Type 0) where
+  -- A cell that leads on still does when keys are added.
+  pub leads_later : (keys more : List K) (cell number : ℕ) → Extends keys more → Leads Step keys cell number → Leads Step more cell number
+  leads_later keys more cell number extends leads =
+      record { from = leads.from; to = leads.to; from_is = extends (cell / 256) leads.from leads.from_is; to_is = extends number leads.to leads.to_is; step = leads.step }
+
+  -- The new cell leads on by its byte.
+  pub leads_on : (keys : List K) (key to : K) (row byte number cell : ℕ) → slice_get keys row ≡ Some key → slice_get keys number ≡ Some to
+      → cell ≡ row * 256 + byte → byte < 256 → Step key byte to → Leads Step keys cell number
+  leads_on keys key to row byte number cell at stored is below step =
+      let e : cell / 256 ≡ row = ap (λ x. x / 256) is ∙ div-mul-add row 256 byte below in
+      let f : cell % 256 ≡ byte = ap (λ x. x % 256) is ∙ mod-mul-add row 256 byte below in
+      record { from = key; to = to; from_is = rw e at; to_is = stored; step = rw f step }
+
+  -- One more cell: its number is that of the key that its byte leads to.
+  pub explored_cell : (keys more : List K) (key to : K) (next : List ℕ) (row byte number : ℕ)
+      → Explored Proper Step keys next → Extends keys more → ((i : ℕ) (other : K) → slice_get more i ≡ Some other → Proper other)
+      → slice_get keys row ≡ Some key → slice_get more number ≡ Some to
+      → length next ≡ row * 256 + byte → byte < 256 → Step key byte to
+      → Explored Proper Step more (next ++ number ∷ [])
+  explored_cell keys more key to next row byte number is extends proper at stored len below step =
+      record {
+        proper = proper;
+        leads = λ cell cell_below.
+            let cases : (cell < length next) ⊎ (cell ≡ length next) = grind (arith, common_steps) in
+            elim cases [
+              | inl old ↦ rw (get_or_append_left next (number ∷ []) 0 cell old) (leads_later keys more cell (slice_index next cell) extends (is.leads cell old))
+              | inr e ↦ rw (e, get_or-append_seam next number [] 0) (leads_on more key to row byte number (length next) (extends row key at) stored len below step)
+            ];
+      }
+
+  -- The same where the key is met.
+  pub explored_more : (keys more : List K) (key to : K) (next : List ℕ) (row byte number : ℕ)
+      → Explored Proper Step keys next → (met : IsMet Same keys to more number) → slice_get keys row ≡ Some key
+      → length next ≡ row * 256 + byte → byte < 256 → Step key byte met.to → Proper to
+      → Explored Proper Step more (next ++ number ∷ [])
+  explored_more keys more key to next row byte number is met at len below step proper =
+      explored_cell keys more key met.to next row byte number is met.extends
+      (λ i other here. elim (met.only i other here) [ inl old ↦ is.proper i other old | inr e ↦ subst Proper (sym e) proper ])
+      at met.stored len below step
+
+  -- The cell of a key and a byte leads to the key of the step.
+  pub leads_at : (keys : List K) (next : List ℕ) (state byte : ℕ) (key : K) → Explored Proper Step keys next → slice_get keys state ≡ Some key
+      → 256 * state + byte < length next → byte < 256 → (to : K) × (slice_get keys (slice_index next (256 * state + byte)) ≡ Some to) × Step key byte to
+  leads_at keys next state byte key is at within below =
+      let cell : ℕ = 256 * state + byte in
+      let leads = is.leads cell within in
+      let e : cell / 256 ≡ state = ap (λ x. x / 256) (let h : cell ≡ state * 256 + byte = omega arith in h) ∙ div-mul-add state 256 byte below in
+      let f : cell % 256 ≡ byte = ap (λ x. x % 256) (let h : cell ≡ state * 256 + byte = omega arith in h) ∙ mod-mul-add state 256 byte below in
+      let same : leads.from ≡ key = let from = rw e at leads.from_is in cc in
+      (leads.to, leads.to_is, subst (λ (b : ℕ). Step key b leads.to) f (subst (λ (k : K). Step k (cell % 256) leads.to) same leads.step))
+
+  -- The rows and the marks of all keys are a table.
+  pub table : (keys : List K) (next : List ℕ) (finals : List Bool) → Explored Proper Step keys next → length next ≡ 256 * length finals
+      → 0 < length finals → length finals < 2 ^ 32 → length keys ≤ length finals → IsTable next finals
+  table keys next finals is whole some few all =
+      record {
+        some = some;
+        few = few;
+        whole = whole;
+        within = λ cell below. let leads = is.leads cell below in let w = slice_get_within keys (slice_index next cell) leads.to leads.to_is in omega arith;
+      }
+
+  -- The first key that is met stands first, with no row yet.
+  pub explored_first : (keys more : List K) (key : K) (next : List ℕ) (number : ℕ) → keys ≡ [] → next ≡ [] → IsMet Same keys key more number → Proper key
+      → Explored Proper Step more next
+  explored_first keys more key next number none no_rows met proper =
+      record {
+        proper = λ i other here. elim (met.only i other here) [ inl old ↦ (let nothing = rw none at old in absurd (cc)) | inr e ↦ subst Proper (sym e) proper ];
+        leads = λ cell below. let nothing = rw no_rows at below in absurd (omega arith);
+      }
+
+pub first_key : {K : Type 0} (Same : K → K → Type 0) (keys more : List K) (key : K) (number : ℕ) → keys ≡ [] → IsMet Same keys key more number → slice_get more 0 ≡ Some key
+first_key Same keys more key number none met =
+    let within = slice_get_within more number met.to met.stored in
+    let first = slice_get-get_or more 0 key (omega arith) in
+    elim (met.only 0 (get_or more 0 key) first) [ inl old ↦ (let nothing = rw none at old in absurd (cc)) | inr e ↦ first ∙ ap Some e ]
+
+module _ {K : Type 0} (Mark : K → Bool → Type 0) where
+  -- The first keys have these marks.
+  pub Marked : List K → List Bool → Type 0
+  Marked keys marks = (i : ℕ) → i < length marks → (key : K) × (slice_get keys i ≡ Some key) × Mark key (get_or marks i false)
+
+  pub marked_none : (keys : List K) → Marked keys []
+  unfolding Marked
+  marked_none keys i below = absurd (omega arith)
+
+  pub mark_at : (keys : List K) (marks : List Bool) (i : ℕ) (key : K) → Marked keys marks → i < length marks → slice_get keys i ≡ Some key → Mark key (get_or marks i false)
+  unfolding Marked
+  mark_at keys marks i key marked below at =
+      let m = marked i below in
+      let e : m.0 ≡ key = (let f = m.1 in cc) in
+      subst (λ (k : K). Mark k (get_or marks i false)) e m.2
+
+  pub marked_more : (keys more : List K) (marks : List Bool) (count : ℕ) (key : K) (answer : Bool) → Marked keys marks → Extends keys more
+      → length marks ≡ count → slice_get keys count ≡ Some key → Mark key answer → Marked more (marks ++ answer ∷ [])
+  unfolding Marked
+  marked_more keys more marks count key answer marked extends len at is i below =
+      let cases : (i < length marks) ⊎ (i ≡ length marks) = grind (arith, common_steps) in
+      elim cases [
+        | inl old ↦ (let m = marked i old in (m.0, extends i m.0 m.1, rw (get_or_append_left marks (answer ∷ []) false i old) m.2))
+        | inr e ↦ (key, rw (e, len) (extends count key at), rw (e, get_or-append_seam marks answer [] false) is)
+      ]

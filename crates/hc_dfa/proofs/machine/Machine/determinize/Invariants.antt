@@ -1,0 +1,13 @@
+use Rattle.std.proofs.Common.{◌≡◌, ◌*◌, vec_len, slice_get}
+use Rattle.hc_dfa.specs.Sets.{SetsExplored}
+use Rattle.hc_dfa.proofs.Determined.{SetsMarked}
+use Rattle.hc_dfa.proofs.machine.Machine.determinize.Given as goal
+
+abbrev pub invariant-loop-state : goal.invariant-loop-state
+invariant-loop-state l = record {
+  explored : SetsExplored l.self l.sets.keys l.next.items;
+  marked : SetsMarked l.self l.sets.keys l.finals.items;
+  rows : vec_len l.next ≡ 256 * l.state;
+  marks : vec_len l.finals ≡ l.state;
+  start : slice_get l.sets.keys 0 ≡ slice_get l.initial.sets.keys 0;
+}

@@ -1,0 +1,11 @@
+use Rattle.std.proofs.Common.{◌≡◌, ◌≤◌, ℕ, ◌<◌, length, slice_get, slice_index, vec_len, Some, Vec}
+use Rattle.std.specs.declared.alloc.Global.{Global}
+use Rattle.hc_dfa.specs.Blocks.{IsSignature}
+use Rattle.hc_dfa.proofs.reduced.refine.Given as goal
+
+abbrev pub invariant-loop-state : goal.invariant-loop-state
+invariant-loop-state l = record {
+  len : vec_len l.finer ≡ l.state;
+  few : length l.signatures.keys ≤ l.state;
+  each : (s : ℕ) → s < l.state → (signature : Vec ℕ Global) × (slice_get l.signatures.keys (slice_index l.finer.items s) ≡ Some signature) × IsSignature l.a l.bytes l.blocks s signature.items;
+}

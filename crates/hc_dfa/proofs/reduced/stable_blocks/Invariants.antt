@@ -1,0 +1,7 @@
+use Rattle.std.proofs.Common.{◌≡◌, length}
+use Rattle.hc_dfa.specs.Automata.{states}
+use Rattle.hc_dfa.specs.Blocks.{RespectsFinals}
+use Rattle.hc_dfa.proofs.reduced.stable_blocks.Given as goal
+
+abbrev pub invariant-loop-round : goal.invariant-loop-round
+invariant-loop-round l = record { len : length l.blocks.items ≡ states l.a; finals : RespectsFinals l.a l.blocks.items }

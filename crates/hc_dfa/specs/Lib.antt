@@ -1,0 +1,11 @@
+pub mod Automata
+pub mod Blocks
+pub mod Built
+pub mod Distances
+pub mod Explored
+pub mod Images
+pub mod Machines
+pub mod Pairs
+pub mod Sets
+pub mod Singles
+pub mod Texts

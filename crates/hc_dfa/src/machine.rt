@@ -1,0 +1,146 @@
+ghost use Rattle.std.specs.Prelude.{◌≡◌, ℕ, ◌+◌, ◌^◌, ◌<◌, [], ◌∷◌, ◌++◌, OnOk, OnErr, IfOk};
+ghost use Rattle.hc_dfa.specs.Machines.{IsMachine};
+
+use hc_base::NoMemory;
+use std::alloc::Global;
+use std::marker::Model;
+
+/// A step from a state to a state by any byte from the low to the high one.
+#[derive(Clone, Copy, Debug, Drop)]
+pub struct ReadingStep {
+    pub from: u32,
+    pub low: u8,
+    pub high: u8,
+    pub to: u32,
+}
+
+/// A step from a state to a state that reads nothing.
+#[derive(Clone, Copy, Debug, Drop)]
+pub struct SilentStep {
+    pub from: u32,
+    pub to: u32,
+}
+
+/// A machine whose steps read a byte or are silent, and may lead from a state to many. It stands for
+/// the texts that some path from a start to a final state reads.
+#[derive(Debug, Drop)]
+pub struct Machine {
+    states: u32,
+    reading: Vec<ReadingStep>,
+    silent: Vec<SilentStep>,
+    starts: Vec<u32>,
+    finals: Vec<u32>,
+}
+
+impl Model for Machine {
+    ghost use Rattle.hc_dfa.specs.Machines.{Steps, IsMachine};
+
+    ghost Value = { Steps };
+
+    ghost view = { λ m. record { states = m.states; reading = m.reading.items; silent = m.silent.items; starts = m.starts.items; finals = m.finals.items } };
+
+    ghost invariant = { λ m. IsMachine (record { states = m.states; reading = m.reading.items; silent = m.silent.items; starts = m.starts.items; finals = m.finals.items }) };
+}
+
+impl Machine {
+    /// A machine with this many states and no steps, which takes no memory.
+    pub fn new(alloc: Global, states: u32) -> Machine
+        ensures { result ≡ record { states = states; reading = []; silent = []; starts = []; finals = [] } }
+    {
+        Machine {
+            states,
+            reading: Vec::new(alloc),
+            silent: Vec::new(alloc),
+            starts: Vec::new(alloc),
+            finals: Vec::new(alloc),
+        }
+    }
+
+    /// A new state. Its number is how many there were; a `u32` numbers them.
+    pub fn add_state(&mut self) -> Result<u32, NoMemory>
+        ensures number { IfOk result (λ state. state ≡ self.old.states) }
+        ensures ok { OnOk result (self.new ≡ record self.old { states = self.old.states + 1 }) }
+        ensures full { OnErr result (self.old.states + 1 ≡ 2 ^ 32) }
+        ensures err { OnErr result (self.new ≡ self.old) }
+    {
+        let state = self.states;
+        if state == u32::MAX {
+            return Err(NoMemory);
+        }
+        self.states = state + 1;
+        Ok(state)
+    }
+
+    /// Adds a reading step.
+    pub fn add_step(&mut self, step: ReadingStep) -> Result<(), NoMemory>
+        requires from { step.from < self.old.states }
+        requires to { step.to < self.old.states }
+        ensures ok { OnOk result (self.new ≡ record self.old { reading = self.old.reading ++ step ∷ [] }) }
+        ensures err { OnErr result (self.new ≡ self.old) }
+    {
+        self.reading.push(step)?;
+        Ok(())
+    }
+
+    /// Adds a silent step.
+    pub fn add_silent(&mut self, step: SilentStep) -> Result<(), NoMemory>
+        requires from { step.from < self.old.states }
+        requires to { step.to < self.old.states }
+        ensures ok { OnOk result (self.new ≡ record self.old { silent = self.old.silent ++ step ∷ [] }) }
+        ensures err { OnErr result (self.new ≡ self.old) }
+    {
+        self.silent.push(step)?;
+        Ok(())
+    }
+
+    /// Makes a state a start.
+    pub fn add_start(&mut self, state: u32) -> Result<(), NoMemory>
+        requires { state < self.old.states }
+        ensures ok { OnOk result (self.new ≡ record self.old { starts = self.old.starts ++ state ∷ [] }) }
+        ensures err { OnErr result (self.new ≡ self.old) }
+    {
+        self.starts.push(state)?;
+        Ok(())
+    }
+
+    /// Makes a state final.
+    pub fn add_final(&mut self, state: u32) -> Result<(), NoMemory>
+        requires { state < self.old.states }
+        ensures ok { OnOk result (self.new ≡ record self.old { finals = self.old.finals ++ state ∷ [] }) }
+        ensures err { OnErr result (self.new ≡ self.old) }
+    {
+        self.finals.push(state)?;
+        Ok(())
+    }
+
+    pub fn states(&self) -> u32
+        ensures value { result ≡ self.now.states }
+        ensures machine { IsMachine self.now }
+    {
+        self.states
+    }
+
+    pub fn reading(&self) -> &[ReadingStep]
+        ensures { result.now ≡ self.now.reading }
+    {
+        &self.reading
+    }
+
+    pub fn silent(&self) -> &[SilentStep]
+        ensures { result.now ≡ self.now.silent }
+    {
+        &self.silent
+    }
+
+    pub fn starts(&self) -> &[u32]
+        ensures { result.now ≡ self.now.starts }
+    {
+        &self.starts
+    }
+
+    pub fn finals(&self) -> &[u32]
+        ensures { result.now ≡ self.now.finals }
+    {
+        &self.finals
+    }
+}

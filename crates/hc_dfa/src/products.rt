@@ -1,0 +1,74 @@
+ghost use Rattle.std.specs.Prelude.{◌≡◌, ℕ, ◌+◌, ◌*◌, ◌<◌, Some, slice_get, length, vec_len, IfOk, OnOk};
+ghost use Rattle.hc_dfa.specs.Automata.{accepts, IsTable};
+ghost use Rattle.hc_dfa.specs.Built.{Accepts, kept, product_of};
+ghost use Rattle.hc_dfa.specs.Explored.{Extends};
+ghost use Rattle.hc_dfa.specs.Pairs.{IsPair, PairsExplored};
+
+use crate::Dfa;
+use crate::dfa::BYTES;
+use crate::numbers::number_of;
+use hc_base::NoMemory;
+use indexmap::IndexSet;
+use std::alloc::Global;
+
+/// What a product keeps: the texts of both sets, of either, or of the first that aren't in the second.
+#[derive(Clone, Copy, Debug, PartialEq, Eq)]
+pub enum Keep {
+    Both,
+    Either,
+    FirstOnly,
+}
+
+impl Keep {
+    fn keeps(self, in_first: bool, in_second: bool) -> bool
+        ensures { result ≡ kept self in_first in_second }
+    {
+        match self {
+            Keep::Both => in_first && in_second,
+            Keep::Either => in_first || in_second,
+            Keep::FirstOnly => in_first && !in_second,
+        }
+    }
+}
+
+/// The automaton of what is kept of two sets. It has the pairs of states that are met from the start on.
+pub fn product(alloc: Global, a: &Dfa, b: &Dfa, keep: Keep) -> Result<Dfa, NoMemory>
+    ensures { IfOk result (λ made. Accepts made (product_of keep a.now b.now)) }
+{
+    let mut pairs = IndexSet::new(alloc);
+    number_of(&mut pairs, (a.start(), b.start()))?;
+    let mut next = Vec::new(alloc);
+    let mut finals = Vec::new(alloc);
+    for state in 0..u32::MAX {
+        let Some(pair) = pairs.get_index(state as usize).copied() else {
+            return Ok(Dfa::made(next, finals));
+        };
+        add_row(&mut next, &mut pairs, a, b, pair)?;
+        finals.push(keep.keeps(a.is_final(pair.0), b.is_final(pair.1)))?;
+    }
+    Err(NoMemory)
+}
+
+/// Adds the row of a pair of states, and the pairs that it meets.
+fn add_row(
+    next: &mut Vec<u32>,
+    pairs: &mut IndexSet<(u32, u32)>,
+    a: &Dfa,
+    b: &Dfa,
+    pair: (u32, u32),
+) -> Result<(), NoMemory>
+    requires explored { PairsExplored a.now b.now pairs.old.keys next.old.items }
+    requires row { (row : ℕ) × (slice_get pairs.old.keys row ≡ Some pair) × (vec_len next.old ≡ 256 * row) }
+    ensures explored { OnOk result (PairsExplored a.now b.now pairs.new.keys next.new.items) }
+    ensures len { OnOk result (vec_len next.new ≡ vec_len next.old + 256) }
+    ensures extends { OnOk result (Extends pairs.old.keys pairs.new.keys) }
+{
+    for byte in 0..BYTES {
+        let target = (
+            a.next_state(pair.0, byte as u8),
+            b.next_state(pair.1, byte as u8),
+        );
+        next.push(number_of(pairs, target)?)?;
+    }
+    Ok(())
+}

@@ -1,0 +1,142 @@
+ghost use Rattle.std.specs.Prelude.{◌≡◌, ℕ, false, ◌-◌, ◌<◌, ◌^◌, length, slice_index, IfOk};
+ghost use Rattle.hc_dfa.specs.Automata.{accepts, next_state, states};
+ghost use Rattle.hc_dfa.specs.Blocks.{IsSignature, IsStable, AreLeaders, Refines, Represents, RespectsFinals};
+ghost use Rattle.hc_dfa.specs.Built.{Accepts};
+
+use crate::dfa::BYTES;
+use crate::numbers::number_of_list;
+use crate::{Dfa, Keep, product};
+use hc_base::NoMemory;
+use indexmap::IndexSet;
+use std::alloc::Global;
+
+/// The automaton with the same test that has the fewest states: of those that can be reached, the
+/// ones with the same test are made one. That they are the fewest is tested, and no contract says it.
+#[tactic(auto, using(crate::proofs::Merged::reduced))]
+pub fn reduce(alloc: Global, a: &Dfa) -> Result<Dfa, NoMemory>
+    ensures { IfOk result (λ made. Accepts made (accepts a.now)) }
+{
+    let met = product(alloc, a, a, Keep::Both)?;
+    let merged = merge(alloc, &met)?;
+    let reduced = product(alloc, &merged, &merged, Keep::Both)?;
+    Ok(reduced)
+}
+
+/// The same automaton, with each step led to the first state of its block.
+#[tactic(auto, using(crate::proofs::Merged::merged))]
+fn merge(alloc: Global, a: &Dfa) -> Result<Dfa, NoMemory>
+    ensures { IfOk result (λ made. Accepts made (accepts a.now)) }
+{
+    let cells = a.states() as usize * BYTES;
+    let blocks = stable_blocks(alloc, a)?;
+    let leaders = leaders_of(alloc, &blocks)?;
+    let mut next = Vec::new(alloc);
+    for cell in 0..cells {
+        let target = a.next_state((cell / BYTES) as u32, (cell % BYTES) as u8);
+        next.push(leaders[blocks[target as usize] as usize])?;
+    }
+    Ok(Dfa::made(next, a.finals().to_vec(alloc)?))
+}
+
+/// The first state of each block.
+fn leaders_of(alloc: Global, blocks: &[u32]) -> Result<Vec<u32>, NoMemory>
+    requires some { 0 < length blocks.now }
+    requires few { length blocks.now < 2 ^ 32 }
+    requires bound { (s : ℕ) → s < length blocks.now → slice_index blocks.now s < length blocks.now }
+    ensures { IfOk result (λ leaders. AreLeaders (length blocks.now) blocks.now leaders.items) }
+{
+    let mut leaders = vec![in alloc; 0; blocks.len()]?;
+    for later in 0..blocks.len() {
+        let state = blocks.len() - 1 - later;
+        leaders[blocks[state] as usize] = state as u32;
+    }
+    Ok(leaders)
+}
+
+/// The coarsest partition of the states that respects finals and steps.
+fn stable_blocks(alloc: Global, a: &Dfa) -> Result<Vec<u32>, NoMemory>
+    ensures { IfOk result (λ blocks. IsStable a.now blocks.items) }
+{
+    let bytes = representatives(alloc, a)?;
+    let mut blocks = by_finals(alloc, a)?;
+    for _round in 0..u32::MAX {
+        let finer = refine(alloc, a, &bytes, &blocks)?;
+        if finer == blocks {
+            return Ok(finer);
+        }
+        blocks = finer;
+    }
+    Err(NoMemory)
+}
+
+fn by_finals(alloc: Global, a: &Dfa) -> Result<Vec<u32>, NoMemory>
+    ensures len { IfOk result (λ blocks. length blocks.items ≡ states a.now) }
+    ensures finals { IfOk result (λ blocks. RespectsFinals a.now blocks.items) }
+{
+    let mut blocks = Vec::new(alloc);
+    for state in 0..a.states() {
+        blocks.push(a.is_final(state) as u32)?;
+    }
+    Ok(blocks)
+}
+
+/// The first byte, and each that leads some state elsewhere than the byte before it.
+fn representatives(alloc: Global, a: &Dfa) -> Result<Vec<u8>, NoMemory>
+    ensures { IfOk result (λ bytes. Represents a.now bytes.items) }
+{
+    let mut bytes = Vec::new(alloc);
+    for byte in 0..BYTES {
+        if byte > 0 && !differs(a, byte as u8) {
+            continue;
+        }
+        bytes.push(byte as u8)?;
+    }
+    Ok(bytes)
+}
+
+/// Whether a byte leads some state elsewhere than the byte before it.
+fn differs(a: &Dfa, byte: u8) -> bool
+    requires { 0 < byte }
+    ensures { result ≡ false → (s : ℕ) → s < states a.now → next_state a.now s byte ≡ next_state a.now s (byte - 1) }
+{
+    for state in 0..a.states() {
+        if a.next_state(state, byte) != a.next_state(state, byte - 1) {
+            return true;
+        }
+    }
+    false
+}
+
+/// Tells apart the states of a block that a byte leads to different blocks.
+fn refine(alloc: Global, a: &Dfa, bytes: &[u8], blocks: &[u32]) -> Result<Vec<u32>, NoMemory>
+    requires bytes { Represents a.now bytes.now }
+    requires len { length blocks.now ≡ states a.now }
+    ensures { IfOk result (λ finer. Refines a.now blocks.now finer.items) }
+{
+    let mut signatures = IndexSet::new(alloc);
+    let mut finer = Vec::new(alloc);
+    for state in 0..a.states() {
+        let signature = signature(alloc, a, bytes, blocks, state)?;
+        finer.push(number_of_list(&mut signatures, signature)?)?;
+    }
+    Ok(finer)
+}
+
+fn signature(
+    alloc: Global,
+    a: &Dfa,
+    bytes: &[u8],
+    blocks: &[u32],
+    state: u32,
+) -> Result<Vec<u32>, NoMemory>
+    requires len { length blocks.now ≡ states a.now }
+    requires state { state < states a.now }
+    ensures { IfOk result (λ signature. IsSignature a.now bytes.now blocks.now state signature.items) }
+{
+    let mut signature = Vec::new(alloc);
+    for byte in bytes {
+        signature.push(blocks[a.next_state(state, *byte) as usize])?;
+    }
+    signature.push(blocks[state as usize])?;
+    Ok(signature)
+}
