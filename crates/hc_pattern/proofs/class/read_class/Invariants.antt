@@ -1,0 +1,10 @@
+use Rattle.std.proofs.Common.{◌≡◌, ◌+◌, drop, true}
+use Rattle.std.specs.Prelude.{map}
+use Rattle.hc_pattern.specs.Classes.{class_from}
+use Rattle.hc_pattern.specs.ClassViews.{placed_view}
+use Rattle.hc_pattern.proofs.ClassLemmas.{onto}
+use Rattle.hc_pattern.proofs.class.read_class.Given as goal
+
+abbrev pub invariant-loop-i : goal.invariant-loop-i
+invariant-loop-i l =
+    onto (map placed_view l.members.items) l.i (class_from l.passed l.first (l.from + l.i) (drop l.i l.text)) ≡ class_from 0 true l.from l.text

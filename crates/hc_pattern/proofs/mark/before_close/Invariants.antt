@@ -1,0 +1,7 @@
+use Rattle.std.proofs.Common.{◌≡◌, ◌++◌, take, drop}
+use Rattle.std.specs.Prelude.{option_map}
+use Rattle.hc_pattern.specs.Globs.{before_close}
+use Rattle.hc_pattern.proofs.mark.before_close.Given as goal
+
+abbrev pub invariant-loop-i : goal.invariant-loop-i
+invariant-loop-i l = option_map (λ more. take l.i l.marks ++ more) (before_close (drop l.i l.marks)) ≡ before_close l.marks

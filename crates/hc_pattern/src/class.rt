@@ -1,0 +1,248 @@
+ghost use Rattle.std.specs.Prelude.{◌≡◌, ℕ, ◌<◌, ◌≤◌, ◌+◌, ◌||◌, ◌&&◌, ◌∷◌, [], Bool, true, IfOk, MatchOption, length, map, not, ◌==◌, option_map};
+ghost use Rattle.hc_pattern.specs.Bits.{set_where};
+ghost use Rattle.hc_pattern.specs.Classes.{class_from, class_test, folded, is_hyphen, is_in_part, is_in_ranges, joined, part_of, part_refusal, parts_of, parts_refusal};
+ghost use Rattle.hc_pattern.specs.Signs.{bracket_close};
+ghost use Rattle.hc_pattern.specs.ClassViews.{class_view, part_view, placed_view};
+ghost use Rattle.std.specs.List.{list_any};
+ghost use Rattle.hc_pattern.specs.MemberViews.{member_view};
+
+use crate::ByteSet;
+use crate::glob::of_range;
+use crate::member::{Member, member_at};
+use hc_base::codes::PATTERN_SYNTAX;
+use hc_base::{AtByte, NoMemory};
+use std::alloc::Global;
+
+/// A member of a class at its place.
+#[derive(Clone, Copy)]
+pub struct Placed {
+    pub at: u32,
+    pub member: Member,
+}
+
+/// The members of a class up to its `]` or to the end of the text, whether it is closed, and how many
+/// bytes they and the `]` are.
+#[derive(Drop)]
+pub struct Class {
+    pub members: Vec<Placed>,
+    pub closed: bool,
+    pub length: usize,
+}
+
+/// A part of a class: a range, which may be of one byte, a set, or what is refused.
+#[derive(Clone, Copy)]
+pub enum Part {
+    Range { at: u32, first: u8, last: u8 },
+    Set(&'static [(u8, u8)]),
+    Broken(AtByte),
+}
+
+fn part_of(placed: Placed) -> Part
+    ensures { part_view result ≡ part_of (placed_view placed) }
+{
+    let at = placed.at;
+    match placed.member {
+        Member::One(byte) => Part::Range {
+            at,
+            first: byte,
+            last: byte,
+        },
+        Member::Many(ranges) => Part::Set(ranges),
+        Member::Hyphen => Part::Range {
+            at,
+            first: b'-',
+            last: b'-',
+        },
+        Member::Refused(refusal) => Part::Broken(refusal),
+    }
+}
+
+fn is_hyphen(member: Member) -> bool
+    ensures { result ≡ is_hyphen (member_view member) }
+{
+    matches!(member, Member::Hyphen)
+}
+
+// A range from the first part to the third, where these are bytes and a hyphen stands between them.
+fn joined(first: Part, hyphen: bool, third: Part) -> Option<Part>
+    ensures { option_map part_view result ≡ joined (part_view first) hyphen (part_view third) }
+{
+    match (first, hyphen, third) {
+        (Part::Range { at, first, .. }, true, Part::Range { first: last, .. }) => {
+            Some(Part::Range { at, first, last })
+        }
+        _ => None,
+    }
+}
+
+// The first part of these members, and the members behind it.
+fn next_part(members: &[Placed]) -> Option<(Part, &[Placed])>
+    ensures value { MatchOption result (parts_of (map placed_view members.now) ≡ [])
+        (λ p. parts_of (map placed_view members.now) ≡ part_view p.0 ∷ parts_of (map placed_view p.1.now)) }
+    ensures less { MatchOption result (members.now ≡ []) (λ p. length p.1.now < length members.now) }
+{
+    match members {
+        [] => None,
+        [x, y, z, more @ ..] => match joined(part_of(*x), is_hyphen(y.member), part_of(*z)) {
+            Some(part) => Some((part, more)),
+            None => Some((part_of(*x), &members[1..])),
+        },
+        [x, more @ ..] => Some((part_of(*x), more)),
+    }
+}
+
+/// The parts of a class.
+pub fn parts_of(alloc: Global, members: &[Placed]) -> Result<Vec<Part>, NoMemory>
+    ensures { IfOk result (λ parts. map part_view parts.items ≡ parts_of (map placed_view members.now)) }
+{
+    let mut parts = Vec::new(alloc);
+    let mut rest = members;
+    'members: while let Some((part, more)) = next_part(rest) {
+        parts.push(part)?;
+        rest = more;
+    }
+    Ok(parts)
+}
+
+fn part_refusal(part: Part) -> Option<AtByte>
+    ensures { result ≡ part_refusal (part_view part) }
+{
+    match part {
+        Part::Range { at, first, last } if last < first => Some(AtByte {
+            code: PATTERN_SYNTAX,
+            at,
+        }),
+        Part::Broken(refusal) => Some(refusal),
+        _ => None,
+    }
+}
+
+/// The first refusal, in reading from the left.
+pub fn parts_refusal(parts: &[Part]) -> Option<AtByte>
+    ensures { result ≡ parts_refusal (map part_view parts.now) }
+{
+    for part in parts {
+        if let Some(refusal) = part_refusal(*part) {
+            return Some(refusal);
+        }
+    }
+    None
+}
+
+/// The byte is in one of the ranges.
+pub fn is_in_ranges(byte: u8, ranges: &[(u8, u8)]) -> bool
+    ensures { result ≡ is_in_ranges byte ranges.now }
+{
+    ranges
+        .iter()
+        .any(|range| range.0 <= byte && byte <= range.1)
+}
+
+fn is_in_part(byte: u8, part: Part) -> bool
+    ensures { result ≡ is_in_part byte (part_view part) }
+{
+    match part {
+        Part::Range { first, last, .. } => first <= byte && byte <= last,
+        Part::Set(ranges) => is_in_ranges(byte, ranges),
+        Part::Broken(_) => false,
+    }
+}
+
+fn is_in_parts(byte: u8, parts: &[Part]) -> bool
+    ensures { result ≡ list_any (is_in_part byte) (map part_view parts.now) }
+{
+    for part in parts {
+        if is_in_part(byte, *part) {
+            return true;
+        }
+    }
+    false
+}
+
+// Without case, a letter is in where it or its other case is.
+fn is_folded_in(byte: u8, parts: &[Part], nocase: bool) -> bool
+    ensures { result ≡ folded nocase (λ c. list_any (is_in_part c) (map part_view parts.now)) byte }
+{
+    if is_in_parts(byte, parts) {
+        return true;
+    }
+    if !nocase {
+        return false;
+    }
+    if is_in_parts(byte.to_ascii_lowercase(), parts) {
+        return true;
+    }
+    is_in_parts(byte.to_ascii_uppercase(), parts)
+}
+
+// A complement is taken last.
+fn is_in_class(byte: u8, parts: &[Part], nocase: bool, complement: bool) -> bool
+    ensures { result ≡ class_test nocase complement (map part_view parts.now) byte }
+{
+    if complement {
+        !is_folded_in(byte, parts, nocase)
+    } else {
+        is_folded_in(byte, parts, nocase)
+    }
+}
+
+/// The set of a class.
+pub fn class_set(parts: &[Part], nocase: bool, complement: bool) -> ByteSet
+    ensures { result ≡ set_where (class_test nocase complement (map part_view parts.now)) }
+{
+    let mut set = ByteSet::empty();
+    for number in 0..256u16 {
+        let byte = number as u8;
+        if is_in_class(byte, parts, nocase, complement) {
+            set = set.with(byte);
+        }
+    }
+    of_range(set.low, set.high)
+}
+
+fn closes(byte: u8, first: bool) -> bool
+    ensures { result ≡ ((byte == bracket_close) && not first) }
+{
+    byte == b']' && !first
+}
+
+/// The class from a place on, behind its `[` or `[^`. A `]` as the first member is a member.
+pub fn read_class(alloc: Global, from: usize, text: &[u8]) -> Result<Class, NoMemory>
+    ensures value { IfOk result (λ c. class_view c ≡ class_from 0 true from text.now) }
+    ensures within { IfOk result (λ c. c.length ≤ length text.now) }
+{
+    let mut members = Vec::new(alloc);
+    let mut passed = 0usize;
+    let mut first = true;
+    for (i, byte) in text.iter().enumerate() {
+        if passed > 0 {
+            passed -= 1;
+            continue;
+        }
+        if closes(*byte, first) {
+            return Ok(Class {
+                members,
+                closed: true,
+                length: i + 1,
+            });
+        }
+        let Some(place) = from.checked_add(i) else {
+            return Err(NoMemory);
+        };
+        let Ok(at) = u32::try_from(place) else {
+            return Err(NoMemory);
+        };
+        let written = member_at(at, *byte, &text[i + 1..]);
+        members.push(Placed {
+            at,
+            member: written.member,
+        })?;
+        passed = written.length.saturating_sub(1);
+        first = false;
+    }
+    Ok(Class {
+        members,
+        closed: false,
+        length: text.len(),
+    })
+}

@@ -1,0 +1,17 @@
+//! Patterns of Apache rules: a part of Perl's regular expressions (PCRE, "pcrepattern").
+#![tactic(auto)]
+
+mod build;
+mod class;
+mod glob;
+mod mark;
+mod member;
+mod pat;
+mod reading;
+mod set;
+mod token;
+
+pub use glob::{PatFault, glob_pattern};
+pub use pat::Pat;
+pub use reading::parse_pattern;
+pub use set::ByteSet;

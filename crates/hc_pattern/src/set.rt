@@ -1,0 +1,96 @@
+ghost use Rattle.std.specs.Prelude.{◌≡◌, ℕ, ◌<◌, ◌≤◌, ◌==◌, Bool, false, not, ◌||◌, ◌&&◌, nat_le};
+ghost use Rattle.hc_pattern.specs.Bits.{has_bit, has_byte};
+
+/// A set of bytes, each by its bit. The bytes from 128 on have theirs in `high`.
+#[derive(Clone, Copy, Debug, PartialEq, Eq)]
+pub struct ByteSet {
+    pub low: u128,
+    pub high: u128,
+}
+
+fn has_bit(bits: u128, place: u8) -> bool
+    requires { place < 128 }
+    ensures { result ≡ has_bit bits place }
+{
+    (bits >> place) & 1 == 1
+}
+
+fn with_bit(bits: u128, place: u8) -> u128
+    requires { place < 128 }
+    ensures { (other : ℕ) → has_bit result other ≡ (has_bit bits other || (other == place)) }
+{
+    bits | 1 << place
+}
+
+fn flipped(bits: u128) -> u128
+    ensures { (place : ℕ) → place < 128 → has_bit result place ≡ not (has_bit bits place) }
+{
+    !bits
+}
+
+impl ByteSet {
+    /// The set of no byte.
+    pub fn empty() -> ByteSet
+        ensures { (byte : ℕ) → has_byte result byte ≡ false }
+    {
+        ByteSet { low: 0, high: 0 }
+    }
+
+    /// The set with this byte too.
+    pub fn with(self, byte: u8) -> ByteSet
+        ensures { (other : ℕ) → has_byte result other ≡ (has_byte self other || (other == byte)) }
+    {
+        if byte < 128 {
+            ByteSet {
+                low: with_bit(self.low, byte),
+                high: self.high,
+            }
+        } else {
+            ByteSet {
+                low: self.low,
+                high: with_bit(self.high, byte - 128),
+            }
+        }
+    }
+
+    /// The set with the bytes from `from` up to and with `to` too.
+    pub fn with_range(self, from: u8, to: u8) -> ByteSet
+        ensures { (byte : ℕ) → has_byte result byte ≡ (has_byte self byte || (nat_le from byte && nat_le byte to)) }
+    {
+        let mut set = self;
+        for byte in u16::from(from)..u16::from(to) + 1 {
+            set = set.with(byte as u8);
+        }
+        set
+    }
+
+    /// The bytes of either set.
+    pub fn union(self, other: ByteSet) -> ByteSet
+        ensures { (byte : ℕ) → has_byte result byte ≡ (has_byte self byte || has_byte other byte) }
+    {
+        ByteSet {
+            low: self.low | other.low,
+            high: self.high | other.high,
+        }
+    }
+
+    /// The bytes that are not in the set.
+    pub fn complement(self) -> ByteSet
+        ensures { (byte : ℕ) → byte < 256 → has_byte result byte ≡ not (has_byte self byte) }
+    {
+        ByteSet {
+            low: flipped(self.low),
+            high: flipped(self.high),
+        }
+    }
+
+    pub fn has(self, byte: u8) -> bool
+        ensures { result ≡ has_byte self byte }
+    {
+        if byte < 128 {
+            has_bit(self.low, byte)
+        } else {
+            has_bit(self.high, byte - 128)
+        }
+    }
+}
