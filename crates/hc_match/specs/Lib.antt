@@ -1,0 +1,4 @@
+pub mod Ways
+pub mod Laws
+pub mod Settings
+pub mod Search
