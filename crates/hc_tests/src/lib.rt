@@ -7,11 +7,15 @@ mod addr;
 #[cfg(test)]
 mod base;
 #[cfg(test)]
+mod dfa;
+#[cfg(test)]
 mod lines;
 #[cfg(test)]
 mod model;
 #[cfg(test)]
 mod nodes;
+#[cfg(test)]
+mod patterns;
 #[cfg(test)]
 mod session;
 #[cfg(test)]
