@@ -12,10 +12,9 @@ import json
 import os
 import sys
 
-from measure import judge, run_once
+from measure import best_of, judge
 
 FOLDERS = 1_000
-RUNS = 3
 SIZES = (10_000, 100_000)
 
 # The words of a reply that gives no answer.
@@ -49,6 +48,7 @@ def write_input(path, lines):
     with open(path, "w", encoding="ascii") as out:
         for command in commands(lines):
             out.write(json.dumps(command, separators=(",", ":")) + "\n")
+    return os.path.getsize(path)
 
 
 def faults_of(replies, lines):
@@ -64,18 +64,7 @@ def faults_of(replies, lines):
 
 
 def measure(program, room, lines):
-    """The best of the runs: the bytes of the input, the seconds and the peak memory in KiB."""
-    source, replies = f"{room}/{lines}.jsonl", f"{room}/{lines}.replies"
-    write_input(source, lines)
-    runs = []
-    for _ in range(RUNS):
-        seconds, peak, status = run_once(program, source, replies)
-        fault = f"the program ended with status {status}" if status else faults_of(replies, lines)
-        if fault:
-            sys.exit(f"FAIL  at {lines} lines: {fault}")
-        runs.append((seconds, peak))
-    size = os.path.getsize(source)
-    seconds, peak = min(run[0] for run in runs), min(run[1] for run in runs)
+    size, seconds, peak = best_of(program, room, lines, write_input, faults_of)
     print(
         f"{lines:>7} lines  {size:>9} bytes  {seconds:8.3f} s"
         f"  {lines / seconds:>10.0f} lines/s  {peak:>8} KiB"

@@ -7,6 +7,7 @@ import sys
 import time
 
 TIME = shutil.which("time")
+RUNS = 3
 
 
 def run_once(program, source, replies):
@@ -26,6 +27,23 @@ def run_once(program, source, replies):
         with open(report, encoding="ascii") as told:
             peak = int(told.read().split()[-1])
     return seconds, peak, child.returncode
+
+
+def best_of(program, room, lines, write_input, faults_of):
+    """The best of the runs: the bytes that `write_input` says, the seconds and the peak memory in KiB.
+
+    A run fails where its status isn't 0, or `faults_of` says what is wrong with its replies.
+    """
+    source, replies = f"{room}/{lines}.jsonl", f"{room}/{lines}.replies"
+    size = write_input(source, lines)
+    runs = []
+    for _ in range(RUNS):
+        seconds, peak, status = run_once(program, source, replies)
+        fault = f"the program ended with status {status}" if status else faults_of(replies, lines)
+        if fault:
+            sys.exit(f"FAIL  at {lines} lines: {fault}")
+        runs.append((seconds, peak))
+    return size, min(run[0] for run in runs), min(run[1] for run in runs)
 
 
 def judge(found, growth, memory_per_byte, memory_kib):
