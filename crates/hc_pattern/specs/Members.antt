@@ -2,10 +2,10 @@
 use Rattle.std.specs.Prelude.{ℕ, ◌+◌, ◌*◌, ◌==◌, not, ◌&&◌, List, [], ◌∷◌, length, if◌then◌else◌, nat_eq, codes}
 use Rattle.std.specs.List.{starts_with}
 use Rattle.std.specs.Char.{digit_value, is_ascii_alphanumeric, is_ascii_hexdigit}
-use Rattle.hc_base.specs.Bytes.{backslash, dash, letter_x}
+use Rattle.hc_base.specs.Bytes.{backslash, cr, dash, delete, digit_zero, letter_a, letter_x, slash, space, tab, tilde, underscore}
 use Rattle.hc_base.specs.declared.fault.AtByte.{AtByte}
 use Rattle.hc_pattern.specs.Refusals.{unsupported, wrong_syntax}
-use Rattle.hc_pattern.specs.Signs.{bracket_open, capital_d, capital_s, capital_w, caret, colon, letter_d, letter_s, letter_w}
+use Rattle.hc_pattern.specs.Signs.{at_sign, backspace, brace_open, bracket_open, capital_a, capital_d, capital_f, capital_s, capital_w, capital_z, caret, colon, digit_nine, exclamation, grave, last_byte, letter_d, letter_f, letter_s, letter_w, letter_z, nul, shift_out, unit_separator}
 
 -- What a byte, an escape or a named set stands for: a set is given by its ranges. A hyphen in a class
 -- may make a range.
@@ -21,24 +21,26 @@ pub record Written : Type 0 where
   pub length : ℕ
 
 abbrev pub digits : List (ℕ × ℕ)
-digits = (48, 57) ∷ []
+digits = (digit_zero, digit_nine) ∷ []
 
 -- Digits, capital letters, the underscore and small letters.
 abbrev pub words : List (ℕ × ℕ)
-words = (48, 57) ∷ (65, 90) ∷ (95, 95) ∷ (97, 122) ∷ []
+words =
+    (digit_zero, digit_nine) ∷ (capital_a, capital_z) ∷ (underscore, underscore) ∷ (letter_a, letter_z) ∷ []
 
 -- Tab, LF, VT, FF, CR and space.
 abbrev pub spaces : List (ℕ × ℕ)
-spaces = (9, 13) ∷ (32, 32) ∷ []
+spaces = (tab, cr) ∷ (space, space) ∷ []
 
 abbrev pub no_digits : List (ℕ × ℕ)
-no_digits = (0, 47) ∷ (58, 255) ∷ []
+no_digits = (nul, slash) ∷ (colon, last_byte) ∷ []
 
 abbrev pub no_words : List (ℕ × ℕ)
-no_words = (0, 47) ∷ (58, 64) ∷ (91, 94) ∷ (96, 96) ∷ (123, 255) ∷ []
+no_words =
+    (nul, slash) ∷ (colon, at_sign) ∷ (bracket_open, caret) ∷ (grave, grave) ∷ (brace_open, last_byte) ∷ []
 
 abbrev pub no_spaces : List (ℕ × ℕ)
-no_spaces = (0, 8) ∷ (14, 31) ∷ (33, 255) ∷ []
+no_spaces = (nul, backspace) ∷ (shift_out, unit_separator) ∷ (exclamation, last_byte) ∷ []
 
 -- `\xHH`, by what stands behind the `x`.
 abbrev pub hex_escape : ℕ → List ℕ → Written
@@ -70,18 +72,18 @@ escape at (b ∷ rest) =
 -- The named sets, by what stands behind their `[:`.
 abbrev pub named_sets : List (List ℕ × List (ℕ × ℕ))
 named_sets =
-    (codes "alpha:]", (65, 90) ∷ (97, 122) ∷ []) ∷
+    (codes "alpha:]", (capital_a, capital_z) ∷ (letter_a, letter_z) ∷ []) ∷
     (codes "digit:]", digits) ∷
-    (codes "alnum:]", (48, 57) ∷ (65, 90) ∷ (97, 122) ∷ []) ∷
-    (codes "upper:]", (65, 90) ∷ []) ∷
-    (codes "lower:]", (97, 122) ∷ []) ∷
+    (codes "alnum:]", (digit_zero, digit_nine) ∷ (capital_a, capital_z) ∷ (letter_a, letter_z) ∷ []) ∷
+    (codes "upper:]", (capital_a, capital_z) ∷ []) ∷
+    (codes "lower:]", (letter_a, letter_z) ∷ []) ∷
     (codes "space:]", spaces) ∷
-    (codes "blank:]", (9, 9) ∷ (32, 32) ∷ []) ∷
-    (codes "punct:]", (33, 47) ∷ (58, 64) ∷ (91, 96) ∷ (123, 126) ∷ []) ∷
-    (codes "print:]", (32, 126) ∷ []) ∷
-    (codes "graph:]", (33, 126) ∷ []) ∷
-    (codes "cntrl:]", (0, 31) ∷ (127, 127) ∷ []) ∷
-    (codes "xdigit:]", (48, 57) ∷ (65, 70) ∷ (97, 102) ∷ []) ∷
+    (codes "blank:]", (tab, tab) ∷ (space, space) ∷ []) ∷
+    (codes "punct:]", (exclamation, slash) ∷ (colon, at_sign) ∷ (bracket_open, grave) ∷ (brace_open, tilde) ∷ []) ∷
+    (codes "print:]", (space, tilde) ∷ []) ∷
+    (codes "graph:]", (exclamation, tilde) ∷ []) ∷
+    (codes "cntrl:]", (nul, unit_separator) ∷ (delete, delete) ∷ []) ∷
+    (codes "xdigit:]", (digit_zero, digit_nine) ∷ (capital_a, capital_f) ∷ (letter_a, letter_f) ∷ []) ∷
     (codes "word:]", words) ∷
     []
 

@@ -60,3 +60,42 @@ capital_s = 83
 
 abbrev pub capital_w : ℕ
 capital_w = 87
+
+abbrev pub nul : ℕ
+nul = 0
+
+abbrev pub backspace : ℕ
+backspace = 8
+
+abbrev pub shift_out : ℕ
+shift_out = 14
+
+abbrev pub unit_separator : ℕ
+unit_separator = 31
+
+abbrev pub digit_nine : ℕ
+digit_nine = 57
+
+abbrev pub at_sign : ℕ
+at_sign = 64
+
+abbrev pub capital_a : ℕ
+capital_a = 65
+
+abbrev pub capital_f : ℕ
+capital_f = 70
+
+abbrev pub capital_z : ℕ
+capital_z = 90
+
+abbrev pub grave : ℕ
+grave = 96
+
+abbrev pub letter_f : ℕ
+letter_f = 102
+
+abbrev pub letter_z : ℕ
+letter_z = 122
+
+abbrev pub last_byte : ℕ
+last_byte = 255
