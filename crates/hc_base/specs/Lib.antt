@@ -7,3 +7,4 @@ pub mod Lines
 pub mod Paths
 pub mod Tape
 pub mod Target
+pub mod formers

@@ -2,6 +2,7 @@
 //! count their faults; a counter that costs nothing.
 #![tactic(auto)]
 
+mod boxed;
 pub mod bytes;
 pub mod codes;
 mod console;
@@ -9,6 +10,7 @@ mod cow;
 mod fault;
 pub mod laws;
 mod list;
+mod option;
 pub mod paths;
 mod place;
 mod sink;
@@ -17,10 +19,12 @@ mod steps;
 mod tape;
 mod text;
 
+pub use boxed::Boxed;
 pub use console::{StdSink, StdSource};
 pub use cow::CowStr;
 pub use fault::{AtByte, AtLine, Fault};
 pub use list::List;
+pub use option::copy_option;
 pub use place::{Place, Refusal, Span};
 pub use sink::Sink;
 pub use source::{Failed, Source};

@@ -7,14 +7,16 @@ use std::marker::Model;
 /// A list of items. It keeps the allocator that it is made with.
 #[derive(Debug, Drop)]
 pub struct List<T> {
-    alloc: Global,
     items: Vec<T>,
 }
 
 impl<T> Model for List<T> {
     ghost use Rattle.std.specs.Prelude.{List};
+    ghost use Rattle.std.specs.Coded.{coded_list};
 
     ghost Value = { List T };
+
+    ghost coded = { coded_list T.code };
 
     ghost view = { λ l. l.items.items };
 }
@@ -25,9 +27,13 @@ impl<T> List<T> {
         ensures { result ≡ [] }
     {
         List {
-            alloc,
             items: Vec::new(alloc),
         }
+    }
+
+    /// The allocator that the list is made with.
+    pub fn allocator(&self) -> Global {
+        *self.items.allocator()
     }
 
     pub fn as_slice(&self) -> &[T]
@@ -55,7 +61,6 @@ impl<T: Clone> List<T> {
         ensures { IfOk result (λ copy. copy ≡ self.now) }
     {
         Ok(List {
-            alloc: self.alloc,
             items: self.items.clone()?,
         })
     }

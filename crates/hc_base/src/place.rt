@@ -1,4 +1,6 @@
-use crate::Text;
+ghost use Rattle.std.specs.Prelude.{◌≡◌};
+
+use crate::{NoMemory, Text};
 
 /// A piece of a text, from the byte `start` up to and without the byte `end`.
 #[derive(Clone, Copy, Debug, PartialEq, Eq)]
@@ -8,7 +10,7 @@ pub struct Span {
 }
 
 /// A line of a file. Lines count from 1; line 0 is the file as a whole.
-#[derive(Clone, Debug, Drop)]
+#[derive(Debug, Drop)]
 pub struct Place {
     pub file: Text,
     pub line: u32,
@@ -16,10 +18,34 @@ pub struct Place {
 
 /// Why something is not accepted: where it stands, the number of the rule that it breaks (a table
 /// in docs/RULES.md), the byte in a pattern or 0, and the field of a command or the empty text.
-#[derive(Clone, Debug, Drop)]
+#[derive(Debug, Drop)]
 pub struct Refusal {
     pub place: Place,
     pub code: u8,
     pub at: u32,
     pub field: Text,
+}
+
+impl Clone for Place {
+    ghost is_clone = { λ place copy. copy ≡ place };
+
+    fn clone(&self) -> Result<Place, NoMemory> {
+        Ok(Place {
+            file: self.file.clone()?,
+            line: self.line,
+        })
+    }
+}
+
+impl Clone for Refusal {
+    ghost is_clone = { λ refusal copy. copy ≡ refusal };
+
+    fn clone(&self) -> Result<Refusal, NoMemory> {
+        Ok(Refusal {
+            place: self.place.clone()?,
+            code: self.code,
+            at: self.at,
+            field: self.field.clone()?,
+        })
+    }
 }

@@ -100,6 +100,17 @@ impl Dfa {
     }
 }
 
+impl Clone for Dfa {
+    ghost is_clone = { λ a copy. copy ≡ a };
+
+    fn clone(&self) -> Result<Dfa, NoMemory> {
+        Ok(Dfa {
+            next: self.next.clone()?,
+            finals: self.finals.clone()?,
+        })
+    }
+}
+
 /// The automaton of the texts that this one does not accept.
 #[tactic(auto, using(crate::proofs::Runs::complemented))]
 pub fn complement(alloc: Global, a: &Dfa) -> Result<Dfa, NoMemory>

@@ -1,4 +1,5 @@
 pub mod Mapping
 pub mod Node
-pub mod World
+pub mod PatternCode
 pub mod Walking
+pub mod World

@@ -5,7 +5,11 @@ use Rattle.std.specs.List.{starts_with}
 use Rattle.hc_base.specs.Paths.{begins_with_slash, ends_with_slash, merge_slashes}
 use Rattle.hc_model.specs.World.{World}
 use Rattle.hc_model.specs.Walking.{walk}
-use Rattle.hc_model.specs.declared.config.Alias.{Alias}
+use Rattle.hc_model.specs.declared.mapping.Alias.{Alias}
+use Rattle.hc_model.specs.declared.mapping.PathTest.{PathTest}
+use Rattle.hc_model.specs.declared.mapping.PathTest.TheVariants.{Prefix, Search}
+use Rattle.hc_model.specs.declared.template.Piece.{Piece}
+use Rattle.hc_model.specs.declared.template.Piece.TheVariants.{Bytes, Group, CondGroup, Var, Lookup'}
 use Rattle.hc_model.specs.declared.config.Server.{Server}
 use Rattle.hc_model.specs.declared.walk.Kind.{Kind}
 use Rattle.hc_model.specs.declared.walk.Kind.TheVariants.{Absent, Dir, File}
@@ -20,12 +24,29 @@ matches_prefix from path =
     starts_with nat_eq path from
     && (ends_with_slash from || (length path == length from) || begins_with_slash (drop (length from) path))
 
+-- What a template gives. Parts that are filled in give nothing yet: they come with AliasMatch.
+abbrev pub target_of : List Piece → List ℕ
+target_of [] = []
+target_of (Bytes bytes ∷ pieces) = bytes ++ target_of pieces
+target_of (Group number ∷ pieces) = target_of pieces
+target_of (CondGroup number ∷ pieces) = target_of pieces
+target_of (Var var ∷ pieces) = target_of pieces
+target_of (Lookup' map key keys fallback fallbacks ∷ pieces) = target_of pieces
+
+-- What follows in a path that matches. A pattern matches nothing yet: it comes with AliasMatch.
+abbrev pub rest_behind : PathTest → List ℕ → Option (List ℕ)
+rest_behind (Prefix from) path = if matches_prefix from path then Some (drop (length from) path) else None
+rest_behind (Search pattern) path = None
+
+abbrev pub or_later : Option (List ℕ) → Option (List ℕ) → Option (List ℕ)
+or_later (Some name) later = Some name
+or_later None later = later
+
 -- The first alias that matches counts; what follows its path is appended to its target.
 abbrev pub aliased : List Alias → List ℕ → Option (List ℕ)
 aliased [] path = None
 aliased (alias ∷ aliases) path =
-    if matches_prefix alias.from path then Some (alias.to ++ drop (length alias.from) path)
-    else aliased aliases path
+    or_later (option_map (λ rest. target_of alias.to ++ rest) (rest_behind alias.from path)) (aliased aliases path)
 
 abbrev pub or_root : Option (List ℕ) → Option (List ℕ) → List ℕ → Option (List ℕ)
 or_root (Some name) root path = Some name

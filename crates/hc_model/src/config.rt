@@ -1,27 +1,60 @@
 ghost use Rattle.std.specs.Prelude.{◌≡◌};
 
-use hc_base::{List, NoMemory, Text};
+use crate::{Alias, Body, Map, Read, Redirect, Section};
+use hc_base::{List, NoMemory, Place, Text, copy_option};
 
-/// `Alias from to`: URL paths below `from` are files below `to` (Apache manual, mod_alias).
-#[derive(Clone, Debug, Drop)]
-pub struct Alias {
-    pub from: Text,
-    pub to: Text,
-}
-
-/// What one server is configured to.
-#[derive(Debug, Drop)]
-pub struct Server {
-    /// The path of the last `DocumentRoot` line (Apache manual, core).
-    pub root: Option<Text>,
-    /// The aliases in the order of their lines.
-    pub maps: List<Alias>,
-}
-
-/// What the main file says.
+/// What a configuration says.
 #[derive(Debug, Drop)]
 pub struct Config {
     pub main: Server,
+    /// The virtual hosts, in the order of their lines (Apache manual, "Virtual Hosts").
+    pub hosts: List<Server>,
+    /// The Define lines, in their order (core).
+    pub defines: List<Define>,
+    /// The modules that are present.
+    pub modules: List<Text>,
+    /// What the configuration rests on.
+    pub reads: List<Read>,
+}
+
+/// What one server is configured to: the main server or a virtual host.
+#[derive(Debug, Drop)]
+pub struct Server {
+    /// The line of its `<VirtualHost>`; the main server has an empty file and line 0.
+    pub place: Place,
+    /// The addresses of its `<VirtualHost>`.
+    pub addresses: List<HostAddr>,
+    /// ServerName (core).
+    pub name: Option<Text>,
+    /// ServerAlias (core).
+    pub aliases: List<Text>,
+    /// The path of the last `DocumentRoot` line (core).
+    pub root: Option<Text>,
+    /// The Redirect directives, in the order of their lines (mod_alias).
+    pub redirects: List<Redirect>,
+    /// The aliases, in the order of their lines (mod_alias).
+    pub maps: List<Alias>,
+    /// What stands outside its sections.
+    pub body: Body,
+    pub sections: List<Section>,
+    /// The most internal redirects (core, LimitInternalRecursion).
+    pub recursion: Option<u32>,
+    /// The maps of RewriteMap (mod_rewrite).
+    pub maps_by_name: List<Map>,
+}
+
+/// An address of a virtual host, IPv4 with a port. None is `*`.
+#[derive(Clone, Copy, Debug, PartialEq, Eq)]
+pub struct HostAddr {
+    pub addr: Option<u32>,
+    pub port: u16,
+}
+
+/// A Define line (Apache manual, core).
+#[derive(Clone, Debug, Drop)]
+pub struct Define {
+    pub name: Text,
+    pub value: Option<Text>,
 }
 
 impl Clone for Server {
@@ -29,8 +62,17 @@ impl Clone for Server {
 
     fn clone(&self) -> Result<Server, NoMemory> {
         Ok(Server {
-            root: self.root.clone()?,
+            place: self.place.clone()?,
+            addresses: self.addresses.copy()?,
+            name: copy_option(&self.name)?,
+            aliases: self.aliases.copy()?,
+            root: copy_option(&self.root)?,
+            redirects: self.redirects.copy()?,
             maps: self.maps.copy()?,
+            body: self.body.clone()?,
+            sections: self.sections.copy()?,
+            recursion: self.recursion,
+            maps_by_name: self.maps_by_name.copy()?,
         })
     }
 }
@@ -41,6 +83,10 @@ impl Clone for Config {
     fn clone(&self) -> Result<Config, NoMemory> {
         Ok(Config {
             main: self.main.clone()?,
+            hosts: self.hosts.copy()?,
+            defines: self.defines.copy()?,
+            modules: self.modules.copy()?,
+            reads: self.reads.copy()?,
         })
     }
 }

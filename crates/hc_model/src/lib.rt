@@ -1,10 +1,36 @@
 //! The types of the model, and in `specs/` what a world, a configuration, a name and a request mean.
 #![tactic(auto)]
 
+mod authorization;
+mod claim;
 mod config;
+mod entry;
+mod event;
+mod expression;
+mod mapping;
 mod outcome;
+mod read;
+mod regex;
+mod request;
+mod rewrite;
+mod section;
+mod spot;
+mod template;
 mod walk;
 
-pub use config::{Alias, Config, Server};
-pub use outcome::Outcome;
+pub use authorization::{Merging, Need, ReqTree};
+pub use claim::{Claim, Decision, Scope, SetForm};
+pub use config::{Config, Define, HostAddr, Server};
+pub use entry::{Entry, EntryForm};
+pub use event::{Authorized, Event};
+pub use expression::Expr;
+pub use mapping::{Alias, Map, MapKind, PathTest, Redirect};
+pub use outcome::{LimitKind, Outcome, Reason};
+pub use read::Read;
+pub use regex::Regex;
+pub use request::{Caller, Header, Request, Scheme, View};
+pub use rewrite::{Cond, CondKind, EnvSet, Flags, Rule, RwContext, RwState, SetResult};
+pub use section::{Allowed, Body, Effective, HtFile, Inherit, OptStep, Reach, Section};
+pub use spot::Spot;
+pub use template::{Piece, Template, Var};
 pub use walk::{Kind, Walk};

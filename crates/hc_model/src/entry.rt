@@ -1,0 +1,40 @@
+ghost use Rattle.std.specs.Prelude.{◌≡◌};
+
+use crate::Spot;
+use hc_base::{List, NoMemory, Text};
+
+/// A line of a configuration whose includes stand at their places and whose variables are replaced
+/// (Apache manual, core, Include and Define).
+#[derive(Debug, Drop)]
+pub struct Entry {
+    pub spot: Spot,
+    pub form: EntryForm,
+    /// The name of the directive or of the section.
+    pub name: Text,
+    /// What follows the name: of a directive as it stands, of an opening up to its last `>`.
+    pub rest: Text,
+    /// The places, in the list of all entries, of the openings around it, the outermost first.
+    pub within: List<u32>,
+}
+
+/// What a line is (Apache manual, "Configuration Sections").
+#[derive(Clone, Copy, Debug, PartialEq, Eq)]
+pub enum EntryForm {
+    Directive,
+    Opening,
+    Close,
+}
+
+impl Clone for Entry {
+    ghost is_clone = { λ entry copy. copy ≡ entry };
+
+    fn clone(&self) -> Result<Entry, NoMemory> {
+        Ok(Entry {
+            spot: self.spot.clone()?,
+            form: self.form,
+            name: self.name.clone()?,
+            rest: self.rest.clone()?,
+            within: self.within.copy()?,
+        })
+    }
+}

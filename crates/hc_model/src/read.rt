@@ -1,0 +1,12 @@
+use hc_base::Text;
+
+/// What an answer rests on: a question to the world about a path. Our own choice.
+#[derive(Clone, Debug, Drop)]
+pub enum Read {
+    /// What stands there.
+    KindOf(Text),
+    /// The text of the file there.
+    TextOf(Text),
+    /// The names in the directory there.
+    NamesOf(Text),
+}
