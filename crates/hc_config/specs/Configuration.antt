@@ -2,7 +2,7 @@
 -- Apache manual: "Configuration Files"; core, DocumentRoot, UseCanonicalName and AccessFileName;
 -- mod_alias, Alias; mod_userdir, UserDir. The refusals and their order are our own choice, and so is
 -- what is not built yet.
-use Rattle.std.specs.Prelude.{ℕ, ◌==◌, List, [], ◌∷◌, ◌++◌, Bool, not, ◌&&◌, if◌then◌else◌, Option, Some, None, Result, Ok, Err, codes, bit_and}
+use Rattle.std.specs.Prelude.{ℕ, ◌==◌, List, [], ◌∷◌, ◌++◌, Bool, false, not, ◌&&◌, if◌then◌else◌, Option, Some, None, Result, Ok, Err, codes, bit_and}
 use Rattle.std.specs.List.{filter_map, list_any}
 use Rattle.std.specs.Str.{str_eq_ignore_ascii_case}
 use Rattle.hc_base.specs.Paths.{begins_with_slash}
@@ -14,15 +14,22 @@ use Rattle.hc_lines.specs.Logical.{lines_of}
 use Rattle.hc_lines.specs.Words.{conf_spelling, read_words}
 use Rattle.hc_lines.specs.declared.line.FileKind.TheVariants as file_kind
 use Rattle.hc_lines.specs.declared.line.Line.{Line}
-use Rattle.hc_model.specs.declared.config.Alias.{Alias}
-use Rattle.hc_model.specs.declared.config.Server.{Server}
+use Rattle.hc_model.specs.declared.authorization.Merging.TheVariants.{Off}
 use Rattle.hc_model.specs.declared.config.Config.{Config}
+use Rattle.hc_model.specs.declared.config.Server.{Server}
+use Rattle.hc_model.specs.declared.mapping.Alias.{Alias}
+use Rattle.hc_model.specs.declared.mapping.PathTest.TheVariants.{Prefix}
+use Rattle.hc_model.specs.declared.section.Body.{Body, roll-Body}
+use Rattle.hc_model.specs.declared.section.Inherit.TheVariants.{No}
+use Rattle.hc_model.specs.declared.spot.Spot.{Spot}
+use Rattle.hc_model.specs.declared.template.Piece.TheVariants.{Bytes}
 use Rattle.hc_nodes.specs.Tree.{Nodes, none, directive, block, nodes_of}
 use Rattle.hc_table.specs.Directives.{directive_rows}
 use Rattle.hc_table.specs.Table.{find_in}
 use Rattle.hc_table.specs.declared.context.TheConstants.{MAIN_SERVER}
 use Rattle.hc_table.specs.declared.meaning.TheConstants.{ACCESS_FILE_NAME, ALIAS, DOCUMENT_ROOT, INERT, LOAD_MODULE, USER_DIR, USE_CANONICAL_NAME}
 use Rattle.hc_table.specs.declared.table.RowKind.{RowKind}
+use Rattle.hc_config.specs.declared.config.Gathered.{Gathered}
 use Rattle.hc_config.specs.declared.effect.Effect.{Effect}
 use Rattle.hc_config.specs.declared.effect.Effect.TheVariants.{Nothing, Root, Map}
 
@@ -44,7 +51,7 @@ document_root words = Err WRONG_ARGUMENTS
 
 -- A URL path and an absolute path.
 abbrev pub alias : List (List ℕ) → Result Effect ℕ
-alias (from ∷ to ∷ []) = or_wrong (begins_with_slash from && begins_with_slash to) (Map (record { from = from; to = to }))
+alias (from ∷ to ∷ []) = or_wrong (begins_with_slash from && begins_with_slash to) (Map from to)
 alias words = Err WRONG_ARGUMENTS
 
 -- Just this word, without case.
@@ -99,48 +106,76 @@ abbrev pub at_line : Line → Result Effect ℕ → Result Effect AtLine
 at_line line (Ok effect) = Ok effect
 at_line line (Err code) = Err (record { code = code; line = line.number })
 
-abbrev pub after : List Effect → Result (List Effect) Refusal → Result (List Effect) Refusal
+abbrev pub spot_of : List ℕ → Line → Spot
+spot_of file line = record { place = record { file = file; line = line.number }; span = line.span }
+
+-- What a line does, with the line.
+abbrev pub Placed : Type 0
+Placed = Spot × Effect
+
+abbrev pub after : List Placed → Result (List Placed) Refusal → Result (List Placed) Refusal
 after first (Ok effects) = Ok (first ++ effects)
 after first (Err refusal) = Err refusal
 
 -- What the nodes of a file do, or the first that breaks a rule. A section is not supported yet.
-abbrev pub effects_of : List ℕ → Nodes → Result (List Effect) Refusal
+abbrev pub effects_of : List ℕ → Nodes → Result (List Placed) Refusal
 effects_of file none = Ok []
 effects_of file (directive line name rest next) =
-    and_then (in_file file (at_line line (effect_of name rest))) (λ effect. after (effect ∷ []) (effects_of file next))
+    and_then (in_file file (at_line line (effect_of name rest)))
+    (λ effect. after ((spot_of file line, effect) ∷ []) (effects_of file next))
 effects_of file (block line name args body next) = Err (refusal_at file (record { code = UNSUPPORTED_DIRECTIVE; line = line.number }))
 
 -- ---- the configuration
 
-abbrev pub root_in : Effect → Option (List ℕ)
-root_in Nothing = None
-root_in (Root path) = Some path
-root_in (Map alias) = None
+abbrev pub root_in : Placed → Option (List ℕ)
+root_in (spot, Nothing) = None
+root_in (spot, Root path) = Some path
+root_in (spot, Map from to) = None
 
-abbrev pub alias_in : Effect → Option Alias
-alias_in Nothing = None
-alias_in (Root path) = None
-alias_in (Map alias) = Some alias
+abbrev pub alias_of : Spot → List ℕ → List ℕ → Alias
+alias_of spot from to = record { place = spot.place; span = spot.span; from = Prefix from; to = Bytes to ∷ [] }
+
+abbrev pub alias_in : Placed → Option Alias
+alias_in (spot, Nothing) = None
+alias_in (spot, Root path) = None
+alias_in (spot, Map from to) = Some (alias_of spot from to)
 
 abbrev pub last_of : List (List ℕ) → Option (List ℕ)
 last_of [] = None
 last_of (path ∷ []) = Some path
 last_of (path ∷ next ∷ paths) = last_of (next ∷ paths)
 
+abbrev pub no_body : Body
+no_body = roll-Body (record {
+    options = []; allow = None; merging = Off; require = None; engine = None; base = None;
+    rules = []; rewrites = false; redirects = []; inner = []; inherit = No })
+
+-- A main server of which nothing is said.
+abbrev pub no_server : Server
+no_server = record {
+    place = record { file = []; line = 0 }; addresses = []; name = None; aliases = []; root = None;
+    redirects = []; maps = []; body = no_body; sections = []; recursion = None; maps_by_name = [] }
+
 -- The last DocumentRoot counts, and every Alias in its order.
-abbrev pub server_of : List Effect → Server
-server_of effects = record { root = last_of (filter_map root_in effects); maps = filter_map alias_in effects }
+abbrev pub gathered_of : List Placed → Gathered
+gathered_of effects = record { root = last_of (filter_map root_in effects); maps = filter_map alias_in effects }
+
+abbrev pub server_of : Gathered → Server
+server_of gathered = record no_server { root = gathered.root; maps = gathered.maps }
+
+abbrev pub config_of_server : Server → Config
+config_of_server server = record { main = server; hosts = []; defines = []; modules = []; reads = [] }
 
 -- A file without DocumentRoot is refused as a whole.
-abbrev pub with_root : List ℕ → Server → Option (List ℕ) → Result Config Refusal
-with_root file server None = Err (refusal_at file (record { code = NO_DOCUMENT_ROOT; line = 0 }))
-with_root file server (Some root) = Ok (record { main = server })
+abbrev pub with_root : List ℕ → Gathered → Option (List ℕ) → Result Config Refusal
+with_root file gathered None = Err (refusal_at file (record { code = NO_DOCUMENT_ROOT; line = 0 }))
+with_root file gathered (Some root) = Ok (config_of_server (server_of gathered))
 
-abbrev pub config_with : List ℕ → Server → Result Config Refusal
-config_with file server = with_root file server server.root
+abbrev pub config_with : List ℕ → Gathered → Result Config Refusal
+config_with file gathered = with_root file gathered gathered.root
 
 abbrev pub config_of_nodes : List ℕ → Nodes → Result Config Refusal
-config_of_nodes file nodes = and_then (effects_of file nodes) (λ effects. config_with file (server_of effects))
+config_of_nodes file nodes = and_then (effects_of file nodes) (λ effects. config_with file (gathered_of effects))
 
 abbrev pub config_of_lines : List ℕ → List Line → Result Config Refusal
 config_of_lines file lines = and_then (in_file file (nodes_of lines)) (config_of_nodes file)

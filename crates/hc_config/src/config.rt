@@ -1,14 +1,14 @@
 ghost use Rattle.std.specs.Prelude.{◌≡◌, ◌+◌, length, IfOk, OnOk};
 ghost use Rattle.hc_base.specs.Gives.{Gives};
 ghost use Rattle.hc_nodes.specs.NodeView.{nodes_view};
-ghost use Rattle.hc_config.specs.Configuration.{config_of, config_of_lines, config_of_nodes, config_with, refusal_at};
-ghost use Rattle.hc_config.specs.Reading.{BreaksAt, no_server, server_from, with_effect};
+ghost use Rattle.hc_config.specs.Configuration.{alias_of, config_of, config_of_lines, config_of_nodes, config_of_server, config_with, no_body, refusal_at, server_of, spot_of};
+ghost use Rattle.hc_config.specs.Reading.{BreaksAt, gathered_from, nothing_gathered, with_effect};
 
 use crate::effect::{Effect, effect_of};
 use hc_base::codes::{NO_DOCUMENT_ROOT, UNSUPPORTED_DIRECTIVE};
 use hc_base::{AtLine, Fault, List, NoMemory, Place, Refusal, Steps, Text};
 use hc_lines::{FileKind, Line, logical_lines};
-use hc_model::{Config, Server};
+use hc_model::{Alias, Body, Config, Inherit, Merging, PathTest, Piece, Server};
 use hc_nodes::{Node, read_nodes};
 use hc_table::directives;
 use std::alloc::Global;
@@ -16,6 +16,15 @@ use std::sync::ledger::Ledger;
 
 /// Why a main file gives no configuration.
 pub type BuildFault = Fault<Refusal>;
+
+/// What the lines of a main file say of the main server.
+#[derive(Debug, Drop)]
+pub(crate) struct Gathered {
+    /// The path of the last `DocumentRoot` so far.
+    root: Option<Text>,
+    /// The aliases so far.
+    maps: List<Alias>,
+}
 
 /// The configuration that the text of a main file gives. `file` is its path, for the refusal's
 /// place. `bytes` rises by the bytes of the text.
@@ -52,28 +61,41 @@ fn config_of_lines(alloc: Global, file: &[u8], lines: &[Line]) -> Result<Config,
 fn config_of_nodes(alloc: Global, file: &[u8], nodes: &[Node]) -> Result<Config, BuildFault>
     ensures { Gives result (config_of_nodes file.now (nodes_view nodes.now)) }
 {
-    match read_server(alloc, file, nodes) {
-        Ok(main) => with_root(alloc, file, main),
+    match gather(alloc, file, nodes) {
+        Ok(gathered) => with_root(alloc, file, gathered),
         Err(fault) => Err(fault),
     }
 }
 
 // A file without `DocumentRoot` is refused as a whole.
-fn with_root(alloc: Global, file: &[u8], main: Server) -> Result<Config, BuildFault>
-    ensures { Gives result (config_with file.now main) }
+fn with_root(alloc: Global, file: &[u8], gathered: Gathered) -> Result<Config, BuildFault>
+    ensures { Gives result (config_with file.now gathered) }
 {
-    if main.root.is_none() {
+    if gathered.root.is_none() {
         return Err(refused_at(alloc, file, NO_DOCUMENT_ROOT, 0));
     }
-    Ok(Config { main })
+    let main = server_of(alloc, gathered);
+    Ok(config_of_server(alloc, main))
 }
 
-// What the nodes of a file configure the main server to.
-fn read_server(alloc: Global, file: &[u8], nodes: &[Node]) -> Result<Server, BuildFault>
-    ensures { Gives result (server_from file.now no_server (nodes_view nodes.now)) }
+fn config_of_server(alloc: Global, main: Server) -> Config
+    ensures { result ≡ config_of_server main }
+{
+    Config {
+        main,
+        hosts: List::new(alloc),
+        defines: List::new(alloc),
+        modules: List::new(alloc),
+        reads: List::new(alloc),
+    }
+}
+
+// What the nodes of a file say of the main server.
+fn gather(alloc: Global, file: &[u8], nodes: &[Node]) -> Result<Gathered, BuildFault>
+    ensures { Gives result (gathered_from file.now nothing_gathered (nodes_view nodes.now)) }
 {
     let names = directives();
-    let mut server = Server {
+    let mut gathered = Gathered {
         root: None,
         maps: List::new(alloc),
     };
@@ -81,7 +103,7 @@ fn read_server(alloc: Global, file: &[u8], nodes: &[Node]) -> Result<Server, Bui
         match node {
             Node::Directive { line, name, rest } => {
                 match effect_of(alloc, &names.rows, name, rest) {
-                    Ok(effect) => perform(&mut server, effect)?,
+                    Ok(effect) => perform(alloc, &mut gathered, file, line, effect)?,
                     Err(Fault::Refused(code)) => return Err(refused_at(
                         alloc,
                         file,
@@ -96,20 +118,91 @@ fn read_server(alloc: Global, file: &[u8], nodes: &[Node]) -> Result<Server, Bui
             }
         }
     }
-    Ok(server)
+    Ok(gathered)
 }
 
-fn perform(server: &mut Server, effect: Effect) -> Result<(), NoMemory>
-    ensures { OnOk result (server.new ≡ with_effect server.old effect) }
+// A main server of which nothing else is said.
+fn server_of(alloc: Global, gathered: Gathered) -> Server
+    ensures { result ≡ server_of gathered }
+{
+    Server {
+        place: Place {
+            file: Text::from(Vec::new(alloc)),
+            line: 0,
+        },
+        addresses: List::new(alloc),
+        name: None,
+        aliases: List::new(alloc),
+        root: gathered.root,
+        redirects: List::new(alloc),
+        maps: gathered.maps,
+        body: no_body(alloc),
+        sections: List::new(alloc),
+        recursion: None,
+        maps_by_name: List::new(alloc),
+    }
+}
+
+fn no_body(alloc: Global) -> Body
+    ensures { result ≡ no_body }
+{
+    Body {
+        options: List::new(alloc),
+        allow: None,
+        merging: Merging::Off,
+        require: None,
+        engine: None,
+        base: None,
+        rules: List::new(alloc),
+        rewrites: false,
+        redirects: List::new(alloc),
+        inner: List::new(alloc),
+        inherit: Inherit::No,
+    }
+}
+
+fn perform(
+    alloc: Global,
+    gathered: &mut Gathered,
+    file: &[u8],
+    line: &Line,
+    effect: Effect,
+) -> Result<(), NoMemory>
+    ensures { OnOk result (gathered.new ≡ with_effect (spot_of file.now line.now) gathered.old effect) }
 {
     match effect {
         Effect::Nothing => Ok(()),
         Effect::Root(path) => {
-            server.root = Some(path);
+            gathered.root = Some(path);
             Ok(())
         }
-        Effect::Map(alias) => server.maps.push(alias),
+        Effect::Map { from, to } => {
+            let alias = alias_of(alloc, file, line, from, to)?;
+            gathered.maps.push(alias)
+        }
     }
+}
+
+fn alias_of(
+    alloc: Global,
+    file: &[u8],
+    line: &Line,
+    from: Text,
+    to: Text,
+) -> Result<Alias, NoMemory>
+    ensures { IfOk result (λ alias. alias ≡ alias_of (spot_of file.now line.now) from to) }
+{
+    let mut target = List::new(alloc);
+    target.push(Piece::Bytes(to))?;
+    Ok(Alias {
+        place: Place {
+            file: Text::copy_of(alloc, file)?,
+            line: line.number,
+        },
+        span: line.span,
+        from: PathTest::Prefix(from),
+        to: target,
+    })
 }
 
 // The refusal of a rule that a line of the file breaks.

@@ -9,7 +9,6 @@ use hc_base::codes::{UNSUPPORTED_DIRECTIVE, WRONG_ARGUMENTS, WRONG_CONTEXT};
 use hc_base::paths::begins_with_slash;
 use hc_base::{CowStr, Fault, Text};
 use hc_lines::conf_words;
-use hc_model::Alias;
 use hc_table::{Row, RowKind, context, find_in, meaning};
 use std::alloc::Global;
 
@@ -20,7 +19,7 @@ pub(crate) enum Effect {
     /// The document root (Apache manual, core).
     Root(Text),
     /// One more alias (mod_alias).
-    Map(Alias),
+    Map { from: Text, to: Text },
 }
 
 /// Why a directive does nothing: the code of the first rule that it breaks.
@@ -110,7 +109,7 @@ fn alias(alloc: Global, words: &[CowStr]) -> Result<Effect, EffectFault>
         [from, to] if are_absolute(from, to) => {
             let from = Text::copy_of(alloc, from.as_str().as_bytes())?;
             let to = Text::copy_of(alloc, to.as_str().as_bytes())?;
-            Ok(Effect::Map(Alias { from, to }))
+            Ok(Effect::Map { from, to })
         }
         _ => Err(Fault::Refused(WRONG_ARGUMENTS)),
     }

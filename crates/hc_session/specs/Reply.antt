@@ -7,7 +7,11 @@ use Rattle.hc_base.specs.Bytes.{backslash, digit_zero, letter_a, letter_x, lf, s
 use Rattle.hc_base.specs.Codes.{name_of_code}
 use Rattle.hc_base.specs.declared.place.Refusal.{Refusal}
 use Rattle.hc_model.specs.declared.outcome.Outcome.{Outcome}
-use Rattle.hc_model.specs.declared.outcome.Outcome.TheVariants.{File, Directory, NotFound}
+use Rattle.hc_model.specs.declared.outcome.Outcome.TheVariants.{File, Directory, NotFound, Redirect, Status, Limit, HtRefused, Outside}
+use Rattle.hc_model.specs.declared.outcome.LimitKind.{LimitKind}
+use Rattle.hc_model.specs.declared.outcome.LimitKind.TheVariants.{Rounds, Redirects}
+use Rattle.hc_model.specs.declared.outcome.Reason.{Reason}
+use Rattle.hc_model.specs.declared.outcome.Reason.TheVariants.{PathByte, LongText, DotSegment, RelativeRedirect, RelativeUnderAlias, Scheme, NoRoot}
 
 pub data Reply : Type 0 where
   done_put : Reply
@@ -34,14 +38,6 @@ shown bytes = flat_map shown_byte bytes
 abbrev pub only : List ℕ → Data → Data
 only key d = object (member key d no_members)
 
-abbrev pub outcome_data : Outcome → Data
-outcome_data (File path info) =
-    only (codes "file") (object (
-    member (codes "info") (string (shown info)) (
-    member (codes "path") (string (shown path)) no_members)))
-outcome_data (Directory path) = only (codes "directory") (string (shown path))
-outcome_data NotFound = only (codes "not_found") (boolean true)
-
 abbrev pub refusal_data : Refusal → Data
 refusal_data r =
     object (
@@ -51,6 +47,35 @@ refusal_data r =
     member (codes "file") (string (shown r.place.file)) (
     member (codes "line") (number (unsigned r.place.line)) (
     member (codes "name") (string (name_of_code r.code)) no_members))))))
+
+abbrev pub limit_name : LimitKind → List ℕ
+limit_name Rounds = codes "rounds"
+limit_name Redirects = codes "redirects"
+
+abbrev pub reason_name : Reason → List ℕ
+reason_name PathByte = codes "path byte"
+reason_name LongText = codes "long text"
+reason_name DotSegment = codes "dot segment"
+reason_name RelativeRedirect = codes "relative redirect"
+reason_name RelativeUnderAlias = codes "relative under alias"
+reason_name Scheme = codes "scheme"
+reason_name NoRoot = codes "no root"
+
+abbrev pub outcome_data : Outcome → Data
+outcome_data (File path info) =
+    only (codes "file") (object (
+    member (codes "info") (string (shown info)) (
+    member (codes "path") (string (shown path)) no_members)))
+outcome_data (Directory path) = only (codes "directory") (string (shown path))
+outcome_data NotFound = only (codes "not_found") (boolean true)
+outcome_data (Redirect status location) =
+    only (codes "redirect") (object (
+    member (codes "location") (string (shown location)) (
+    member (codes "status") (number (unsigned status)) no_members)))
+outcome_data (Status status) = only (codes "status") (number (unsigned status))
+outcome_data (Limit kind) = only (codes "limit") (string (limit_name kind))
+outcome_data (HtRefused refusal) = only (codes "ht_refused") (refusal_data refusal)
+outcome_data (Outside reason) = only (codes "outside") (string (reason_name reason))
 
 abbrev pub reply_data : Reply → Data
 reply_data done_put = only (codes "done") (string (codes "put"))

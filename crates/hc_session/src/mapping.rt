@@ -1,11 +1,11 @@
 ghost use Rattle.std.specs.Prelude.{◌≡◌, ◌++◌, IfOk};
 ghost use Rattle.std.specs.Option.{option_map};
 ghost use Rattle.hc_base.specs.Paths.{merge_slashes};
-ghost use Rattle.hc_model.specs.Mapping.{aliased, matches_prefix, name_of, or_root};
+ghost use Rattle.hc_model.specs.Mapping.{aliased, matches_prefix, name_of, or_root, rest_behind, target_of};
 
 use hc_base::paths::{begins_with_slash, ends_with_slash};
 use hc_base::{NoMemory, Text};
-use hc_model::{Alias, Server};
+use hc_model::{Alias, PathTest, Piece, Server, Template};
 use std::alloc::Global;
 
 /// The file name of a URL path: by the first alias that matches (Apache manual, mod_alias), else
@@ -14,41 +14,70 @@ use std::alloc::Global;
 pub(crate) fn name_of(alloc: Global, server: &Server, path: &[u8]) -> Result<Option<Text>, NoMemory>
     ensures { IfOk result (λ name. name ≡ name_of server.now path.now) }
 {
-    match parts(server, path) {
+    match unmerged(alloc, server, path)? {
         None => Ok(None),
-        Some((front, rest)) => {
-            let mut name = front.to_vec(alloc)?;
-            name.extend_from_slice(rest)?;
-            Ok(Some(merge_slashes(alloc, &name)?))
-        }
+        Some(name) => Ok(Some(merge_slashes(alloc, name.as_bytes())?)),
     }
 }
 
-// The file name, unmerged, as its front and the part of the path that follows it.
-fn parts<'a>(server: &'a Server, path: &'a [u8]) -> Option<(&'a [u8], &'a [u8])>
-    ensures { option_map (λ parts. parts.0.now ++ parts.1.now) result
-        ≡ or_root (aliased server.now.maps path.now) server.now.root path.now }
+// The file name before its slashes are merged.
+fn unmerged(alloc: Global, server: &Server, path: &[u8]) -> Result<Option<Text>, NoMemory>
+    ensures { IfOk result (λ name. name ≡ or_root (aliased server.now.maps path.now) server.now.root path.now) }
 {
-    match aliased(server.maps.as_slice(), path) {
-        Some(parts) => Some(parts),
-        None => match &server.root {
-            Some(root) => Some((root.as_bytes(), path)),
-            None => None,
-        },
+    if let Some((target, rest)) = aliased(server.maps.as_slice(), path) {
+        return Ok(Some(filled(alloc, target.as_slice(), rest)?));
     }
+    match &server.root {
+        Some(root) => Ok(Some(joined(alloc, root.as_bytes(), path)?)),
+        None => Ok(None),
+    }
+}
+
+fn joined(alloc: Global, front: &[u8], rest: &[u8]) -> Result<Text, NoMemory>
+    ensures { IfOk result (λ joined. joined ≡ front.now ++ rest.now) }
+{
+    let mut joined = front.to_vec(alloc)?;
+    joined.extend_from_slice(rest)?;
+    Ok(Text::from(joined))
+}
+
+// What a template gives, and behind it the rest of a path. Parts that are filled in give nothing
+// yet.
+fn filled(alloc: Global, target: &[Piece], rest: &[u8]) -> Result<Text, NoMemory>
+    ensures { IfOk result (λ filled. filled ≡ target_of target.now ++ rest.now) }
+{
+    let mut filled = Vec::new(alloc);
+    for piece in target {
+        if let Piece::Bytes(bytes) = piece {
+            filled.extend_from_slice(bytes.as_bytes())?;
+        }
+    }
+    filled.extend_from_slice(rest)?;
+    Ok(Text::from(filled))
 }
 
 // The target of the first alias that matches, and what follows the alias in the path.
-fn aliased<'a>(aliases: &'a [Alias], path: &'a [u8]) -> Option<(&'a [u8], &'a [u8])>
-    ensures { option_map (λ parts. parts.0.now ++ parts.1.now) result ≡ aliased aliases.now path.now }
+fn aliased<'a>(aliases: &'a [Alias], path: &'a [u8]) -> Option<(&'a Template, &'a [u8])>
+    ensures { option_map (λ parts. target_of parts.0.now ++ parts.1.now) result ≡ aliased aliases.now path.now }
 {
     for alias in aliases {
-        let from = alias.from.as_bytes();
-        if matches_prefix(from, path) {
-            return Some((alias.to.as_bytes(), &path[from.len()..]));
+        if let Some(rest) = rest_behind(&alias.from, path) {
+            return Some((&alias.to, rest));
         }
     }
     None
+}
+
+// What follows in a path that matches. A pattern matches nothing yet.
+fn rest_behind<'a>(from: &PathTest, path: &'a [u8]) -> Option<&'a [u8]>
+    ensures { option_map (λ rest. rest.now) result ≡ rest_behind from.now path.now }
+{
+    match from {
+        PathTest::Prefix(from) if matches_prefix(from.as_bytes(), path) => {
+            Some(&path[from.as_bytes().len()..])
+        }
+        _ => None,
+    }
 }
 
 // An alias that ends in a slash matches what begins with it; another matches itself, and what

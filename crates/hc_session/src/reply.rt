@@ -1,11 +1,11 @@
 ghost use Rattle.std.specs.Prelude.{◌≡◌, ◌<◌, ◌++◌, ◌∷◌, [], IfOk, OnOk, string_bytes};
 ghost use Rattle.serde_json.specs.View.{view};
-ghost use Rattle.hc_session.specs.Reply.{shown, shown_byte, hex_digit, outcome_data, refusal_data, reply_data, reply_line};
+ghost use Rattle.hc_session.specs.Reply.{shown, shown_byte, hex_digit, limit_name, outcome_data, reason_name, refusal_data, reply_data, reply_line};
 ghost use Rattle.hc_session.specs.ReplyView.{reply_view};
 
 use hc_base::codes::name_of_code;
 use hc_base::{NoMemory, Refusal, Text};
-use hc_model::Outcome;
+use hc_model::{LimitKind, Outcome, Reason};
 use serde_json::{Value, json};
 use std::alloc::Global;
 
@@ -59,6 +59,52 @@ fn outcome_value(alloc: Global, outcome: &Outcome) -> Result<Value, NoMemory>
             json!(in alloc; {"directory": path})
         }
         Outcome::NotFound => json!(in alloc; {"not_found": true}),
+        Outcome::Redirect { status, location } => {
+            let location = shown(alloc, location.as_bytes())?;
+            json!(in alloc; {"redirect": {"location": location, "status": *status}})
+        }
+        Outcome::Status(status) => status_value(alloc, *status),
+        Outcome::Limit(kind) => {
+            let name = limit_name(*kind);
+            json!(in alloc; {"limit": name})
+        }
+        Outcome::HtRefused(refusal) => {
+            let refusal = refusal_value(alloc, refusal)?;
+            json!(in alloc; {"ht_refused": refusal})
+        }
+        Outcome::Outside(reason) => {
+            let name = reason_name(*reason);
+            json!(in alloc; {"outside": name})
+        }
+    }
+}
+
+fn status_value(alloc: Global, status: u16) -> Result<Value, NoMemory>
+    ensures { IfOk result (λ value. view value ≡ outcome_data (Outcome.Status status)) }
+{
+    json!(in alloc; {"status": status})
+}
+
+fn limit_name(kind: LimitKind) -> &'static str
+    ensures { result.now ≡ limit_name kind }
+{
+    match kind {
+        LimitKind::Rounds => "rounds",
+        LimitKind::Redirects => "redirects",
+    }
+}
+
+fn reason_name(reason: Reason) -> &'static str
+    ensures { result.now ≡ reason_name reason }
+{
+    match reason {
+        Reason::PathByte => "path byte",
+        Reason::LongText => "long text",
+        Reason::DotSegment => "dot segment",
+        Reason::RelativeRedirect => "relative redirect",
+        Reason::RelativeUnderAlias => "relative under alias",
+        Reason::Scheme => "scheme",
+        Reason::NoRoot => "no root",
     }
 }
 
