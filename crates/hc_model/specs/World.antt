@@ -1,15 +1,15 @@
 -- A world of files: a finite map from absolute paths, and the edits of it. Our own choice.
-use Rattle.std.specs.Prelude.{◌≡◌, ℕ, ◌==◌, List, [], ◌∷◌, ◌++◌, length, take, drop, Bool, not, ◌&&◌, ◌||◌, if◌then◌else◌, nat_le, nat_lt, Some, Result, Ok, Err, Contains, IsSome}
-use Rattle.std.specs.List.{list_any, list_all, slice_split}
+use Rattle.std.specs.Prelude.{◌≡◌, ℕ, ◌==◌, List, [], ◌∷◌, ◌++◌, length, take, drop, Bool, not, ◌&&◌, ◌||◌, if◌then◌else◌, nat_le, nat_lt, nat_eq, Option, Some, None, refl, Result, Ok, Err, Contains, IsSome}
+use Rattle.std.specs.List.{filter_map, list_any, list_all, slice_split, starts_with}
 use Rattle.std.specs.Ordering.{nat_cmp}
 use Rattle.std.specs.Cmp.Lexicographic.{slice_cmp}
-use Rattle.std.specs.FinMap.{FinMap, get, insert, empty}
-use Rattle.std.specs.Coded.{Coded, coded_list, coded_ℕ}
+use Rattle.std.specs.FinMap.{FinMap, get, insert, empty, keys}
+use Rattle.std.specs.Coded.{Coded, code_by, coded_list, coded×, coded_ℕ}
 use Rattle.std.specs.FinMap as map
 use Rattle.hc_base.specs.Bytes.{is_control, slash}
-use Rattle.hc_base.specs.Paths.{is_slash, begins_with_slash, is_dots}
+use Rattle.hc_base.specs.Paths.{is_slash, begins_with_slash, ends_with_slash, is_dots}
 use Rattle.hc_base.specs.declared.codes.TheConstants.{IS_DIRECTORY, PATH_FORM, UNDER_FILE}
-use Rattle.hc_model.specs.Node.{Node, dir, text, node_code, is_dir, is_file}
+use Rattle.hc_model.specs.Node.{Node, dir, file, text, node_code, is_dir, is_file}
 
 abbrev pub World : Type 0
 World = FinMap (slice_cmp nat_cmp) Node
@@ -65,11 +65,63 @@ with_dirs world (path ∷ paths) = with_dirs (insert world path dir) paths
 abbrev pub is_under_file : World → List ℕ → Bool
 is_under_file world path = list_any (λ above. is_file (get world above)) (parents path)
 
--- A file with this text is made or replaced, and its missing parents are made; else the first rule
--- that is broken.
-abbrev pub put : World → List ℕ → List ℕ → Result World ℕ
-put world path bytes =
+-- The world with a node at a path and directories above it.
+abbrev pub with_node : World → List ℕ → Node → World
+with_node world path node = insert (with_dirs world (parents path)) path node
+
+-- A file, given as its node, is made or replaced, and its missing parents are made; else the first
+-- rule that is broken.
+abbrev pub put_file : World → List ℕ → Node → Result World ℕ
+put_file world path node =
     if not (is_path path) then Err PATH_FORM
     else (if is_under_file world path then Err UNDER_FILE
     else (if is_dir (get world path) then Err IS_DIRECTORY
-    else Ok (insert (with_dirs world (parents path)) path (text bytes))))
+    else Ok (with_node world path node)))
+
+-- A file with this text, and a file without a text.
+abbrev pub put : World → List ℕ → List ℕ → Result World ℕ
+put world path bytes = put_file world path (text bytes)
+
+abbrev pub list_file : World → List ℕ → Result World ℕ
+list_file world path = put_file world path file
+
+-- A directory is made, and its missing parents are made. One that is there stays.
+abbrev pub list_dir : World → List ℕ → Result World ℕ
+list_dir world path =
+    if not (is_path path) then Err PATH_FORM
+    else (if is_under_file world path || is_file (get world path) then Err UNDER_FILE
+    else Ok (with_node world path dir))
+
+-- ---- the names in a directory
+
+abbrev pub as_name : List ℕ → Option (List ℕ)
+as_name rest = if nat_lt 0 (length rest) && not (list_any is_slash rest) then Some rest else None
+
+abbrev pub name_behind_slash : List ℕ → Option (List ℕ)
+name_behind_slash [] = None
+name_behind_slash (b ∷ bs) = if is_slash b then as_name bs else None
+
+-- The name that a path has in a directory: what follows the directory and a slash, if this has no
+-- further slash.
+abbrev pub name_in : List ℕ → List ℕ → Option (List ℕ)
+name_in directory path =
+    if starts_with nat_eq path directory
+    then (if ends_with_slash directory then as_name (drop (length directory) path)
+    else name_behind_slash (drop (length directory) path))
+    else None
+
+-- The names in a directory, in the order of their bytes; none where there is no directory.
+abbrev pub names_in : World → List ℕ → List (List ℕ)
+names_in world directory =
+    if is_dir (get world directory) then filter_map (name_in directory) (keys world) else []
+
+-- ---- a world that is edited
+
+-- Its files, and how many edits were accepted.
+pub record Edited : Type 0 where
+  pub files : World
+  pub edits : ℕ
+
+abbrev pub edited_code : Coded Edited
+edited_code =
+    code_by (World × ℕ) (coded× world_code coded_ℕ) (λ e. (e.files, e.edits)) (λ p. record { files = p.0; edits = p.1 }) (λ _. refl)

@@ -42,7 +42,7 @@ impl Model for Session {
 
     ghost coded = { world_code };
 
-    ghost view = { λ s. s.world };
+    ghost view = { λ s. s.world.files };
 }
 
 impl Session {
@@ -70,9 +70,13 @@ impl Session {
     }
 
     // Puts a file. The reply is printed first, so that nothing has changed where it finds no memory.
+    // A world that has counted its last edit is no longer edited: this is answered as no memory is.
     fn put(&mut self, path: &str, text: &str) -> Result<Text, NoMemory>
         ensures { TurnedInto result self.old (put_turn self.old (put_in self.old path.now text.now)) self.new }
     {
+        if self.world.edits() == u64::MAX {
+            return Err(NoMemory);
+        }
         let done = print_reply(self.alloc, &Reply::DonePut)?;
         match self.world.put(path.as_bytes(), text) {
             Ok(()) => Ok(done),

@@ -1,3 +1,4 @@
+mod Ascending
 mod Lookups
 mod Parents
 mod Slashes

@@ -1,5 +1,5 @@
--- Edits of a world.
-use Rattle.std.proofs.Common.{◌≡◌, ◌≢◌, ℕ, ◌+◌, ◌<◌, Bool, true, false, not, ◌&&◌, ◌||◌, cond, eqb, List, [], ◌∷◌, length, take, Option, Some, None, Result, Ok, Err, IsSome, Contains, refl, sym, ap, ◌∙◌, subst, arith, rules}
+-- EditsFiles of a world.
+use Rattle.std.proofs.Common.{◌≡◌, ℕ, ◌+◌, ◌<◌, Bool, true, false, not, ◌&&◌, ◌||◌, cond, eqb, List, [], ◌∷◌, length, take, Option, Some, None, Result, Ok, Err, IsSome, Contains, refl, sym, ap, ◌∙◌, subst, arith, rules}
 use mathlib.Core.Logic.{⊎_elim}
 use Rattle.std.specs.Bool.{⊤}
 use Rattle.std.specs.List.{list_any}
@@ -15,8 +15,8 @@ use Rattle.std.proofs.lemmas.List.Folds.{list_any_none}
 use Rattle.std.proofs.lemmas.Map.Views.{Contains-from_any, list_any-from_Contains, tells_apart}
 use Rattle.hc_model.specs.Node.{Node, dir, file, text, is_dir, is_file, kind_of}
 use Rattle.hc_model.specs.declared.walk.Kind.TheVariants.{Absent, Dir, File}
-use Rattle.hc_model.specs.World.{World, IsWorld, root, parents, with_dirs, new_world, is_path, is_under_file, put}
-use Rattle.hc_world.specs.Edits.{Edits}
+use Rattle.hc_model.specs.World.{World, IsWorld, root, parents, with_dirs, with_node, new_world, is_path, is_under_file, list_dir, put_file}
+use Rattle.hc_world.specs.Edits.{EditsFiles, IsEdit}
 use Rattle.hc_world.specs.Entries.{add_in}
 use Rattle.hc_base.specs.declared.codes.TheConstants.{IS_DIRECTORY, PATH_FORM, UNDER_FILE}
 use Rattle.hc_base.specs.declared.fault.Fault.{Fault}
@@ -112,13 +112,13 @@ add_in-absent w made path from slash node is none e =
     ∙ add_in-made w (take slash path) (fronts_from path (slash + 1)) path node (ap is_file none) ∙ ap (λ v. add_in v (fronts_from path (slash + 1)) path node) (sym e)
 
 -- A failed edit of a world that was changed first, where the change is undone.
-pub Edits_undone : (result : Result ⊤ (Fault ℕ)) (old changed left new : World) (edit : Result World ℕ) → is_err result ≡ true → (left ≡ changed → new ≡ old) → Edits result changed left edit → Edits result old new edit
+pub Edits_undone : (result : Result ⊤ (Fault ℕ)) (old changed left new : World) (edit : Result World ℕ) → is_err result ≡ true → (left ≡ changed → new ≡ old) → EditsFiles result changed left edit → EditsFiles result old new edit
 Edits_undone (Ok _) old changed left new edit h undo e = absurd (false≢true h)
 Edits_undone (Err (Refused code)) old changed left new edit h undo e = (e.0, undo e.1)
 Edits_undone (Err NoMemory) old changed left new edit h undo e = undo e
 
 -- An edit that is made does not speak of the world before it.
-pub Edits_made : (result : Result ⊤ (Fault ℕ)) (old changed new : World) (edit : Result World ℕ) → is_err result ≡ false → Edits result changed new edit → Edits result old new edit
+pub Edits_made : (result : Result ⊤ (Fault ℕ)) (old changed new : World) (edit : Result World ℕ) → is_err result ≡ false → EditsFiles result changed new edit → EditsFiles result old new edit
 Edits_made (Ok _) old changed new edit h e = e
 Edits_made (Err fault) old changed new edit h e = absurd (true≢false h)
 
@@ -134,15 +134,15 @@ is_some_dir : (o : Option Node) → is_dir o ≡ true → IsSome o
 is_some_dir None h = absurd (false≢true h)
 is_some_dir (Some node) h = search rules
 
-put_formed : (w : World) (path bytes : List ℕ) → is_path path ≡ true → put w path bytes ≡ cond (is_under_file w path) (Err UNDER_FILE) (cond (is_dir (get w path)) (Err IS_DIRECTORY) (Ok (insert (with_dirs w (parents path)) path (text bytes))))
-put_formed w path bytes h = ap (λ b. cond (not b) (Err PATH_FORM) (cond (is_under_file w path) (Err UNDER_FILE) (cond (is_dir (get w path)) (Err IS_DIRECTORY) (Ok (insert (with_dirs w (parents path)) path (text bytes)))))) h
+put_formed : (w : World) (path : List ℕ) (node : Node) → is_path path ≡ true → put_file w path node ≡ cond (is_under_file w path) (Err UNDER_FILE) (cond (is_dir (get w path)) (Err IS_DIRECTORY) (Ok (insert (with_dirs w (parents path)) path node)))
+put_formed w path node h = ap (λ b. cond (not b) (Err PATH_FORM) (cond (is_under_file w path) (Err UNDER_FILE) (cond (is_dir (get w path)) (Err IS_DIRECTORY) (Ok (insert (with_dirs w (parents path)) path node))))) h
 
 -- What is there has no file above it.
-pub put-is_dir : (w : World) (path bytes : List ℕ) → IsWorld w → is_path path ≡ true → is_dir (get w path) ≡ true → put w path bytes ≡ Err IS_DIRECTORY
-put-is_dir w path bytes is formed h =
-    put_formed w path bytes formed
-    ∙ ap (λ b. cond b (Err UNDER_FILE) (cond (is_dir (get w path)) (Err IS_DIRECTORY) (Ok (insert (with_dirs w (parents path)) path (text bytes))))) (no_file_above w (parents path) (λ a c. is.parents_are_dirs path a (is_some_dir _ h) c))
-    ∙ ap (λ b. cond b (Err IS_DIRECTORY) (Ok (insert (with_dirs w (parents path)) path (text bytes)))) h
+pub put-is_dir : (w : World) (path : List ℕ) (node : Node) → IsWorld w → is_path path ≡ true → is_dir (get w path) ≡ true → put_file w path node ≡ Err IS_DIRECTORY
+put-is_dir w path node is formed h =
+    put_formed w path node formed
+    ∙ ap (λ b. cond b (Err UNDER_FILE) (cond (is_dir (get w path)) (Err IS_DIRECTORY) (Ok (insert (with_dirs w (parents path)) path node)))) (no_file_above w (parents path) (λ a c. is.parents_are_dirs path a (is_some_dir _ h) c))
+    ∙ ap (λ b. cond b (Err IS_DIRECTORY) (Ok (insert (with_dirs w (parents path)) path node))) h
 
 -- The path is no root, since the root is a directory.
 long : (w : World) (path : List ℕ) → IsWorld w → is_path path ≡ true → is_dir (get w path) ≡ false → 1 < length path
@@ -152,12 +152,12 @@ long w (x ∷ []) is formed h =
     absurd (false≢true (sym h ∙ ap (λ b. is_dir (get w (b ∷ []))) slash ∙ ap is_dir is.root_is_dir))
 long w (x ∷ y ∷ rest) is formed h = omega arith
 
-put-parents : (w : World) (path bytes : List ℕ) → is_path path ≡ true → is_dir (get w path) ≡ false → put w path bytes ≡ add_in w (parents path) path (text bytes)
-put-parents w path bytes formed h = put_formed w path bytes formed ∙ ap (λ b. cond (is_under_file w path) (Err UNDER_FILE) (cond b (Err IS_DIRECTORY) (Ok (insert (with_dirs w (parents path)) path (text bytes))))) h
+put-parents : (w : World) (path : List ℕ) (node : Node) → is_path path ≡ true → is_dir (get w path) ≡ false → put_file w path node ≡ add_in w (parents path) path node
+put-parents w path node formed h = put_formed w path node formed ∙ ap (λ b. cond (is_under_file w path) (Err UNDER_FILE) (cond b (Err IS_DIRECTORY) (Ok (insert (with_dirs w (parents path)) path node)))) h
 
-put-add_in : (w : World) (path bytes : List ℕ) → IsWorld w → is_path path ≡ true → is_dir (get w path) ≡ false → put w path bytes ≡ add_in w (fronts_from path 1) path (text bytes)
-put-add_in w path bytes is formed h =
-    put-parents w path bytes formed h ∙ ap (λ ps. add_in w ps path (text bytes)) (parents-long path (long w path is formed h)) ∙ add_in-dir w root (fronts_from path 1) path (text bytes) is.root_is_dir
+put-add_in : (w : World) (path : List ℕ) (node : Node) → IsWorld w → is_path path ≡ true → is_dir (get w path) ≡ false → put_file w path node ≡ add_in w (fronts_from path 1) path node
+put-add_in w path node is formed h =
+    put-parents w path node formed h ∙ ap (λ ps. add_in w ps path node) (parents-long path (long w path is formed h)) ∙ add_in-dir w root (fronts_from path 1) path node is.root_is_dir
 
 accepted : (b : Bool) (v new : World) → cond {A = Result World ℕ} b (Err UNDER_FILE) (Ok v) ≡ Ok new → v ≡ new
 accepted true v new e = cc
@@ -166,67 +166,99 @@ accepted false v new e = cc
 ok_from_add_in : (w new : World) (paths : List (List ℕ)) (path : List ℕ) (node : Node) → add_in w paths path node ≡ Ok new → insert (with_dirs w paths) path node ≡ new
 ok_from_add_in w new paths path node h = accepted (list_any (λ a. is_file (get w a)) paths) (insert (with_dirs w paths) path node) new h
 
-abbrev made : World → List ℕ → List ℕ → World
-made w path bytes = insert (with_dirs w (parents path)) path (text bytes)
+get-made : (w : World) (path : List ℕ) (node : Node) (q : List ℕ) → get (with_node w path node) q ≡ cond (same_path q path) (Some node) (cond (is_among (parents path) q) (Some dir) (get w q))
+get-made w path node q = get_inserted (with_dirs w (parents path)) path node q ∙ ap (cond (same_path q path) (Some node)) (get-with_dirs w (parents path) q)
 
-get-made : (w : World) (path bytes q : List ℕ) → get (made w path bytes) q ≡ cond (same_path q path) (Some (text bytes)) (cond (is_among (parents path) q) (Some dir) (get w q))
-get-made w path bytes q = get_inserted (with_dirs w (parents path)) path (text bytes) q ∙ ap (cond (same_path q path) (Some (text bytes))) (get-with_dirs w (parents path) q)
-
-get-made_apart : (w : World) (path bytes q : List ℕ) → same_path q path ≡ false → get (made w path bytes) q ≡ cond (is_among (parents path) q) (Some dir) (get w q)
-get-made_apart w path bytes q e = get-made w path bytes q ∙ ap (λ b. cond b (Some (text bytes)) (cond (is_among (parents path) q) (Some dir) (get w q))) e
+get-made_apart : (w : World) (path : List ℕ) (node : Node) (q : List ℕ) → same_path q path ≡ false → get (with_node w path node) q ≡ cond (is_among (parents path) q) (Some dir) (get w q)
+get-made_apart w path node q e = get-made w path node q ∙ ap (λ b. cond b (Some node) (cond (is_among (parents path) q) (Some dir) (get w q))) e
 
 apart : (q path : List ℕ) → (q ≡ path → ⊥) → same_path q path ≡ false
 apart q path h = false_from_ne_true _ (λ e. h (same_path-true q path e))
 
-dir_made : (w : World) (path bytes q : List ℕ) → is_among (parents path) q ≡ true → get (made w path bytes) q ≡ Some dir
-dir_made w path bytes q h =
-    get-made_apart w path bytes q (apart q path (λ e. let l = parent_shorter path q h in let m : length q ≡ length path = ap length e in omega arith)) ∙ cond-true _ (Some dir) (get w q) h
+dir_made : (w : World) (path : List ℕ) (node : Node) (q : List ℕ) → is_among (parents path) q ≡ true → get (with_node w path node) q ≡ Some dir
+dir_made w path node q h =
+    get-made_apart w path node q (apart q path (λ e. let l = parent_shorter path q h in let m : length q ≡ length path = ap length e in omega arith)) ∙ cond-true _ (Some dir) (get w q) h
 
-dir_stays : (w : World) (path bytes q : List ℕ) → is_dir (get w path) ≡ false → get w q ≡ Some dir → get (made w path bytes) q ≡ Some dir
-dir_stays w path bytes q h is =
-    get-made_apart w path bytes q (apart q path (λ e. false≢true (sym h ∙ ap (λ p. is_dir (get w p)) (sym e) ∙ ap is_dir is)))
+dir_stays : (w : World) (path : List ℕ) (node : Node) (q : List ℕ) → is_dir (get w path) ≡ false → get w q ≡ Some dir → get (with_node w path node) q ≡ Some dir
+dir_stays w path node q h is =
+    get-made_apart w path node q (apart q path (λ e. false≢true (sym h ∙ ap (λ p. is_dir (get w p)) (sym e) ∙ ap is_dir is)))
     ∙ cond_both (is_among (parents path) q) (Some dir) (get w q) (λ o. o ≡ Some dir) (λ _. refl) (λ _. is)
 
-IsWorld-made : (w : World) (path bytes : List ℕ) → IsWorld w → is_dir (get w path) ≡ false → IsWorld (made w path bytes)
-IsWorld-made w path bytes is h = record {
-  root_is_dir = dir_stays w path bytes root h is.root_is_dir;
+IsWorld-made : (w : World) (path : List ℕ) (node : Node) → IsWorld w → is_dir (get w path) ≡ false → IsWorld (with_node w path node)
+IsWorld-made w path node is h = record {
+  root_is_dir = dir_stays w path node root h is.root_is_dir;
   parents_are_dirs = λ q above there c.
       let k = is_among-from_Contains (parents q) above c in
       ⊎_elim
-      (λ e. dir_made w path bytes above (ap (λ p. is_among (parents p) above) (sym (same_path-true q path e)) ∙ k))
+      (λ e. dir_made w path node above (ap (λ p. is_among (parents p) above) (sym (same_path-true q path e)) ∙ k))
       (λ e. ⊎_elim
-      (λ a. dir_made w path bytes above (parents_of_parent path q above a k))
-      (λ a. dir_stays w path bytes above h (is.parents_are_dirs q above (subst IsSome (get-made_apart w path bytes q e ∙ cond-false _ (Some dir) (get w q) a) there) c))
+      (λ a. dir_made w path node above (parents_of_parent path q above a k))
+      (λ a. dir_stays w path node above h (is.parents_are_dirs q above (subst IsSome (get-made_apart w path node q e ∙ cond-false _ (Some dir) (get w q) a) there) c))
       (cases_Bool (is_among (parents path) q)))
       (cases_Bool (same_path q path));
 }
 
--- What all edits of one path keep: the other paths, and that it is a world.
-pub record IsEdit (path : List ℕ) (old new : World) : Type 0 where
-  pub valid : IsWorld new
-  pub others : (q : List ℕ) → q ≢ path → (Contains (parents path) q → ⊥) → get new q ≡ get old q
-
-IsEdit_same : (path : List ℕ) (old new : World) → IsWorld old → new ≡ old → IsEdit path old new
+pub IsEdit_same : (path : List ℕ) (old new : World) → IsWorld old → new ≡ old → IsEdit path old new
 IsEdit_same path old new is e = record {
   valid = subst IsWorld (sym e) is;
   others = λ q _ _. ap (λ w. get w q) e;
 }
 
-IsEdit-made : (w : World) (path bytes : List ℕ) → IsWorld w → is_dir (get w path) ≡ false → IsEdit path w (made w path bytes)
-IsEdit-made w path bytes is h = record {
-  valid = IsWorld-made w path bytes is h;
-  others = λ q ne no. get-made_apart w path bytes q (apart q path ne)
+IsEdit-made : (w : World) (path : List ℕ) (node : Node) → IsWorld w → is_dir (get w path) ≡ false → IsEdit path w (with_node w path node)
+IsEdit-made w path node is h = record {
+  valid = IsWorld-made w path node is h;
+  others = λ q ne no. get-made_apart w path node q (apart q path ne)
       ∙ cond-false _ (Some dir) (get w q) (false_from_ne_true _ (λ e. no (Contains-from_any (tells_apart exact_bytes) q (parents path) e)));
 }
 
-pub IsEdit-from_Edits : (result : Result ⊤ (Fault ℕ)) (w new : World) (path bytes : List ℕ) → IsWorld w → is_path path ≡ true → is_dir (get w path) ≡ false → Edits result w new (put w path bytes) → IsEdit path w new
-IsEdit-from_Edits (Ok _) w new path bytes is formed h e =
-    subst (IsEdit path w) (ok_from_add_in w new (parents path) path (text bytes) (sym (put-parents w path bytes formed h) ∙ e)) (IsEdit-made w path bytes is h)
-IsEdit-from_Edits (Err (Refused code)) w new path bytes is formed h e = IsEdit_same path w new is e.1
-IsEdit-from_Edits (Err NoMemory) w new path bytes is formed h e = IsEdit_same path w new is e
+pub IsEdit-from_Edits : (result : Result ⊤ (Fault ℕ)) (w new : World) (path : List ℕ) (node : Node) → IsWorld w → is_path path ≡ true → is_dir (get w path) ≡ false → EditsFiles result w new (put_file w path node) → IsEdit path w new
+IsEdit-from_Edits (Ok _) w new path node is formed h e =
+    subst (IsEdit path w) (ok_from_add_in w new (parents path) path node (sym (put-parents w path node formed h) ∙ e)) (IsEdit-made w path node is h)
+IsEdit-from_Edits (Err (Refused code)) w new path node is formed h e = IsEdit_same path w new is e.1
+IsEdit-from_Edits (Err NoMemory) w new path node is formed h e = IsEdit_same path w new is e
 
-pub Edits-from_add : (result : Result ⊤ (Fault ℕ)) (w new : World) (path bytes : List ℕ) → IsWorld w → is_path path ≡ true → is_dir (get w path) ≡ false → Edits result w new (add_in w (fronts_from path 1) path (text bytes)) → Edits result w new (put w path bytes)
-Edits-from_add result w new path bytes is formed h e = subst (Edits result w new) (sym (put-add_in w path bytes is formed h)) e
+pub EditsFiles-from_add : (result : Result ⊤ (Fault ℕ)) (w new : World) (path : List ℕ) (node : Node) → IsWorld w → is_path path ≡ true → is_dir (get w path) ≡ false → EditsFiles result w new (add_in w (fronts_from path 1) path node) → EditsFiles result w new (put_file w path node)
+EditsFiles-from_add result w new path node is formed h e = subst (EditsFiles result w new) (sym (put-add_in w path node is formed h)) e
+
+-- ---- directories that are listed
+
+list_dir_formed : (w : World) (path : List ℕ) → is_path path ≡ true → list_dir w path ≡ cond (is_under_file w path || is_file (get w path)) (Err UNDER_FILE) (Ok (with_node w path dir))
+list_dir_formed w path h = ap (λ b. cond (not b) (Err PATH_FORM) (cond (is_under_file w path || is_file (get w path)) (Err UNDER_FILE) (Ok (with_node w path dir)))) h
+
+or_true : (a b : Bool) → b ≡ true → (a || b) ≡ true
+or_true true b h = refl
+or_true false b h = h
+
+or_false : (a b : Bool) → b ≡ false → (a || b) ≡ a
+or_false true b h = refl
+or_false false b h = h
+
+pub list_dir-file : (w : World) (path : List ℕ) → is_path path ≡ true → is_file (get w path) ≡ true → list_dir w path ≡ Err UNDER_FILE
+list_dir-file w path formed h =
+    list_dir_formed w path formed ∙ ap (λ b. cond b (Err UNDER_FILE) (Ok (with_node w path dir))) (or_true (is_under_file w path) _ h)
+
+-- Where nothing is, it is an entry like any other.
+pub list_dir-absent : (w : World) (path : List ℕ) → is_path path ≡ true → get w path ≡ None → list_dir w path ≡ put_file w path dir
+list_dir-absent w path formed h =
+    list_dir_formed w path formed ∙ ap (λ b. cond b (Err UNDER_FILE) (Ok (with_node w path dir))) (or_false (is_under_file w path) _ (ap is_file h))
+    ∙ sym (ap (λ b. cond (is_under_file w path) (Err UNDER_FILE) (cond b (Err IS_DIRECTORY) (Ok (with_node w path dir)))) (ap is_dir h)) ∙ sym (put_formed w path dir formed)
+
+with_node_same : (w : World) (path : List ℕ) → IsWorld w → get w path ≡ Some dir → with_node w path dir ≡ w
+with_node_same w path is h = same_world _ _ (λ q.
+    get-made w path dir q
+    ∙ elim (same_path q path) as (λ b. same_path q path ≡ b → cond b (Some dir) (cond (is_among (parents path) q) (Some dir) (get w q)) ≡ get w q) [
+      | true ↦ λ e. sym h ∙ ap (get w) (sym (same_path-true q path e))
+      | false ↦ λ e. elim (is_among (parents path) q) as (λ a. is_among (parents path) q ≡ a → cond a (Some dir) (get w q) ≡ get w q) [
+        | true ↦ λ a. sym (is.parents_are_dirs path q (is_some_dir _ (ap is_dir h)) (Contains-from_any (tells_apart exact_bytes) q (parents path) a))
+        | false ↦ λ _. refl
+      ] refl
+    ] refl)
+
+pub list_dir-dir : (w : World) (path : List ℕ) → IsWorld w → is_path path ≡ true → get w path ≡ Some dir → list_dir w path ≡ Ok w
+list_dir-dir w path is formed h =
+    list_dir_formed w path formed
+    ∙ ap (λ b. cond (b || is_file (get w path)) (Err UNDER_FILE) (Ok (with_node w path dir))) (no_file_above w (parents path) (λ a c. is.parents_are_dirs path a (is_some_dir _ (ap is_dir h)) c))
+    ∙ ap (λ b. cond b (Err UNDER_FILE) (Ok (with_node w path dir))) (ap is_file h) ∙ ap Ok (with_node_same w path is h)
 
 -- ---- the world of the root alone
 

@@ -4,13 +4,14 @@ use Rattle.std.specs.declared.alloc.Global.{Global}
 use Rattle.std.specs.FinMap.{from_entries, get, insert}
 use Rattle.std.specs.List.{list_any}
 use Rattle.hc_base.specs.declared.codes.TheConstants.{UNDER_FILE}
-use Rattle.hc_model.specs.Node.{Node, dir, text, is_file}
+use Rattle.hc_model.specs.Node.{Node, dir, file, text, is_file}
 use Rattle.hc_model.specs.World.{World, with_dirs}
 use Rattle.hc_world.specs.declared.entries.Entry.{Entry}
 use Rattle.hc_world.specs.declared.entries.Entry.TheVariants as entry
 
 abbrev pub node_of : Entry → Node
 node_of entry.Dir = dir
+node_of entry.File = file
 node_of (entry.Text bytes) = text (string_bytes bytes)
 
 -- an entry as a path and what the world has there

@@ -2,8 +2,9 @@
 #![tactic(auto)]
 
 mod entries;
+mod names;
 mod path;
 mod walk;
 mod world;
 
-pub use world::{World, WorldFault};
+pub use world::{ListKind, World, WorldFault};

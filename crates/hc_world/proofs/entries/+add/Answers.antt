@@ -2,7 +2,7 @@ use Rattle.std.proofs.Common.{◌≡◌, ◌+◌, true, false, None, Ok, sym, ap
 use Rattle.std.specs.Result.{is_err}
 use Rattle.std.specs.FinMap.{get, insert, remove}
 use Rattle.hc_model.specs.Node.{dir}
-use Rattle.hc_world.specs.Edits.{Edits}
+use Rattle.hc_world.specs.Edits.{EditsFiles}
 use Rattle.hc_world.specs.Entries.{world_of, node_of, add_in}
 use Rattle.hc_world.specs.Slashes.{fronts_from}
 use Rattle.hc_world.proofs.Lookups.{world_inserted, world_removed}
@@ -36,7 +36,7 @@ returns-in-Dir t c =
     let same : add_in w (fronts_from path c.args.from) path (node_of c.args.entry) ≡ add_in w (fronts_from path (c.in-Some.slash + 1)) path (node_of c.args.entry) =
     ap (λ ps. add_in w ps path (node_of c.args.entry)) (fronts_from-some path c.args.from c.in-Some.slash c.in-Some.ensures.some)
     ∙ add_in-dir w above (fronts_from path (c.in-Some.slash + 1)) path (node_of c.args.entry) (dir_from_kind _ (sym c.in-Dir.ensures)) in
-    subst (Edits c.add.result w (world_of c.add.new.entries.entries)) (sym same) c.add.ensures
+    subst (EditsFiles c.add.result w (world_of c.add.new.entries.entries)) (sym same) c.add.ensures
 
 pub returns-then-is_err : goal.returns-then-is_err
 returns-then-is_err t c =
@@ -52,7 +52,7 @@ returns-then-is_err t c =
     let left = c.add-added.new.entries.entries in
     let after = c.remove.new.self.entries in
     let undone = λ (same : world_of left ≡ made). world_removed left after (take slash path) c.remove.ensures.updates.0 ∙ ap (λ v. remove v (take slash path)) (same ∙ is_made) ∙ remove_inserted w (take slash path) dir none in
-    subst (Edits c.add-added.result w (world_of after)) (sym (add_in-absent w made path c.args.from slash (node_of c.args.entry) c.in-Some.ensures.some none is_made))
+    subst (EditsFiles c.add-added.result w (world_of after)) (sym (add_in-absent w made path c.args.from slash (node_of c.args.entry) c.in-Some.ensures.some none is_made))
     (Edits_undone c.add-added.result w made (world_of left) (world_of after) _ failed undone c.add-added.ensures)
 
 pub returns-else-is_err : goal.returns-else-is_err
@@ -67,5 +67,5 @@ returns-else-is_err t c =
     let none : get w (take slash path) ≡ None = none_from_kind _ (sym c.in-Absent.ensures) in
     let done : is_err c.add-added.result ≡ false = search rules in
     let after = c.add-added.new.entries.entries in
-    subst (Edits c.add-added.result w (world_of after)) (sym (add_in-absent w made path c.args.from slash (node_of c.args.entry) c.in-Some.ensures.some none is_made))
+    subst (EditsFiles c.add-added.result w (world_of after)) (sym (add_in-absent w made path c.args.from slash (node_of c.args.entry) c.in-Some.ensures.some none is_made))
     (Edits_made c.add-added.result w made (world_of after) _ done c.add-added.ensures)

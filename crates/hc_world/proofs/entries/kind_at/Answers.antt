@@ -13,3 +13,6 @@ returns-in-Some-Dir c = sym (ap kind_of (get-world_of c.args.entries.now.entries
 
 pub returns-in-Some-Text : goal.returns-in-Some-Text
 returns-in-Some-Text c = sym (ap kind_of (get-world_of c.args.entries.now.entries c.args.path.now ∙ ap (option_map node_of) (sym c.get.ensures.value ∙ ap option_copied c.in-Some-Text.is ∙ ap Some c.in-Some-Text.field-0-is)))
+
+pub returns-in-Some-File : goal.returns-in-Some-File
+returns-in-Some-File c = sym (ap kind_of (get-world_of c.args.entries.now.entries c.args.path.now ∙ ap (option_map node_of) (sym c.get.ensures.value ∙ ap option_copied c.in-Some-File.is ∙ ap Some c.in-Some-File.field-0-is)))

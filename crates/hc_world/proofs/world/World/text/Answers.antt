@@ -2,6 +2,7 @@ use Rattle.std.proofs.Common.{◌≡◌, Some, None, sym, ap, ◌∙◌, rules}
 use Rattle.std.specs.FinMap.{get}
 use Rattle.std.specs.Option.{option_map, option_copied}
 use Rattle.hc_model.specs.Node.{text_of}
+use Rattle.hc_model.specs.World.{Edited}
 use Rattle.hc_world.specs.Entries.{node_of}
 use Rattle.hc_world.proofs.Lookups.{get-world_of}
 use Rattle.hc_world.proofs.world.World.text.Goals as goal
@@ -10,13 +11,17 @@ pub returns-in_err-text : goal.returns-in_err-text
 returns-in_err-text c =
     let none : c.from_residual.result ≡ None = search rules in
     ap (option_map (λ text. text.now)) none
-    ∙ sym (ap (λ w. text_of (get w c.args.path.now)) (sym c.self.view_is) ∙ ap text_of (get-world_of c.self.inside.entries.entries c.args.path.now ∙ ap (option_map node_of) (sym c.get.ensures.value ∙ ap option_copied c.in_err-text.was)))
+    ∙ sym (ap (λ (w : Edited). text_of (get w.files c.args.path.now)) (sym c.self.view_is) ∙ ap text_of (get-world_of c.self.inside.entries.entries c.args.path.now ∙ ap (option_map node_of) (sym c.get.ensures.value ∙ ap option_copied c.in_err-text.was)))
 
 pub returns-in-Dir : goal.returns-in-Dir
 returns-in-Dir c =
-    sym (ap (λ w. text_of (get w c.args.path.now)) (sym c.self.view_is) ∙ ap text_of (get-world_of c.self.inside.entries.entries c.args.path.now ∙ ap (option_map node_of) (sym c.get.ensures.value ∙ ap option_copied c.in_ok-text.was ∙ ap Some c.in-Dir.is)))
+    sym (ap (λ (w : Edited). text_of (get w.files c.args.path.now)) (sym c.self.view_is) ∙ ap text_of (get-world_of c.self.inside.entries.entries c.args.path.now ∙ ap (option_map node_of) (sym c.get.ensures.value ∙ ap option_copied c.in_ok-text.was ∙ ap Some c.in-Dir.is)))
+
+pub returns-in-File : goal.returns-in-File
+returns-in-File c =
+    sym (ap (λ (w : Edited). text_of (get w.files c.args.path.now)) (sym c.self.view_is) ∙ ap text_of (get-world_of c.self.inside.entries.entries c.args.path.now ∙ ap (option_map node_of) (sym c.get.ensures.value ∙ ap option_copied c.in_ok-text.was ∙ ap Some c.in-File.is)))
 
 pub returns-in-Text : goal.returns-in-Text
 returns-in-Text c =
     ap Some c.as_str.ensures.value
-    ∙ sym (ap (λ w. text_of (get w c.args.path.now)) (sym c.self.view_is) ∙ ap text_of (get-world_of c.self.inside.entries.entries c.args.path.now ∙ ap (option_map node_of) (sym c.get.ensures.value ∙ ap option_copied c.in_ok-text.was ∙ ap Some c.in-Text.is)))
+    ∙ sym (ap (λ (w : Edited). text_of (get w.files c.args.path.now)) (sym c.self.view_is) ∙ ap text_of (get-world_of c.self.inside.entries.entries c.args.path.now ∙ ap (option_map node_of) (sym c.get.ensures.value ∙ ap option_copied c.in_ok-text.was ∙ ap Some c.in-Text.is)))

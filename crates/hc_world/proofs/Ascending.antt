@@ -1,0 +1,41 @@
+-- The entries of a map, in their order, are those of the world that they stand for.
+use Rattle.std.proofs.Common.{◌≡◌, ℕ, Bool, true, false, ◌&&◌, List, [], ◌∷◌, map, Vec, sym, ap, ◌∙◌, subst, T}
+use Rattle.std.specs.declared.alloc.Global.{Global}
+use Rattle.std.specs.declared.cmp.Ordering.TheVariants.{Less}
+use Rattle.std.specs.FinMap.{from_sorted, entries-from_sorted, get-from_entries, get-from_sorted, keys}
+use Rattle.std.specs.FinMap.Entries.{below_all, is_sorted}
+use Rattle.std.specs.List.{AllByRecursion}
+use Rattle.std.specs.List.Sorted.{IsStrictlySortedBy}
+use Rattle.std.specs.Map.{keys_of}
+use Rattle.std.specs.Ordering.{is_lt, nat_cmp}
+use Rattle.std.specs.Cmp.Lexicographic.{slice_cmp}
+use Rattle.std.proofs.lemmas.Cmp.{nat_list_cmp_total}
+use Rattle.hc_world.specs.declared.entries.Entry.{Entry}
+use Rattle.hc_world.specs.Entries.{entry_of, world_of}
+use Rattle.hc_world.proofs.Lookups.{same_world}
+
+abbrev Entries : Type 0
+Entries = List (Vec ℕ Global × Entry)
+
+both : (a b : Bool) → T a → T b → T (a && b)
+both true b p q = q
+both false b p q = p
+
+below : (key : Vec ℕ Global) (entries : Entries) → AllByRecursion (λ y. slice_cmp nat_cmp key.items y.items ≡ Less) (keys_of entries) → T (below_all (slice_cmp nat_cmp) key.items (map entry_of entries))
+below key [] all = tt
+below key (e ∷ es) all = subst (λ o. T (is_lt o && below_all (slice_cmp nat_cmp) key.items (map entry_of es))) (sym all.0) (below key es all.1)
+
+abbrev pub Ascend : Entries → Type 0
+Ascend entries = IsStrictlySortedBy (λ a b. slice_cmp nat_cmp a.items b.items) (keys_of entries)
+
+sorted : (entries : Entries) → Ascend entries → T (is_sorted (slice_cmp nat_cmp) (map entry_of entries))
+unfolding IsStrictlySortedBy
+sorted [] s = tt
+sorted (e ∷ es) s = both _ _ (below e.0 es s.0) (sorted es s.1)
+
+pub keys-world_of : (entries : Entries) → Ascend entries → keys (world_of entries) ≡ map (λ e. e.0) (map entry_of entries)
+keys-world_of entries s =
+    let rises = sorted entries s in
+    let same : world_of entries ≡ from_sorted (map entry_of entries) =
+    same_world _ _ (λ q. get-from_entries nat_list_cmp_total (map entry_of entries) q ∙ sym (get-from_sorted (slice_cmp nat_cmp) (map entry_of entries) q rises)) in
+    ap keys same ∙ ap (map (λ e. e.0)) (entries-from_sorted (slice_cmp nat_cmp) (map entry_of entries) rises)
