@@ -147,14 +147,34 @@ last_of (path ∷ next ∷ paths) = last_of (next ∷ paths)
 
 abbrev pub no_body : Body
 no_body = roll-Body (record {
-    options = []; allow = None; merging = Off; require = None; engine = None; base = None;
-    rules = []; rewrites = false; redirects = []; inner = []; inherit = No })
+  options = [];
+  allow = None;
+  merging = Off;
+  require = None;
+  engine = None;
+  base = None;
+  rules = [];
+  rewrites = false;
+  redirects = [];
+  inner = [];
+  inherit = No;
+})
 
 -- A main server of which nothing is said.
 abbrev pub no_server : Server
 no_server = record {
-    place = record { file = []; line = 0 }; addresses = []; name = None; aliases = []; root = None;
-    redirects = []; maps = []; body = no_body; sections = []; recursion = None; maps_by_name = [] }
+  place = record { file = []; line = 0 };
+  addresses = [];
+  name = None;
+  aliases = [];
+  root = None;
+  redirects = [];
+  maps = [];
+  body = no_body;
+  sections = [];
+  recursion = None;
+  maps_by_name = [];
+}
 
 -- The last DocumentRoot counts, and every Alias in its order.
 abbrev pub gathered_of : List Placed → Gathered

@@ -1,16 +1,31 @@
 use hc_base::codes::{IS_DIRECTORY, PATH_FORM, UNDER_FILE};
 use hc_base::{Fault, NoMemory};
 use hc_model::{Kind, Walk};
-use hc_world::{World, WorldFault};
+use hc_world::{ListKind, World, WorldFault};
 use std::alloc::Global;
 use std::process::Abort;
 use std::test::Fail;
 
+// A put into a world that can still count it.
+fn put(world: &mut World, path: &str, text: &str) -> Result<(), WorldFault> {
+    if world.edits() == u64::MAX {
+        return Err(Fault::NoMemory);
+    }
+    world.put(path.as_bytes(), text)
+}
+
+fn list(world: &mut World, path: &str, kind: ListKind) -> Result<(), WorldFault> {
+    if world.edits() == u64::MAX {
+        return Err(Fault::NoMemory);
+    }
+    world.list(path.as_bytes(), kind)
+}
+
 // A world with two files, one of them in a directory.
 fn two_files(alloc: Global) -> Result<World, WorldFault> {
     let mut world = World::new(alloc)?;
-    world.put(b"/site/a.txt", "one")?;
-    world.put(b"/b", "")?;
+    put(&mut world, "/site/a.txt", "one")?;
+    put(&mut world, "/b", "")?;
     Ok(world)
 }
 
@@ -36,19 +51,20 @@ fn puts_files(rt: HostRuntime) -> Result<(), Fail> {
     let alloc = rt.alloc();
     let mut world = two_files(alloc)?;
     check_two_files(&rt, &world);
-    world.put(b"/b", "two")?;
+    put(&mut world, "/b", "two")?;
     assert_eq!(rt; world.text(b"/b"), Some("two"));
     let component = format!(in alloc; "/{}", "a".repeat(alloc, 255)?)?;
     let longest = component.repeat(alloc, 16)?;
-    world.put(longest.as_bytes(), "deep")?;
+    put(&mut world, &longest, "deep")?;
     assert_eq!(rt; world.text(longest.as_bytes()), Some("deep"));
     Ok(())
 }
 
 // That a put is refused with this code and changes nothing.
 fn check_refused(rt: &impl Abort, world: &mut World, path: &str, code: u8) {
-    let answer = world.put(path.as_bytes(), "new");
+    let answer = put(world, path, "new");
     assert_eq!(rt; answer, Err(Fault::Refused(code)), "at {path}");
+    assert_eq!(rt; world.edits(), 2);
     check_two_files(rt, world);
 }
 
@@ -112,6 +128,77 @@ fn walks(rt: HostRuntime) -> Result<(), Fail> {
     for &(given, wanted) in ROWS {
         let shown = show_walk(rt.alloc(), &world.walk(given.as_bytes())?)?;
         assert_eq!(rt; shown.as_slice(), wanted.as_bytes(), "at {given}");
+    }
+    Ok(())
+}
+
+// The number of a refusal, 0 where there is none.
+fn code_of(answer: Result<(), WorldFault>) -> Result<u8, NoMemory> {
+    match answer {
+        Ok(()) => Ok(0),
+        Err(Fault::Refused(code)) => Ok(code),
+        Err(Fault::NoMemory) => Err(NoMemory),
+    }
+}
+
+// The names in a directory, with a colon behind each.
+fn show_names(alloc: Global, world: &World, directory: &str) -> Result<Vec<u8>, NoMemory> {
+    let mut shown = Vec::new(alloc);
+    for name in world.names(directory.as_bytes())?.as_slice() {
+        shown.extend_from_slice(name.as_bytes())?;
+        shown.push(b':')?;
+    }
+    Ok(shown)
+}
+
+// Lists in their order: the refusal, the edits afterwards, and what then stands there.
+static LISTS: &[(ListKind, &str, u8, u64, Kind)] = &[
+    (ListKind::Dir, "/site", 0, 3, Kind::Dir),
+    (ListKind::Dir, "/new/deep", 0, 4, Kind::Dir),
+    (ListKind::File, "/new/f", 0, 5, Kind::File),
+    (ListKind::File, "/b", 0, 6, Kind::File),
+    (ListKind::File, "/site", IS_DIRECTORY, 6, Kind::Dir),
+    (ListKind::File, "/", IS_DIRECTORY, 6, Kind::Dir),
+    (ListKind::Dir, "/", 0, 7, Kind::Dir),
+    (ListKind::Dir, "/new/f", UNDER_FILE, 7, Kind::File),
+    (ListKind::Dir, "/new/f/g", UNDER_FILE, 7, Kind::Absent),
+    (ListKind::File, "/b/c", UNDER_FILE, 7, Kind::Absent),
+    (ListKind::Dir, "x", PATH_FORM, 7, Kind::Absent),
+    (ListKind::File, "/x/", PATH_FORM, 7, Kind::Absent),
+    (ListKind::File, "/new/Z", 0, 8, Kind::File),
+    (ListKind::File, "/new/deep/x", 0, 9, Kind::File),
+    (ListKind::File, "/new/deep.d", 0, 10, Kind::File),
+    (ListKind::Dir, "/new/\u{e9}", 0, 11, Kind::Dir),
+];
+
+static NAMES: &[(&str, &str)] = &[
+    ("/", "b:new:site:"),
+    ("/new", "Z:deep:deep.d:f:\u{e9}:"),
+    ("/new/deep", "x:"),
+    ("/site", "a.txt:"),
+    ("/new/\u{e9}", ""),
+    ("/b", ""),
+    ("/none", ""),
+    ("/ne", ""),
+    ("/new/", ""),
+    ("", ""),
+];
+
+#[test]
+fn lists_and_names(rt: HostRuntime) -> Result<(), Fail> {
+    let alloc = rt.alloc();
+    let mut world = two_files(alloc)?;
+    assert_eq!(rt; World::new(alloc)?.edits(), 0);
+    for &(kind, path, code, edits, there) in LISTS {
+        assert_eq!(rt; code_of(list(&mut world, path, kind))?, code, "at {path}");
+        assert_eq!(rt; world.edits(), edits, "at {path}");
+        assert_eq!(rt; world.kind(path.as_bytes()), there, "at {path}");
+    }
+    assert_eq!(rt; world.text(b"/b"), None);
+    assert_eq!(rt; world.text(b"/site/a.txt"), Some("one"));
+    for &(directory, wanted) in NAMES {
+        let shown = show_names(alloc, &world, directory)?;
+        assert_eq!(rt; shown.as_slice(), wanted.as_bytes(), "in {directory}");
     }
     Ok(())
 }
