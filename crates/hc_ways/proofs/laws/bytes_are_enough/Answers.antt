@@ -1,0 +1,7 @@
+use Rattle.std.proofs.Common.{length}
+use Rattle.hc_ways.specs.Kept.{last_ways, with_group}
+use Rattle.hc_ways.proofs.Turns.{bounded, enough_turns}
+use Rattle.hc_ways.proofs.laws.bytes_are_enough.Goals as goal
+
+pub returns : goal.returns
+returns c text body greedy = enough_turns (length text) greedy (last_ways text body) (bounded with_group text body)

@@ -1,0 +1,3 @@
+pub mod Ways
+pub mod Kept
+pub mod Laws
