@@ -1,5 +1,11 @@
-pub mod Lists
-pub mod Behind
-pub mod Turns
-pub mod Steps
 pub mod Places
+pub mod Saying
+pub mod Starts
+pub mod Runs
+pub mod Nodes
+pub mod StepLists
+pub mod Compiled
+pub mod Bytes
+pub mod PairTable
+pub mod PairSearch
+pub mod Matching

@@ -1,4 +1,7 @@
-pub mod Ways
-pub mod Laws
 pub mod Settings
-pub mod Search
+pub mod Single
+pub mod Frames
+pub mod Runs
+pub mod Program
+pub mod Failures
+pub mod Pairs

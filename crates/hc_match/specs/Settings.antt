@@ -1,13 +1,14 @@
--- What groups hold after settings, the oldest of which comes first.
-use Rattle.std.specs.Prelude.{List}
-use Rattle.std.specs.List.{fold}
-use Rattle.hc_match.specs.Ways.{Held, nothing_held, with_group}
+-- What groups hold after settings, of which the newest comes first.
+use Rattle.std.specs.Prelude.{List, [], ◌∷◌}
+use Rattle.hc_ways.specs.Kept.{Held, nothing_held, with_group}
 use Rattle.hc_match.specs.declared.captures.Captures.{Captures}
 use Rattle.hc_match.specs.declared.captures.Setting.{Setting}
 
-abbrev pub held_after : Held → List Setting → Held
-held_after = fold (λ held setting. with_group setting.group setting.span held)
+-- The newest setting of a group counts; a group without one holds what it held before.
+abbrev pub held_over : Held → List Setting → Held
+held_over held [] = held
+held_over held (setting ∷ settings) = with_group setting.group setting.span (held_over held settings)
 
 -- What the groups hold.
 abbrev pub captured : Captures → Held
-captured captures = held_after nothing_held captures.settings.items
+captured captures = held_over nothing_held captures.settings.items

@@ -1,6 +1,6 @@
 ghost use Rattle.std.specs.Prelude.{◌≡◌};
-ghost use Rattle.hc_match.specs.Settings.{captured, held_after};
-ghost use Rattle.hc_match.specs.Ways.{nothing_held};
+ghost use Rattle.hc_match.specs.Settings.{captured, held_over};
+ghost use Rattle.hc_ways.specs.Kept.{nothing_held};
 
 use hc_base::Span;
 
@@ -15,13 +15,13 @@ pub struct Setting {
 /// Group 0 is the whole match.
 #[derive(Debug, Drop)]
 pub struct Captures {
-    // The oldest first.
+    // The newest first.
     settings: Vec<Setting>,
 }
 
 impl Captures {
     pub(crate) fn of(settings: Vec<Setting>) -> Captures
-        ensures { captured result ≡ held_after nothing_held settings.items }
+        ensures { captured result ≡ held_over nothing_held settings.items }
     {
         Captures { settings }
     }
@@ -30,12 +30,11 @@ impl Captures {
     pub fn get(&self, group: u8) -> Option<Span>
         ensures { result ≡ captured self.now group }
     {
-        let mut span = None;
         for setting in &self.settings {
             if setting.group == group {
-                span = Some(setting.span);
+                return Some(setting.span);
             }
         }
-        span
+        None
     }
 }

@@ -2,9 +2,17 @@
 #![tactic(auto)]
 
 mod captures;
+mod failures;
 mod find;
-pub mod laws;
-mod search;
+mod groups;
+mod moves;
+mod paths;
+mod program;
+mod run;
+mod single;
+mod start;
+mod straight;
+mod table;
 
-pub use captures::Captures;
+pub use captures::{Captures, Setting};
 pub use find::first_match;

@@ -1,7 +1,8 @@
-use Rattle.std.proofs.Common.{◌≡◌, take}
-use Rattle.hc_match.specs.Settings.{held_after}
-use Rattle.hc_match.specs.Ways.{nothing_held}
+use Rattle.std.proofs.Common.{◌≡◌, drop}
+use Rattle.hc_match.specs.Settings.{held_over}
+use Rattle.hc_ways.specs.Kept.{nothing_held}
 use Rattle.hc_match.proofs.captures.Captures.get.Given as goal
 
 abbrev pub invariant-loop-setting : goal.invariant-loop-setting
-invariant-loop-setting l = l.span ≡ held_after nothing_held (take l.setting-index l.self.settings.items) l.group
+invariant-loop-setting l =
+    held_over nothing_held (drop l.setting-index l.self.settings.items) l.group ≡ held_over nothing_held l.self.settings.items l.group

@@ -1,0 +1,47 @@
+-- What patterns begin with.
+use Rattle.std.proofs.Common.{IfSome, ◌≡◌, ℕ, zero, suc, ◌+◌, ◌-◌, ◌<◌, Bool, true, false, List, [], length, if◌then◌else◌, nat_lt, Option, Some, None, option_map, refl, ap, sym, ◌∙◌, arith}
+use Rattle.std.specs.List.{flat_map}
+use Rattle.std.specs.Option.{option_or}
+use Rattle.hc_pattern.specs.declared.set.ByteSet.{ByteSet}
+use Rattle.hc_pattern.specs.Pattern.{Pattern, repeat}
+use Rattle.hc_ways.specs.Kept.{Held, first_match, first_of, held_by, last_ways, match_among, match_at, nothing_held}
+use Rattle.hc_ways.specs.Ways.{Ways, any_turns, none, repeated, turns_then, turns_up_to}
+use Rattle.hc_match.specs.Single.{BeginsAtStart, BeginsIn}
+
+unless : (v : Bool) (a : Ways Held) (at : ℕ) (held : Held) → a at held ≡ [] → (if v then none else a) at held ≡ []
+unless true a at held is = refl
+unless false a at held is = is
+
+no_first_turn : (bytes : ℕ) (body : Ways Held) (least : ℕ) (most : Option ℕ) (greedy : Bool) (at : ℕ) (held : Held) → 0 < least → body at held ≡ [] → repeated bytes body least most greedy at held ≡ []
+no_first_turn bytes body zero most greedy at held some is = absurd (omega (arith, some))
+no_first_turn bytes body (suc least) None greedy at held some is = ap (flat_map (λ way. turns_then body least (any_turns greedy body bytes) way.end way.held)) is
+no_first_turn bytes body (suc least) (Some most) greedy at held some is =
+    unless (nat_lt most (suc least)) (turns_then body (suc least) (turns_up_to greedy body (most - suc least))) at held
+    (ap (flat_map (λ way. turns_then body least (turns_up_to greedy body (most - suc least)) way.end way.held)) is)
+
+-- A repeat with a turn that has to be has no way from a place where its body has none.
+no_repeat : (text : List ℕ) (whole body a : Pattern) (least : ℕ) (most : Option ℕ) (greedy : Bool) (from : ℕ) (held : Held) → whole ≡ repeat body least most greedy → a ≡ body → 0 < least
+    → last_ways text a from held ≡ [] → last_ways text whole from held ≡ []
+no_repeat text whole body a least most greedy from held is one some none =
+    rw is (no_first_turn (length text) (last_ways text body) least most greedy from held some (rw one at none))
+
+pub turns_begin : (whole body a : Pattern) (least : ℕ) (most : Option ℕ) (greedy : Bool) → whole ≡ repeat body least most greedy → a ≡ body → 0 < least → BeginsAtStart a → BeginsAtStart whole
+turns_begin whole body a least most greedy is one some starts text from held later =
+    no_repeat text whole body a least most greedy from held is one some (starts text from held later)
+
+pub turns_begin_in : (found : Option ByteSet) (whole body a : Pattern) (least : ℕ) (most : Option ℕ) (greedy : Bool) → whole ≡ repeat body least most greedy → a ≡ body → 0 < least
+    → IfSome found (λ set. BeginsIn set a) → IfSome found (λ set. BeginsIn set whole)
+turns_begin_in None whole body a least most greedy is one some starts = tt
+turns_begin_in (Some set) whole body a least most greedy is one some starts = λ text from held out.
+    no_repeat text whole body a least most greedy from held is one some (starts text from held out)
+
+later_places : (text : List ℕ) (pattern : Pattern) (count from : ℕ) → BeginsAtStart pattern → 0 < from → match_among text pattern count from ≡ None
+later_places text pattern zero from starts later = refl
+later_places text pattern (suc count) from starts later =
+    ap (λ found. option_or (option_map (held_by from) (first_of found)) (match_among text pattern count (from + 1))) (starts text from nothing_held later)
+    ∙ later_places text pattern count (from + 1) starts (omega (arith, later))
+
+pub first_place : (text : List ℕ) (pattern : Pattern) → BeginsAtStart pattern → match_among text pattern 1 0 ≡ first_match text pattern
+first_place text pattern starts =
+    let more : length text + 1 ≡ suc (length text) = omega arith in
+    sym (ap (λ count. match_among text pattern count 0) more ∙ ap (option_or (match_at text pattern 0)) (later_places text pattern (length text) 1 starts (omega arith)))

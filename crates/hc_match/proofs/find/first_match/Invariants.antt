@@ -1,7 +1,0 @@
-use Rattle.std.proofs.Common.{◌≡◌, ◌+◌, ◌-◌, length}
-use Rattle.hc_pattern.specs.Pattern.{pattern_of}
-use Rattle.hc_match.specs.Ways.{first_match, match_among}
-use Rattle.hc_match.proofs.find.first_match.Given as goal
-
-abbrev pub invariant-loop-from : goal.invariant-loop-from
-invariant-loop-from l = match_among l.text (pattern_of l.pat) (length l.text + 1 - l.from) l.from ≡ first_match l.text (pattern_of l.pat)

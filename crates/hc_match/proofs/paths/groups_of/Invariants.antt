@@ -1,0 +1,6 @@
+use Rattle.std.proofs.Common.{◌≡◌, take}
+use Rattle.hc_match.specs.Pairs.{kept_in, kept_now}
+use Rattle.hc_match.proofs.paths.groups_of.Given as goal
+
+abbrev pub invariant-pairs : goal.invariant-pairs
+invariant-pairs l = kept_in l.groups ≡ kept_now l.steps (take l.pair-index l.passed)

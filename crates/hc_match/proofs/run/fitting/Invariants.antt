@@ -1,0 +1,14 @@
+use Rattle.std.proofs.Common.{◌≡◌, ◌+◌, ◌-◌, ◌≤◌, length, max}
+use Rattle.hc_pattern.specs.Bits.{has_byte}
+use Rattle.hc_match.specs.Runs.{run_length}
+use Rattle.hc_match.proofs.run.fitting.Given as goal
+
+abbrev pub invariant-bytes : goal.invariant-bytes
+invariant-bytes l = record {
+  left : l.count + run_length l.text (has_byte l.set) (l.at + l.count) (l.most - l.count) ≡ run_length l.text (has_byte l.set) l.at l.most;
+  few : l.count ≤ l.most;
+  within : l.at + l.count ≤ max l.at (length l.text);
+}
+
+abbrev pub decreases-bytes : goal.decreases-bytes
+decreases-bytes l = l.most - l.count

@@ -1,0 +1,7 @@
+use Rattle.std.proofs.Common.{◌≡◌}
+use Rattle.hc_pattern.specs.Pattern.{pattern_of}
+use Rattle.hc_ways.specs.Kept.{Held, last_ways}
+use Rattle.hc_match.proofs.single.past_front.Given as goal
+
+abbrev pub invariant-front : goal.invariant-front
+invariant-front l = (held : Held) → last_ways l.text (pattern_of l.rest) l.from held ≡ last_ways l.text (pattern_of l.pat) l.at held

@@ -1,0 +1,153 @@
+use Rattle.std.proofs.Common.{Some, ◌≡◌, ◌+◌, ◌-◌, true, false, arith, ap, ◌∙◌, subst, sym, length}
+use Rattle.hc_pattern.specs.Bits.{has_byte}
+use Rattle.hc_pattern.specs.declared.pat.Pat.{fold-roll-Pat}
+use Rattle.hc_pattern.specs.declared.pat.Pat.TheVariants.{rolls-Alt, rolls-Cat, rolls-Group}
+use Rattle.hc_pattern.specs.Pattern.{Pattern, node_view, pattern_of, alt, cat, group}
+use Rattle.hc_ways.specs.Kept.{last_ways, with_group}
+use Rattle.hc_ways.specs.Ways.{behind, step_where}
+use Rattle.hc_match.specs.Frames.{Says, frame_ways}
+use Rattle.hc_match.specs.Runs.{ends}
+use Rattle.hc_match.specs.Settings.{held_over}
+use Rattle.hc_match.proofs.Runs.{longest_first, longest_gone, shortest_first, shortest_gone}
+use Rattle.hc_match.proofs.Saying.{any_turn_is, both_is, either_is, first_turn_is, further_turn_is, group_is, only_way, said, said_before, run_of_is, same_way, second_is, set_over}
+use Rattle.hc_match.proofs.straight.Straight.+straight.Goals as goal
+
+pub close-returns-clause-says : goal.close-returns-clause-says
+close-returns-clause-says t c held =
+    let says = rw c.in-Matched.is at c.in_ok-tried.ensures.says in
+    says (with_group c.args.group (record { start = c.args.start; end = c.args.at }) held)
+    ∙ ap (λ over. Some (record { end = c.go_on.new.self.end; held = over }))
+    (set_over held c.args.group c.args.start c.args.at c.go_on.new.self.settings.items c.set.new.self.settings.items c.in_ok-set.ensures.items)
+    ∙ ap (λ end. Some (record { end = end; held = held_over held c.set.new.self.settings.items })) (sym c.in_ok-set.ensures.end)
+
+pub node-returns-in-Cat-clause-says : goal.node-returns-in-Cat-clause-says
+node-returns-in-Cat-clause-says t c =
+    let text = c.args.text.now in
+    let is : pattern_of c.args.pat.now ≡ cat (pattern_of c.in-Cat.first.value) (pattern_of c.in-Cat.second.value) = ap pattern_of (c.in-Cat.is ∙ sym (rolls-Cat c.in-Cat.first c.in-Cat.second)) ∙ fold-roll-Pat Pattern node_view _ in
+    said c.pattern.result c.pattern.new.self _ _
+    (both_is text (pattern_of c.args.pat.now) (pattern_of c.in-Cat.first.value) (pattern_of c.in-Cat.second.value) (pattern_of c.deref-in-Cat.result.now) (pattern_of c.deref.result.now)
+    (frame_ways text c.args.next.now) c.args.at is (ap pattern_of c.deref-in-Cat.ensures) (ap pattern_of c.deref.ensures))
+    c.pattern.ensures.says
+
+pub node-returns-in-Failed-clause-says : goal.node-returns-in-Failed-clause-says
+node-returns-in-Failed-clause-says t c =
+    let is : pattern_of c.args.pat.now ≡ alt (pattern_of c.in-Alt.first.value) (pattern_of c.in-Alt.second.value) = ap pattern_of (c.in-Alt.is ∙ sym (rolls-Alt c.in-Alt.first c.in-Alt.second)) ∙ fold-roll-Pat Pattern node_view _ in
+    let text = c.args.text.now in
+    let next = frame_ways text c.args.next.now in
+    let none = rw c.in-Failed.is at c.in_ok-tried-in-Alt.ensures.says in
+    said c.pattern-in-Failed.result c.pattern-in-Failed.new.self _ _
+    (second_is text (pattern_of c.args.pat.now) (pattern_of c.in-Alt.first.value) (pattern_of c.in-Alt.second.value) (pattern_of c.deref-in-Alt.result.now) (pattern_of c.deref-in-Failed.result.now)
+    next c.args.at is (ap pattern_of c.deref-in-Alt.ensures) (ap pattern_of c.deref-in-Failed.ensures) none.0)
+    c.pattern-in-Failed.ensures.says
+
+pub node-returns-in_default-clause-says : goal.node-returns-in_default-clause-says
+node-returns-in_default-clause-says t c =
+    let is : pattern_of c.args.pat.now ≡ alt (pattern_of c.in-Alt.first.value) (pattern_of c.in-Alt.second.value) = ap pattern_of (c.in-Alt.is ∙ sym (rolls-Alt c.in-Alt.first c.in-Alt.second)) ∙ fold-roll-Pat Pattern node_view _ in
+    let text = c.args.text.now in
+    let next = frame_ways text c.args.next.now in
+    let first = pattern_of c.deref-in-Alt.result.now in
+    let second = pattern_of c.in-Alt.second.value in
+    subst (Says c.in_ok-tried-in-Alt.tried c.pattern-in-Alt.new.self)
+    (λ i held. either_is text (pattern_of c.args.pat.now) (pattern_of c.in-Alt.first.value) second first next c.args.at is (ap pattern_of c.deref-in-Alt.ensures) held i)
+    (said_before c.in_ok-tried-in-Alt.tried c.pattern-in-Alt.new.self (behind (last_ways text first) next c.args.at) (behind (last_ways text second) next c.args.at) c.in_default.not-Failed c.in_ok-tried-in-Alt.ensures.says)
+
+pub node-returns-in-Group-clause-says : goal.node-returns-in-Group-clause-says
+node-returns-in-Group-clause-says t c =
+    let is : pattern_of c.args.pat.now ≡ group c.in-Group.group (pattern_of c.in-Group.body.value) = ap pattern_of (c.in-Group.is ∙ sym (rolls-Group c.in-Group.group c.in-Group.body)) ∙ fold-roll-Pat Pattern node_view _ in
+    let text = c.args.text.now in
+    said c.pattern-in-Group.result c.pattern-in-Group.new.self _ _
+    (group_is text (pattern_of c.args.pat.now) (pattern_of c.in-Group.body.value) (pattern_of c.deref-in-Group.result.now) c.in-Group.group
+    (frame_ways text c.args.next.now) c.args.at is (ap pattern_of c.deref-in-Group.ensures))
+    c.pattern-in-Group.ensures.says
+
+pub node-returns-in-Some-clause-says : goal.node-returns-in-Some-clause-says
+node-returns-in-Some-clause-says t c =
+    let text = c.args.text.now in
+    said c.go_on.result c.go_on.new.self _ _
+    (only_way (last_ways text (pattern_of c.args.pat.now)) (frame_ways text c.args.next.now) c.args.at c.in-Some.end c.in-Some.ensures.some) c.go_on.ensures.says
+
+pub pattern-returns-clause-says : goal.pattern-returns-clause-says
+pattern-returns-clause-says t c =
+    let text = c.args.text.now in
+    said c.node.result c.node.new.self _ _
+    (same_way (last_ways text (pattern_of c.in-Some.rest.pat.now)) (last_ways text (pattern_of c.args.pat.now)) (frame_ways text c.args.next.now) c.in-Some.rest.at c.args.at c.in-Some.ensures.some) c.node.ensures.says
+
+pub turns-returns-then-least-gt0-clause-says : goal.turns-returns-then-least-gt0-clause-says
+turns-returns-then-least-gt0-clause-says t c =
+    let text = c.args.text.now in
+    said c.pattern.result c.pattern.new.self _ _
+    (first_turn_is (length text) (last_ways text (pattern_of c.args.body.now)) (frame_ways text c.args.next.now) c.args.least c.saturating_sub.result c.args.most c.one_less.result c.args.greedy c.args.at c.if-least-gt0.true (sym c.if-is_less.ensures) c.saturating_sub.ensures c.one_less.ensures) c.pattern.ensures.says
+
+pub turns-returns-then-is_some-clause-says : goal.turns-returns-then-is_some-clause-says
+turns-returns-then-is_some-clause-says t c =
+    let text = c.args.text.now in
+    said c.prefer.result c.prefer.new.self _ _
+    (further_turn_is (length text) (last_ways text (pattern_of c.args.body.now)) (frame_ways text c.args.next.now) c.args.least c.saturating_sub.result c.args.most c.one_less.result c.args.greedy c.args.at
+    c.if-least-gt0.false c.saturating_sub.ensures c.one_less.ensures c.if-eq.ensures c.if-is_some.ensures)
+    c.prefer.ensures.says
+
+pub turns-returns-clause-says : goal.turns-returns-clause-says
+turns-returns-clause-says t c =
+    let text = c.args.text.now in
+    said c.prefer-2.result c.prefer-2.new.self _ _
+    (any_turn_is text (pattern_of c.args.body.now) (frame_ways text c.args.next.now) c.args.least c.saturating_sub.result c.args.most c.one_less.result c.args.greedy c.args.at
+    c.if-least-gt0.false c.saturating_sub.ensures c.one_less.ensures c.if-is_some.ensures)
+    c.prefer-2.ensures.says
+
+pub repeat-returns-then-greedy-clause-says : goal.repeat-returns-then-greedy-clause-says
+repeat-returns-then-greedy-clause-says t c =
+    let text = c.args.text.now in
+    let next = frame_ways text c.args.next.now in
+    let run = c.in-Some-run_of.run' in
+    said c.longest_first.result c.longest_first.new.self _ _
+    (run_of_is (length text) (last_ways text (pattern_of c.args.body.now)) (step_where text (has_byte c.in-Some.set)) next c.args.least c.args.most c.args.greedy c.args.at (ends true next run.first run.more)
+    (c.in-Some.ensures text) (λ held. rw (← c.if-greedy.true) (c.in-Some-run_of.ensures.some c.args.greedy next held)))
+    c.longest_first.ensures.says
+
+pub repeat-returns-else-greedy-clause-says : goal.repeat-returns-else-greedy-clause-says
+repeat-returns-else-greedy-clause-says t c =
+    let text = c.args.text.now in
+    let next = frame_ways text c.args.next.now in
+    let run = c.in-Some-run_of.run' in
+    said c.shortest_first.result c.shortest_first.new.self _ _
+    (run_of_is (length text) (last_ways text (pattern_of c.args.body.now)) (step_where text (has_byte c.in-Some.set)) next c.args.least c.args.most c.args.greedy c.args.at (ends false next run.first run.more)
+    (c.in-Some.ensures text) (λ held. rw (← c.if-greedy.false) (c.in-Some-run_of.ensures.some c.args.greedy next held)))
+    c.shortest_first.ensures.says
+
+pub longest_first-ends-preserved : goal.longest_first-ends-preserved
+longest_first-ends-preserved t c =
+    let next = frame_ways c.args.text.now c.args.next.now in
+    let none = rw c.in-Failed.is at c.in_ok-tried.ensures.says in
+    record {
+      unset = none.1;
+      steps = omega (arith, c.in_ok-tried.ensures.steps, c.ends.invariant.steps);
+      fewer = omega (arith, c.ends.invariant.fewer);
+      left = λ held. longest_gone next c.args.run.first c.ends.more held c.ends-test.true (none.0 held) ∙ c.ends.invariant.left held;
+    }
+
+pub longest_first-returns-in_default-clause-says : goal.longest_first-returns-in_default-clause-says
+longest_first-returns-in_default-clause-says t c =
+    let next = frame_ways c.args.text.now c.args.next.now in
+    let at = c.args.run.first in
+    let more = c.ends.more in
+    subst (Says c.in_ok-tried.tried c.go_on.new.self) (λ i held. (longest_first next at more held c.ends-test.true ∙ c.ends.invariant.left held) i)
+    (said_before c.in_ok-tried.tried c.go_on.new.self (next (at + more)) (ends true next at (more - 1)) c.in_default.not-Failed c.in_ok-tried.ensures.says)
+
+pub shortest_first-ends-preserved : goal.shortest_first-ends-preserved
+shortest_first-ends-preserved t c =
+    let next = frame_ways c.args.text.now c.args.next.now in
+    let none = rw c.in-Failed.is at c.in_ok-tried.ensures.says in
+    record {
+      unset = none.1;
+      steps = omega (arith, c.in_ok-tried.ensures.steps, c.ends.invariant.steps);
+      same_end = omega (arith, c.ends.invariant.same_end, c.ends-test.true);
+      left = λ held. shortest_gone next c.ends.at c.ends.more held c.ends-test.true (none.0 held) ∙ c.ends.invariant.left held;
+    }
+
+pub shortest_first-returns-in_default-clause-says : goal.shortest_first-returns-in_default-clause-says
+shortest_first-returns-in_default-clause-says t c =
+    let next = frame_ways c.args.text.now c.args.next.now in
+    let at = c.ends.at in
+    let more = c.ends.more in
+    subst (Says c.in_ok-tried.tried c.go_on.new.self) (λ i held. (shortest_first next at more held c.ends-test.true ∙ c.ends.invariant.left held) i)
+    (said_before c.in_ok-tried.tried c.go_on.new.self (next at) (ends false next (at + 1) (more - 1)) c.in_default.not-Failed c.in_ok-tried.ensures.says)

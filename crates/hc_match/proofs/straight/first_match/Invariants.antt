@@ -1,0 +1,10 @@
+use Rattle.std.proofs.Common.{◌≡◌, ◌-◌, []}
+use Rattle.hc_pattern.specs.Pattern.{pattern_of}
+use Rattle.hc_ways.specs.Kept.{first_match, match_among}
+use Rattle.hc_match.proofs.straight.first_match.Given as goal
+
+abbrev pub invariant-loop-from : goal.invariant-loop-from
+invariant-loop-from l = record {
+  unset : l.search.settings.items ≡ [];
+  left : match_among l.text (pattern_of l.pat) (l.from-end - l.from) l.from ≡ first_match l.text (pattern_of l.pat);
+}

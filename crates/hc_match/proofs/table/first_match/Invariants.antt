@@ -1,0 +1,11 @@
+use Rattle.std.proofs.Common.{◌≡◌, ◌+◌, ◌-◌, length}
+use Rattle.hc_pattern.specs.Pattern.{pattern_of}
+use Rattle.hc_ways.specs.Kept.{first_match, match_among}
+use Rattle.hc_match.specs.Program.{Meaning, Means}
+use Rattle.hc_match.specs.Pairs.{AllFail}
+use Rattle.hc_match.proofs.table.first_match.Given as goal
+
+abbrev pub invariant-loop-from : goal.invariant-loop-from
+invariant-loop-from l =
+    ((meaning : Meaning) → Means l.text l.steps meaning → AllFail meaning l.search.failures)
+    × (match_among l.text (pattern_of l.pat) (length l.text + 1 - l.from) l.from ≡ first_match l.text (pattern_of l.pat))

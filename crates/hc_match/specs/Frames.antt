@@ -1,0 +1,45 @@
+-- What is still to be matched, as ways.
+use Rattle.std.specs.Prelude.{◌≡◌, ℕ, Bool, false, List, [], length, Option, None, Some, if◌then◌else◌, nat_lt}
+use Rattle.hc_pattern.specs.Pattern.{pattern_of}
+use Rattle.hc_ways.specs.Ways.{Way, Ways, behind, either, repeated, stop}
+use Rattle.hc_ways.specs.Kept.{Held, first_of, last_ways, with_group}
+use Rattle.hc_match.specs.Settings.{captured, held_over}
+use Rattle.hc_match.specs.declared.straight.Frame.{Frame, End, Then', Close', Moved', Turns'}
+use Rattle.hc_match.specs.declared.straight.Searched.{Searched}
+use Rattle.hc_match.specs.declared.straight.Searched.TheVariants.{Match, NoMatch}
+use Rattle.hc_match.specs.declared.straight.Straight.{Straight}
+use Rattle.hc_match.specs.declared.straight.Tried.{Tried}
+use Rattle.hc_match.specs.declared.straight.Tried.TheVariants.{Matched, Failed, GaveUp}
+
+-- The ways of what is still to be matched.
+abbrev pub frame_ways : List ℕ → Frame → Ways Held
+frame_ways text End = stop
+frame_ways text (Then' pat p next) = behind (last_ways text (pattern_of pat.now)) (frame_ways text next)
+frame_ways text (Close' group start p next) =
+    λ at held. frame_ways text next at (with_group group (record { start = start; end = at }) held)
+frame_ways text (Moved' start p next) = λ at held. if nat_lt start at then frame_ways text next at held else []
+frame_ways text (Turns' body least most greedy p next) =
+    behind (repeated (length text) (last_ways text (pattern_of body.now)) least most greedy) (frame_ways text next)
+
+-- What came of trying ways: the first of them, or that there is none, whatever is held before. While
+-- nothing was found no group is set.
+abbrev pub Says : Tried → Straight → (Held → List (Way Held)) → Type 0
+Says Matched search found =
+    (held : Held) → first_of (found held) ≡ Some (record { end = search.end; held = held_over held search.settings.items })
+Says Failed search found = ((held : Held) → found held ≡ []) × (search.settings.items ≡ [])
+Says GaveUp search found = Unit {0}
+
+-- A turn more, and what is behind it, before or behind what is behind no turn.
+abbrev pub preferring : Bool → Ways Held → Ways Held → Ways Held
+preferring greedy turn next = if greedy then either turn next else either next turn
+
+-- There is a greatest number, and it is below the other.
+abbrev pub less_than : Option ℕ → ℕ → Bool
+less_than None least = false
+less_than (Some most) least = nat_lt most least
+
+-- What came of a search: what the groups of the match hold, or that there is none.
+abbrev pub Tells : Searched → Option Held → Type 0
+Tells (Match captures) wanted = Some (captured captures) ≡ wanted
+Tells NoMatch wanted = None ≡ wanted
+Tells Searched.GaveUp wanted = Unit {0}

@@ -1,0 +1,21 @@
+-- Repeats of one byte: the bytes in a row that fit, and what is behind each number of them.
+use Rattle.std.specs.Prelude.{ℕ, zero, suc, ◌+◌, ◌-◌, Bool, List, Option, None, Some, if◌then◌else◌, nat_lt, slice_get}
+use Rattle.hc_ways.specs.Ways.{Way, Ways, meets}
+use Rattle.hc_ways.specs.Kept.{Held}
+use Rattle.hc_match.specs.Frames.{preferring}
+
+-- How many bytes from a place on meet a test, one behind the other: of so many at most.
+abbrev pub run_length : List ℕ → (ℕ → Bool) → ℕ → ℕ → ℕ
+run_length text test at zero = 0
+run_length text test at (suc most) = if meets test (slice_get text at) then suc (run_length text test (at + 1) most) else 0
+
+-- What is behind so many bytes or fewer: behind more of them first where the repeat is greedy.
+abbrev pub ends : Bool → Ways Held → ℕ → ℕ → Held → List (Way Held)
+ends greedy next at zero held = next at held
+ends greedy next at (suc more) held = preferring greedy (λ at held. ends greedy next (at + 1) more held) next at held
+
+-- How many turns there are at most behind those that have to be: none where these are too many
+-- already. A text of so many bytes has no more turns than bytes.
+abbrev pub further_turns : ℕ → ℕ → Option ℕ → Option ℕ
+further_turns bytes least None = Some bytes
+further_turns bytes least (Some most) = if nat_lt most least then None else Some (most - least)

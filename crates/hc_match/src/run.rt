@@ -1,0 +1,74 @@
+//! Repeats of one byte: the bytes that fit are counted, and no turn is tried by itself.
+ghost use Rattle.std.specs.Prelude.{◌≡◌, ℕ, ◌+◌, ◌≤◌, ◌<◌, Bool, List, [], length, max, slice_get, IfSome, IfNone, IsTrue};
+ghost use Rattle.hc_pattern.specs.Bits.{has_byte};
+ghost use Rattle.hc_pattern.specs.Pattern.{pattern_of};
+ghost use Rattle.hc_ways.specs.Ways.{Ways, behind, meets, repeated, step_where};
+ghost use Rattle.hc_ways.specs.Kept.{Held, last_ways};
+ghost use Rattle.hc_match.specs.Runs.{ends, further_turns, run_length};
+
+use crate::single::is_in_class;
+use hc_pattern::{ByteSet, Pat};
+
+/// The bytes that a repeat takes: at least those up to `first`, and so many `more` at most.
+#[derive(Clone, Copy)]
+pub struct Run {
+    pub first: usize,
+    pub more: usize,
+}
+
+/// The bytes that the pattern matches, if it is one byte.
+pub fn one_byte(pat: &Pat) -> Option<ByteSet>
+    ensures { IfSome result (λ set. (text : List ℕ) (at : ℕ) (held : Held)
+        → last_ways text (pattern_of pat.now) at held ≡ step_where text (has_byte set) at held) }
+{
+    match pat {
+        Pat::Byte(byte) => Some(ByteSet::empty().with(*byte)),
+        Pat::Class(set) => Some(*set),
+        _ => None,
+    }
+}
+
+/// What a repeat of these bytes takes from this place on, if there are enough of them.
+pub fn run_of(text: &[u8], set: ByteSet, least: u16, most: Option<u16>, at: usize) -> Option<Run>
+    ensures some { IfSome result (λ run. (greedy : Bool) (next : Ways Held) (held : Held)
+        → behind (repeated (length text.now) (step_where text.now (has_byte set)) least most greedy) next at held
+        ≡ ends greedy next run.first run.more held) }
+    ensures none { IfNone result ((greedy : Bool) (held : Held)
+        → repeated (length text.now) (step_where text.now (has_byte set)) least most greedy at held ≡ []) }
+    ensures within { IfSome result (λ run. run.first + run.more ≤ max at (length text.now)) }
+{
+    let Some(further) = further_turns(text, least, most) else {
+        return None;
+    };
+    let least = usize::from(least);
+    if fitting(text, set, at, least) != least {
+        return None;
+    }
+    let first = at + least;
+    let more = fitting(text, set, first, further);
+    Some(Run { first, more })
+}
+
+fn further_turns(text: &[u8], least: u16, most: Option<u16>) -> Option<usize>
+    ensures { result ≡ further_turns (length text.now) least most }
+{
+    let Some(most) = most else {
+        return Some(text.len());
+    };
+    if most < least {
+        return None;
+    }
+    Some(usize::from(most - least))
+}
+
+// How many bytes of the set stand from this place on.
+fn fitting(text: &[u8], set: ByteSet, at: usize, most: usize) -> usize
+    ensures value { result ≡ run_length text.now (has_byte set) at most }
+    ensures within { at + result ≤ max at (length text.now) }
+{
+    let mut count = 0;
+    'bytes: while count < most && is_in_class(text, at + count, set) {
+        count += 1;
+    }
+    count
+}
