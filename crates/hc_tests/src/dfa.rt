@@ -71,6 +71,24 @@ fn a_machine_accepts_what_its_paths_read(rt: HostRuntime) -> Result<(), NoMemory
 }
 
 #[test]
+fn silent_steps_may_lead_in_circles(rt: HostRuntime) -> Result<(), NoMemory> {
+    let alloc = rt.alloc();
+    // three states in a circle; the third reads `a` to the first, and is final
+    let mut machine = Machine::new(alloc, 3);
+    machine.add_start(0)?;
+    machine.add_silent(SilentStep { from: 0, to: 1 })?;
+    machine.add_silent(SilentStep { from: 1, to: 2 })?;
+    machine.add_silent(SilentStep { from: 2, to: 0 })?;
+    machine.add_silent(SilentStep { from: 1, to: 1 })?;
+    machine.add_step(step(2, b'a', b'a', 0))?;
+    machine.add_final(2)?;
+    let set = machine.determinize(alloc)?;
+    assert!(rt; set.accepts("".as_bytes()) && set.accepts("aaa".as_bytes()));
+    assert!(rt; !set.accepts("ab".as_bytes()));
+    Ok(())
+}
+
+#[test]
 fn a_table_is_read_back(rt: HostRuntime) -> Result<(), NoMemory> {
     let next = vec![in rt.alloc(); 0u32; 256]?;
     let finals = vec![in rt.alloc(); true; 1]?;
@@ -116,6 +134,12 @@ fn least_texts_are_the_shortest(rt: HostRuntime) -> Result<(), NoMemory> {
     let found = first_members(alloc, &set, 3)?;
     assert_eq!(rt; found.as_slice().len(), 3);
     assert_eq!(rt; found.as_slice()[2].as_bytes(), "aab".as_bytes());
+    let found = first_members(alloc, &letters(alloc)?, 6)?;
+    let texts = ["", "a", "b", "aa", "ab", "ba"];
+    assert_eq!(rt; found.as_slice().len(), texts.len());
+    for (member, text) in found.as_slice().iter().zip(texts) {
+        assert_eq!(rt; member.as_bytes(), text.as_bytes());
+    }
     assert_eq!(rt; first_members(alloc, &none, 3)?.as_slice().len(), 0);
     Ok(())
 }
@@ -138,13 +162,15 @@ fn an_image_replaces_bytes(rt: HostRuntime) -> Result<(), NoMemory> {
     let alloc = rt.alloc();
     let mut table = [0u8; 256];
     for byte in 0..256usize {
-        table[byte] = (byte as u8).to_ascii_uppercase();
+        table[byte] = byte as u8;
     }
+    table[97] = b'A';
     let image = byte_image(alloc, &many_a_then_b(alloc)?, &table)?;
     assert!(rt;
-        image.accepts("AAB".as_bytes())
-            && !image.accepts("aab".as_bytes())
-            && !image.accepts("A".as_bytes())
+        image.accepts("Ab".as_bytes())
+            && image.accepts("AAb".as_bytes())
+            && !image.accepts("ab".as_bytes())
+            && !image.accepts("AB".as_bytes())
     );
     Ok(())
 }

@@ -11,6 +11,8 @@ mod dfa;
 #[cfg(test)]
 mod lines;
 #[cfg(test)]
+mod matches;
+#[cfg(test)]
 mod model;
 #[cfg(test)]
 mod nodes;

@@ -1,75 +1,22 @@
+//! Patterns and globs as they are read: sets of bytes, refusals with their byte, the limits.
+
 use hc_base::codes::{EMPTY_LOOP, PATTERN_SYNTAX, PATTERN_TOO_LARGE, PATTERN_UNSUPPORTED};
-use hc_base::{AtByte, Fault, NoMemory, Span};
-use hc_match::{Captures, first_match};
+use hc_base::{AtByte, Fault, NoMemory};
+use hc_match::first_match;
 use hc_pattern::{ByteSet, Pat, PatFault, glob_pattern, parse_pattern};
 use std::alloc::Global;
-use std::process::Abort;
 use std::test::Fail;
-
-fn boxed(alloc: Global, pat: Pat) -> Result<Box<Pat>, NoMemory> {
-    Ok(Box::new(alloc, pat)?)
-}
-
-fn cat(alloc: Global, first: Pat, second: Pat) -> Result<Pat, NoMemory> {
-    Ok(Pat::Cat(boxed(alloc, first)?, boxed(alloc, second)?))
-}
-
-fn alt(alloc: Global, first: Pat, second: Pat) -> Result<Pat, NoMemory> {
-    Ok(Pat::Alt(boxed(alloc, first)?, boxed(alloc, second)?))
-}
-
-fn group(alloc: Global, number: u8, body: Pat) -> Result<Pat, NoMemory> {
-    Ok(Pat::Group(number, boxed(alloc, body)?))
-}
-
-fn greedy(alloc: Global, body: Pat, least: u16, most: Option<u16>) -> Result<Pat, NoMemory> {
-    Ok(Pat::Repeat(boxed(alloc, body)?, least, most, true))
-}
-
-fn lazy(alloc: Global, body: Pat, least: u16, most: Option<u16>) -> Result<Pat, NoMemory> {
-    Ok(Pat::Repeat(boxed(alloc, body)?, least, most, false))
-}
-
-// The bytes of the text, one behind the other.
-fn text(alloc: Global, bytes: &[u8]) -> Result<Pat, NoMemory> {
-    let mut pat = Pat::Empty;
-    for byte in bytes {
-        pat = cat(alloc, pat, Pat::Byte(*byte))?;
-    }
-    Ok(pat)
-}
-
-// What the first groups of a match hold, as pairs of places.
-fn spans(captures: &Captures) -> [Option<(u32, u32)>; 4] {
-    [0, 1, 2, 3].map(|group| captures.get(group).map(|span| (span.start, span.end)))
-}
-
-fn expect(
-    rt: &impl Abort,
-    alloc: Global,
-    pat: &Pat,
-    hay: &[u8],
-    wanted: [Option<(u32, u32)>; 4],
-) -> Result<(), NoMemory> {
-    let found = first_match(alloc, pat, hay)?.map(|captures| spans(&captures));
-    assert_eq!(rt; found, Some(wanted), "in {hay:?}");
-    Ok(())
-}
-
-fn expect_none(rt: &impl Abort, alloc: Global, pat: &Pat, hay: &[u8]) -> Result<(), NoMemory> {
-    assert!(rt; first_match(alloc, pat, hay)?.is_none(), "in {hay:?}");
-    Ok(())
-}
 
 #[test]
 fn sets_have_their_bytes(rt: HostRuntime) {
     let digits = ByteSet::empty().with_range(b'0', b'9');
-    for (byte, wanted) in [(b'/', false), (b'0', true), (b'9', true), (b':', false)] {
+    static ROWS: &[(u8, bool)] = &[(b'/', false), (b'0', true), (b'9', true), (b':', false)];
+    for &(byte, wanted) in ROWS {
         assert_eq!(rt; digits.has(byte), wanted, "{byte}");
         assert_eq!(rt; digits.complement().has(byte), !wanted, "{byte}");
     }
     let far = digits.union(ByteSet::empty().with(255).with_range(127, 128));
-    for (byte, wanted) in [
+    static FAR: &[(u8, bool)] = &[
         (0, false),
         (b'5', true),
         (126, false),
@@ -77,199 +24,60 @@ fn sets_have_their_bytes(rt: HostRuntime) {
         (128, true),
         (129, false),
         (255, true),
-    ] {
+    ];
+    for &(byte, wanted) in FAR {
         assert_eq!(rt; far.has(byte), wanted, "{byte}");
     }
     assert!(rt; !ByteSet::empty().with_range(9, 8).has(8));
 }
 
-#[test]
-fn alternatives_are_tried_in_order(rt: HostRuntime) -> Result<(), Fail> {
-    // (a|ab)(c|bcd)?
-    let alloc = rt.alloc();
-    let first = alt(alloc, Pat::Byte(b'a'), text(alloc, b"ab")?)?;
-    let second = alt(alloc, Pat::Byte(b'c'), text(alloc, b"bcd")?)?;
-    let second = greedy(alloc, group(alloc, 2, second)?, 0, Some(1))?;
-    let pat = cat(alloc, group(alloc, 1, first)?, second)?.clone()?;
-    expect(
-        &rt,
-        alloc,
-        &pat,
-        b"abcd",
-        [Some((0, 4)), Some((0, 1)), Some((1, 4)), None],
-    )?;
-    expect(
-        &rt,
-        alloc,
-        &pat,
-        b"abc",
-        [Some((0, 1)), Some((0, 1)), None, None],
-    )?;
-    expect(
-        &rt,
-        alloc,
-        &pat,
-        b"--ab",
-        [Some((2, 3)), Some((2, 3)), None, None],
-    )?;
-    expect_none(&rt, alloc, &pat, b"bcd")?;
-    Ok(())
+// What one sign meets: how many bytes, and the sum of their values.
+static SETS: &[(&str, u32, u32)] = &[
+    ("[[:alpha:]]", 52, 4862),
+    ("[[:digit:]]", 10, 525),
+    ("[[:alnum:]]", 62, 5387),
+    ("[[:upper:]]", 26, 2015),
+    ("[[:lower:]]", 26, 2847),
+    ("[[:space:]]", 6, 87),
+    ("[[:blank:]]", 2, 41),
+    ("[[:punct:]]", 32, 2086),
+    ("[[:print:]]", 95, 7505),
+    ("[[:graph:]]", 94, 7473),
+    ("[[:cntrl:]]", 33, 623),
+    ("[[:xdigit:]]", 22, 1527),
+    ("[[:word:]]", 63, 5482),
+    ("\\d", 10, 525),
+    ("\\D", 246, 32115),
+    ("\\w", 63, 5482),
+    ("\\W", 193, 27158),
+    ("\\s", 6, 87),
+    ("\\S", 250, 32553),
+    (".", 256, 32640),
+    ("[^a]", 255, 32543),
+    ("\\x80", 1, 128),
+];
+
+fn met(alloc: Global, pat: &Pat) -> Result<(u32, u32), NoMemory> {
+    let mut count = 0u32;
+    let mut sum = 0u32;
+    for byte in 0..=255u8 {
+        if first_match(alloc, pat, &[byte])?.is_some() {
+            count = count.saturating_add(1);
+            sum = sum.saturating_add(u32::from(byte));
+        }
+    }
+    Ok((count, sum))
 }
 
 #[test]
-fn lazy_takes_less_and_greedy_more(rt: HostRuntime) -> Result<(), Fail> {
-    // (x+?)(x*)
+fn signs_meet_their_bytes(rt: HostRuntime) -> Result<(), Fail> {
     let alloc = rt.alloc();
-    let few = group(alloc, 1, lazy(alloc, Pat::Byte(b'x'), 1, None)?)?;
-    let many = group(alloc, 2, greedy(alloc, Pat::Byte(b'x'), 0, None)?)?;
-    let pat = cat(alloc, few, many)?;
-    expect(
-        &rt,
-        alloc,
-        &pat,
-        b"xxx",
-        [Some((0, 3)), Some((0, 1)), Some((1, 3)), None],
-    )?;
-    // x+?$
-    let pat = cat(alloc, lazy(alloc, Pat::Byte(b'x'), 1, None)?, Pat::Finish)?;
-    expect(&rt, alloc, &pat, b"xxx", [Some((0, 3)), None, None, None])?;
-    Ok(())
-}
-
-#[test]
-fn a_group_keeps_its_last_span(rt: HostRuntime) -> Result<(), Fail> {
-    // ((a)|b)+
-    let alloc = rt.alloc();
-    let either = alt(alloc, group(alloc, 2, Pat::Byte(b'a'))?, Pat::Byte(b'b'))?;
-    let pat = greedy(alloc, group(alloc, 1, either)?, 1, None)?;
-    expect(
-        &rt,
-        alloc,
-        &pat,
-        b"ab",
-        [Some((0, 2)), Some((1, 2)), Some((0, 1)), None],
-    )?;
-    expect(
-        &rt,
-        alloc,
-        &pat,
-        b"b",
-        [Some((0, 1)), Some((0, 1)), None, None],
-    )?;
-    // (a)b|ac: what a way sets that fails is taken back
-    let first = cat(alloc, group(alloc, 1, Pat::Byte(b'a'))?, Pat::Byte(b'b'))?;
-    let pat = alt(alloc, first, text(alloc, b"ac")?)?;
-    expect(&rt, alloc, &pat, b"ac", [Some((0, 2)), None, None, None])?;
-    Ok(())
-}
-
-#[test]
-fn turns_are_counted(rt: HostRuntime) -> Result<(), Fail> {
-    let alloc = rt.alloc();
-    let a = || Pat::Byte(b'a');
-    expect(
-        &rt,
-        alloc,
-        &greedy(alloc, a(), 2, Some(3))?,
-        b"aaaa",
-        [Some((0, 3)), None, None, None],
-    )?;
-    expect(
-        &rt,
-        alloc,
-        &lazy(alloc, a(), 2, Some(3))?,
-        b"aaaa",
-        [Some((0, 2)), None, None, None],
-    )?;
-    expect(
-        &rt,
-        alloc,
-        &greedy(alloc, a(), 2, None)?,
-        b"aaaa",
-        [Some((0, 4)), None, None, None],
-    )?;
-    expect(
-        &rt,
-        alloc,
-        &greedy(alloc, a(), 0, Some(0))?,
-        b"a",
-        [Some((0, 0)), None, None, None],
-    )?;
-    expect_none(&rt, alloc, &greedy(alloc, a(), 3, Some(2))?, b"aaaa")?;
-    expect_none(&rt, alloc, &greedy(alloc, a(), 3, None)?, b"aa")?;
-    // (a?){3}: a counted turn may be empty
-    let turn = group(alloc, 1, greedy(alloc, a(), 0, Some(1))?)?;
-    expect(
-        &rt,
-        alloc,
-        &greedy(alloc, turn, 3, Some(3))?,
-        b"aa",
-        [Some((0, 2)), Some((2, 2)), None, None],
-    )?;
-    // (a?)*: any other takes a byte
-    let turn = group(alloc, 1, greedy(alloc, a(), 0, Some(1))?)?;
-    expect(
-        &rt,
-        alloc,
-        &greedy(alloc, turn, 0, None)?,
-        b"aab",
-        [Some((0, 2)), Some((1, 2)), None, None],
-    )?;
-    Ok(())
-}
-
-#[test]
-fn places_and_classes(rt: HostRuntime) -> Result<(), Fail> {
-    let alloc = rt.alloc();
-    let other = Pat::Class(ByteSet::empty().with_range(b'0', b'9').complement());
-    expect(&rt, alloc, &other, b"12x", [Some((2, 3)), None, None, None])?;
-    expect_none(&rt, alloc, &other, b"12")?;
-    let first = cat(alloc, Pat::Start, Pat::Byte(b'b'))?;
-    expect(&rt, alloc, &first, b"bb", [Some((0, 1)), None, None, None])?;
-    expect_none(&rt, alloc, &first, b"ab")?;
-    let last = cat(alloc, Pat::Byte(b'b'), Pat::Finish)?;
-    expect(&rt, alloc, &last, b"bb", [Some((1, 2)), None, None, None])?;
-    expect_none(&rt, alloc, &last, b"ba")?;
-    expect(
-        &rt,
-        alloc,
-        &cat(alloc, Pat::Start, Pat::Finish)?,
-        b"",
-        [Some((0, 0)), None, None, None],
-    )?;
-    expect(
-        &rt,
-        alloc,
-        &Pat::Empty,
-        b"ab",
-        [Some((0, 0)), None, None, None],
-    )?;
-    Ok(())
-}
-
-#[test]
-fn a_long_text_needs_no_deep_stack(rt: HostRuntime) -> Result<(), Fail> {
-    let alloc = rt.alloc();
-    let hay = vec![in alloc; b'a'; 8190]?;
-    let pat = greedy(alloc, group(alloc, 1, Pat::Byte(b'a'))?, 0, None)?;
-    expect(
-        &rt,
-        alloc,
-        &pat,
-        &hay,
-        [Some((0, 8190)), Some((8189, 8190)), None, None],
-    )?;
-    Ok(())
-}
-
-#[test]
-fn a_group_that_is_not_there_holds_nothing(rt: HostRuntime) -> Result<(), Fail> {
-    let alloc = rt.alloc();
-    let captures = first_match(alloc, &group(alloc, 255, Pat::Byte(b'a'))?, b"ba")?.ok_or(
-        "a match",
-    )?;
-    assert_eq!(rt; captures.get(255), Some(Span { start: 1, end: 2 }));
-    assert_eq!(rt; captures.get(254), None);
+    for &(sign, count, sum) in SETS {
+        let Ok(pat) = parse_pattern(alloc, sign.as_bytes(), false) else {
+            panic!(rt; "{sign}");
+        };
+        assert_eq!(rt; met(alloc, &pat)?, (count, sum), "{sign}");
+    }
     Ok(())
 }
 
@@ -280,51 +88,46 @@ fn refusal(read: Result<Pat, PatFault>) -> Option<AtByte> {
     }
 }
 
-static READ: &[(&str, bool, &str, Option<(u32, u32)>)] = &[
-    ("^/(a|ab)(c|bcd)?", false, "/abcd", Some((0, 5))),
-    ("x{2,3}?y", false, "xxxy", Some((0, 4))),
-    ("a{256}", false, "a{256}", Some((0, 6))),
-    ("x{007,}", false, "xxxxxxxx", Some((0, 8))),
-    ("[]^a-c-]+", false, "d]^b-", Some((1, 5))),
-    ("[^[:alpha:]_]\\d", false, "a_.7", Some((2, 4))),
-    ("[[:foo:]]", false, ":]", Some((0, 2))),
-    ("\\x41\\.", false, "A.", Some((0, 2))),
-    ("[^a]b", true, "AbxB", Some((2, 4))),
-    ("(?:a|)$", true, "bA", Some((1, 2))),
-];
-
-#[test]
-fn patterns_are_read(rt: HostRuntime) -> Result<(), Fail> {
-    let alloc = rt.alloc();
-    for &(pattern, nocase, hay, span) in READ {
-        let read = parse_pattern(alloc, pattern.as_bytes(), nocase);
-        let found = match read {
-            Ok(pat) => first_match(alloc, &pat, hay.as_bytes())?,
-            Err(_) => None,
-        };
-        let found = found.and_then(|captures| captures.get(0).map(|s| (s.start, s.end)));
-        assert_eq!(rt; found, span, "{pattern} in {hay}");
-    }
-    Ok(())
-}
-
 static REFUSED: &[(&str, u8, u32)] = &[
     ("a\\q", PATTERN_UNSUPPORTED, 1),
+    ("\\1", PATTERN_UNSUPPORTED, 0),
+    ("\\b", PATTERN_UNSUPPORTED, 0),
+    ("x[a\\Q]", PATTERN_UNSUPPORTED, 3),
     ("(?=a)", PATTERN_UNSUPPORTED, 0),
+    ("a(?<n>a)", PATTERN_UNSUPPORTED, 1),
+    ("(?i)a", PATTERN_UNSUPPORTED, 0),
     ("a*+", PATTERN_UNSUPPORTED, 2),
+    ("a++", PATTERN_UNSUPPORTED, 2),
+    ("a?+", PATTERN_UNSUPPORTED, 2),
+    ("a{2}+", PATTERN_UNSUPPORTED, 4),
     ("a{,3}", PATTERN_UNSUPPORTED, 1),
     ("[[:^alpha:]]", PATTERN_UNSUPPORTED, 1),
     ("\\x4", PATTERN_UNSUPPORTED, 0),
+    ("\\xg0", PATTERN_UNSUPPORTED, 0),
+    ("\\q(", PATTERN_UNSUPPORTED, 0),
     ("((a", PATTERN_SYNTAX, 0),
     ("a[b", PATTERN_SYNTAX, 1),
+    ("a[]", PATTERN_SYNTAX, 1),
     ("(a[b-a", PATTERN_SYNTAX, 3),
     ("a)", PATTERN_SYNTAX, 1),
+    ("*", PATTERN_SYNTAX, 0),
+    ("a|*", PATTERN_SYNTAX, 2),
     ("(*a)", PATTERN_SYNTAX, 1),
+    ("{2}", PATTERN_SYNTAX, 0),
+    ("a**", PATTERN_SYNTAX, 2),
+    ("a{2}{3}", PATTERN_SYNTAX, 4),
     ("a*?+", PATTERN_SYNTAX, 3),
     ("a{3,2}", PATTERN_SYNTAX, 1),
+    ("[b-a]", PATTERN_SYNTAX, 1),
     ("a\\", PATTERN_SYNTAX, 1),
+    ("[a\\", PATTERN_SYNTAX, 2),
     ("(a{255}){17}", PATTERN_TOO_LARGE, 0),
+    ("(a{255}){255}", PATTERN_TOO_LARGE, 0),
+    ("(a*)*(a{255}){17}", PATTERN_TOO_LARGE, 0),
     ("^(a*)*", EMPTY_LOOP, 5),
+    ("^*", EMPTY_LOOP, 1),
+    ("(a?)+", EMPTY_LOOP, 4),
+    ("(|a){2,}", EMPTY_LOOP, 4),
     ("(?:a?){2}(b*)+", EMPTY_LOOP, 6),
 ];
 
@@ -337,16 +140,68 @@ fn patterns_are_refused(rt: HostRuntime) {
     }
 }
 
+// The text so many times.
+fn repeated(alloc: Global, text: &str, count: u32) -> Result<Vec<u8>, NoMemory> {
+    let mut bytes = Vec::new(alloc);
+    for _ in 0..count {
+        bytes.extend_from_slice(text.as_bytes())?;
+    }
+    Ok(bytes)
+}
+
+static LIMITS: &[(&str, u32, Option<u8>)] = &[
+    ("(a)", 32, None),
+    ("(a)", 33, Some(PATTERN_TOO_LARGE)),
+    ("(?:a)", 33, None),
+    ("a", 4096, None),
+    ("a", 4097, Some(PATTERN_TOO_LARGE)),
+    ("a{3}?", 1365, None),
+    ("a{3}?", 1366, Some(PATTERN_TOO_LARGE)),
+];
+
+#[test]
+fn patterns_have_limits(rt: HostRuntime) -> Result<(), Fail> {
+    let alloc = rt.alloc();
+    for &(part, count, code) in LIMITS {
+        let pattern = repeated(alloc, part, count)?;
+        let refused = refusal(parse_pattern(alloc, &pattern, false)).map(|broken| broken.code);
+        assert_eq!(rt; refused, code, "{count} of {part}");
+    }
+    // 4,095 groups within each other, and one too many
+    for (depth, wanted) in [(4095, None), (4096, Some(PATTERN_TOO_LARGE))] {
+        let mut pattern = repeated(alloc, "(?:", depth)?;
+        pattern.push(b'a')?;
+        pattern.extend_from_slice(&repeated(alloc, ")", depth)?)?;
+        let refused = refusal(parse_pattern(alloc, &pattern, false)).map(|broken| broken.code);
+        assert_eq!(rt; refused, wanted, "{depth}");
+    }
+    Ok(())
+}
+
 static GLOBS: &[(&str, bool, &str, bool)] = &[
     ("*.conf", true, "a.conf", true),
     ("*.conf", true, "a/b.conf", false),
     ("*.conf", false, "a/b.conf", true),
     ("a?c", true, "a/c", false),
+    ("a?c", false, "a/c", true),
     ("[!a-c]", false, "d", true),
+    ("[!a-c]", false, "b", false),
     ("[^a-c]", true, "/", false),
+    ("[^a-c]", false, "/", true),
+    ("[^]a]", false, "]", false),
+    ("[^]a]", false, "b", true),
     ("[]-_]x", false, "^x", true),
+    ("[", false, "[", true),
+    ("x[!", false, "x[!", true),
+    ("\\*", false, "*", true),
+    ("\\*", false, "a", false),
     ("\\*[ab", false, "*[ab", true),
+    ("a\\", false, "a\\", true),
+    ("[\\]x]", false, "]", true),
+    ("", false, "", true),
     ("a", false, "ab", false),
+    ("a", false, "A", false),
+    ("a|b", false, "a", false),
 ];
 
 #[test]
@@ -359,13 +214,31 @@ fn globs_are_read(rt: HostRuntime) -> Result<(), Fail> {
         let found = first_match(alloc, &pat, hay.as_bytes())?.is_some();
         assert_eq!(rt; found, wanted, "{glob} on {hay}");
     }
-    let read = glob_pattern(alloc, b"x[az-b]", false);
+    Ok(())
+}
+
+#[test]
+fn globs_are_refused(rt: HostRuntime) -> Result<(), Fail> {
+    let alloc = rt.alloc();
+    let falls = AtByte {
+        code: PATTERN_SYNTAX,
+        at: 3,
+    };
     assert_eq!(rt;
-        refusal(read),
-        Some(AtByte {
-            code: PATTERN_SYNTAX,
-            at: 3
-        })
+        refusal(glob_pattern(alloc, b"x[az-b]", false)),
+        Some(falls)
     );
+    let large = AtByte {
+        code: PATTERN_TOO_LARGE,
+        at: 0,
+    };
+    for (count, wanted) in [(4096, None), (4097, Some(large))] {
+        let glob = repeated(alloc, "?", count)?;
+        assert_eq!(rt;
+            refusal(glob_pattern(alloc, &glob, true)),
+            wanted,
+            "{count}"
+        );
+    }
     Ok(())
 }
