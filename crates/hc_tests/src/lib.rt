@@ -9,6 +9,8 @@ mod base;
 #[cfg(test)]
 mod dfa;
 #[cfg(test)]
+mod languages;
+#[cfg(test)]
 mod lines;
 #[cfg(test)]
 mod matches;

@@ -1,0 +1,13 @@
+pub mod Adding
+pub mod Consisting
+pub mod Tables
+pub mod Joining
+pub mod Rests
+pub mod Merges
+pub mod Parts
+pub mod Serving
+pub mod Views
+pub mod Fragmenting
+pub mod Stepping
+pub mod Looking
+pub mod Covering

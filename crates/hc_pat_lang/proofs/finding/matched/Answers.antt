@@ -1,0 +1,22 @@
+use Rattle.hc_pattern.specs.Pattern.{pattern_of}
+use Rattle.hc_pat_lang.proofs.Looking.{first_ready, looked, taken_found}
+use Rattle.hc_pat_lang.proofs.finding.matched.Goals as goal
+
+pub build-requires : goal.build-requires
+build-requires c = first_ready _ _ _ c.in_ok-nodes.ensures c.anything.ensures
+
+pub machine-requires-clause-nodes : goal.machine-requires-clause-nodes
+machine-requires-clause-nodes c = (looked _ _ _ _ _ c.in_ok-entries.ensures.ready c.in_ok-start.ensures).are
+
+pub machine-requires-clause-start : goal.machine-requires-clause-start
+machine-requires-clause-start c = (looked _ _ _ _ _ c.in_ok-entries.ensures.ready c.in_ok-start.ensures).below
+
+pub returns : goal.returns
+returns c text bytes =
+    let every = c.every_byte-every.result in
+    let fragment = rw (c.anything.ensures, c.in_ok-nodes.ensures) at c.in_ok-entries.ensures in
+    let look = looked _ _ every _ _ c.in_ok-entries.ensures.ready c.in_ok-start.ensures in
+    let found = taken_found every c.every_byte-every.ensures (pattern_of c.args.pat.now) _ _ _ _ fragment look text bytes in
+    let reads = c.in_ok-machine.ensures text bytes in
+    let accepts = c.in_ok-made.ensures text bytes in
+    ((λ accepted. found.0 (reads.0 (accepts.0 accepted))), (λ is. accepts.1 (reads.1 (found.1 is))))

@@ -1,0 +1,6 @@
+use Rattle.hc_pat_lang.specs.Added.{AddsSilent}
+use Rattle.hc_pat_lang.specs.Matching.{IsForkBelow}
+use Rattle.hc_pat_lang.proofs.nodes.Nodes.add_forks.Given as goal
+
+abbrev pub invariant-loop-from : goal.invariant-loop-from
+invariant-loop-from l = AddsSilent l.initial.machine l.machine (IsForkBelow l.self.list.items l.from)

@@ -1,0 +1,6 @@
+use Rattle.hc_pat_lang.specs.Added.{AddsFinals}
+use Rattle.hc_pat_lang.specs.Led.{OnwardsBelow}
+use Rattle.hc_pat_lang.proofs.quotients.add_ends.Given as goal
+
+abbrev pub invariant-loop-state : goal.invariant-loop-state
+invariant-loop-state l = AddsFinals l.initial.machine l.machine (OnwardsBelow l.set l.by l.state)

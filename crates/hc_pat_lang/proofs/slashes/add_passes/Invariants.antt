@@ -1,0 +1,6 @@
+use Rattle.hc_pat_lang.specs.Added.{AddsSilent}
+use Rattle.hc_pat_lang.specs.Merging.{IsPassBelow}
+use Rattle.hc_pat_lang.proofs.slashes.add_passes.Given as goal
+
+abbrev pub invariant-loop-state : goal.invariant-loop-state
+invariant-loop-state l = AddsSilent l.initial.machine l.machine (IsPassBelow l.a l.state)

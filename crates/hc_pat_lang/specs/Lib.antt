@@ -1,0 +1,10 @@
+pub mod Sets
+pub mod Found
+pub mod Added
+pub mod Led
+pub mod Merging
+pub mod Nodes
+pub mod Gates
+pub mod Fragments
+pub mod Matching
+pub mod Laws

@@ -1,0 +1,18 @@
+//! The sets of a pattern, as automata: the texts that it is found in, and what its groups may hold.
+#![tactic(auto)]
+
+mod build;
+mod finding;
+mod gates;
+mod joined;
+pub mod laws;
+mod nodes;
+mod quotients;
+mod slashes;
+mod steps;
+mod table;
+
+pub use finding::matched;
+pub use joined::concat;
+pub use quotients::{prefix_quotient, suffix_quotient};
+pub use slashes::merge_slashes;

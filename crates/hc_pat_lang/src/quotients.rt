@@ -1,0 +1,102 @@
+ghost use Rattle.std.specs.Prelude.{◌≡◌, ℕ, ◌<◌, ◌≤◌, IfOk, OnOk};
+ghost use Rattle.hc_dfa.specs.Automata.{accepts, accepts_from, run, states};
+ghost use Rattle.hc_dfa.specs.Built.{Accepts};
+ghost use Rattle.hc_pat_lang.specs.Added.{AddsFinals, AddsStarts};
+ghost use Rattle.hc_pat_lang.specs.Led.{HaveCommon, IsLedTo, LedToBelow, LeadsOnwards, OnwardsBelow, ends_at};
+ghost use Rattle.hc_pat_lang.specs.Sets.{AcceptsOnly, IsFront, IsRest};
+
+use crate::table::{add_finals, add_table, automaton_of};
+use hc_base::NoMemory;
+use hc_dfa::{Dfa, Keep, Machine, least, product};
+use std::alloc::Global;
+
+/// The automaton of what is left of the texts of the set behind a text of the other one.
+pub fn prefix_quotient(alloc: Global, set: &Dfa, by: &Dfa) -> Result<Dfa, NoMemory>
+    ensures { IfOk result (AcceptsOnly (IsRest (accepts set.now) (accepts by.now))) }
+{
+    let mut machine = Machine::new(alloc, set.states());
+    add_table(&mut machine, set, 0)?;
+    add_finals(&mut machine, set, 0)?;
+    add_starts(alloc, &mut machine, set, by)?;
+    let made = automaton_of(alloc, &machine)?;
+    Ok(made)
+}
+
+/// The automaton of what stands in the texts of the set before a text of the other one.
+pub fn suffix_quotient(alloc: Global, set: &Dfa, by: &Dfa) -> Result<Dfa, NoMemory>
+    ensures { IfOk result (AcceptsOnly (IsFront (accepts set.now) (accepts by.now))) }
+{
+    let mut machine = Machine::new(alloc, set.states());
+    add_table(&mut machine, set, 0)?;
+    machine.add_start(0)?;
+    add_ends(alloc, &mut machine, set, by)?;
+    let made = automaton_of(alloc, &machine)?;
+    Ok(made)
+}
+
+/// Makes each state that a text of the other set leads to a start.
+fn add_starts(alloc: Global, machine: &mut Machine, set: &Dfa, by: &Dfa) -> Result<(), NoMemory>
+    requires { states set.now ≤ machine.old.states }
+    ensures { OnOk result (AddsStarts machine.old machine.new (LedToBelow set.now by.now (states set.now))) }
+{
+    for state in 0..set.states() {
+        let fronts = fronts_to(alloc, set, state)?;
+        let led = have_common(alloc, &fronts, by)?;
+        if !led {
+            continue;
+        }
+        machine.add_start(state)?;
+    }
+    Ok(())
+}
+
+/// Makes each state from which a text of the other set leads to a final state final.
+fn add_ends(alloc: Global, machine: &mut Machine, set: &Dfa, by: &Dfa) -> Result<(), NoMemory>
+    requires { states set.now ≤ machine.old.states }
+    ensures { OnOk result (AddsFinals machine.old machine.new (OnwardsBelow set.now by.now (states set.now))) }
+{
+    for state in 0..set.states() {
+        let rests = rests_from(alloc, set, state)?;
+        let leads = have_common(alloc, &rests, by)?;
+        if !leads {
+            continue;
+        }
+        machine.add_final(state)?;
+    }
+    Ok(())
+}
+
+/// The automaton of the texts that lead from the start to a state.
+fn fronts_to(alloc: Global, a: &Dfa, state: u32) -> Result<Dfa, NoMemory>
+    requires { state < states a.now }
+    ensures { IfOk result (λ made. Accepts made (ends_at a.now state)) }
+{
+    let mut machine = Machine::new(alloc, a.states());
+    add_table(&mut machine, a, 0)?;
+    machine.add_start(0)?;
+    machine.add_final(state)?;
+    let made = automaton_of(alloc, &machine)?;
+    Ok(made)
+}
+
+/// The automaton of the texts that lead from a state to a final one.
+fn rests_from(alloc: Global, a: &Dfa, state: u32) -> Result<Dfa, NoMemory>
+    requires { state < states a.now }
+    ensures { IfOk result (λ made. Accepts made (accepts_from a.now state)) }
+{
+    let mut machine = Machine::new(alloc, a.states());
+    add_table(&mut machine, a, 0)?;
+    add_finals(&mut machine, a, 0)?;
+    machine.add_start(state)?;
+    let made = automaton_of(alloc, &machine)?;
+    Ok(made)
+}
+
+/// Whether some text is in both sets.
+fn have_common(alloc: Global, a: &Dfa, b: &Dfa) -> Result<bool, NoMemory>
+    ensures { IfOk result (HaveCommon (accepts a.now) (accepts b.now)) }
+{
+    let both = product(alloc, a, b, Keep::Both)?;
+    let found = least(alloc, &both)?;
+    Ok(found.is_some())
+}
