@@ -9,6 +9,9 @@ use std::test::Fail;
 
 type Places = [Option<(u32, u32)>; 4];
 
+// What a row says of them: a static's row has its arrays behind references.
+type Wanted = Option<&'static [Option<(u32, u32)>]>;
+
 // What the first groups of a match hold, as pairs of places.
 fn spans(captures: &Captures) -> Places {
     [0, 1, 2, 3].map(|group| captures.get(group).map(|span| (span.start, span.end)))
@@ -16,267 +19,277 @@ fn spans(captures: &Captures) -> Places {
 
 // The pattern, without case or not, a text, and what groups 0 to 3 hold. The values are those of
 // Python's `re`, or follow from the rules where it has other signs.
-static MATCHES: &[(&str, bool, &str, Option<Places>)] = &[
+static MATCHES: &[(&str, bool, &str, Wanted)] = &[
     (
         "(a|ab)(c|bcd)?",
         false,
         "abcd",
-        Some([Some((0, 4)), Some((0, 1)), Some((1, 4)), None]),
+        Some(&[Some((0, 4)), Some((0, 1)), Some((1, 4)), None]),
     ),
     (
         "(a|ab)(c|bcd)?",
         false,
         "abc",
-        Some([Some((0, 1)), Some((0, 1)), None, None]),
+        Some(&[Some((0, 1)), Some((0, 1)), None, None]),
     ),
     (
         "(a|ab)(c|bcd)?",
         false,
         "--ab",
-        Some([Some((2, 3)), Some((2, 3)), None, None]),
+        Some(&[Some((2, 3)), Some((2, 3)), None, None]),
     ),
     ("(a|ab)(c|bcd)?", false, "bcd", None),
     (
         "(x+?)(x*)",
         false,
         "xxx",
-        Some([Some((0, 3)), Some((0, 1)), Some((1, 3)), None]),
+        Some(&[Some((0, 3)), Some((0, 1)), Some((1, 3)), None]),
     ),
-    ("x+?$", false, "xxx", Some([Some((0, 3)), None, None, None])),
+    (
+        "x+?$",
+        false,
+        "xxx",
+        Some(&[Some((0, 3)), None, None, None]),
+    ),
     (
         "((a)|b)+",
         false,
         "ab",
-        Some([Some((0, 2)), Some((1, 2)), Some((0, 1)), None]),
+        Some(&[Some((0, 2)), Some((1, 2)), Some((0, 1)), None]),
     ),
     (
         "((a)|b)+",
         false,
         "b",
-        Some([Some((0, 1)), Some((0, 1)), None, None]),
+        Some(&[Some((0, 1)), Some((0, 1)), None, None]),
     ),
     (
         "(a)b|ac",
         false,
         "ac",
-        Some([Some((0, 2)), None, None, None]),
+        Some(&[Some((0, 2)), None, None, None]),
     ),
     (
         "a{2,3}",
         false,
         "aaaa",
-        Some([Some((0, 3)), None, None, None]),
+        Some(&[Some((0, 3)), None, None, None]),
     ),
     (
         "a{2,3}?",
         false,
         "aaaa",
-        Some([Some((0, 2)), None, None, None]),
+        Some(&[Some((0, 2)), None, None, None]),
     ),
     (
         "a{2,}",
         false,
         "aaaa",
-        Some([Some((0, 4)), None, None, None]),
+        Some(&[Some((0, 4)), None, None, None]),
     ),
     (
         "a{2,}?",
         false,
         "aaaa",
-        Some([Some((0, 2)), None, None, None]),
+        Some(&[Some((0, 2)), None, None, None]),
     ),
-    ("a{0}", false, "a", Some([Some((0, 0)), None, None, None])),
+    ("a{0}", false, "a", Some(&[Some((0, 0)), None, None, None])),
     ("a{3,}", false, "aa", None),
     (
         "(a?){1}",
         false,
         "b",
-        Some([Some((0, 0)), Some((0, 0)), None, None]),
+        Some(&[Some((0, 0)), Some((0, 0)), None, None]),
     ),
     (
         "[^0-9]",
         false,
         "12x",
-        Some([Some((2, 3)), None, None, None]),
+        Some(&[Some((2, 3)), None, None, None]),
     ),
     ("[^0-9]", false, "12", None),
-    ("^b", false, "bb", Some([Some((0, 1)), None, None, None])),
+    ("^b", false, "bb", Some(&[Some((0, 1)), None, None, None])),
     ("^b", false, "ab", None),
-    ("b$", false, "bb", Some([Some((1, 2)), None, None, None])),
+    ("b$", false, "bb", Some(&[Some((1, 2)), None, None, None])),
     ("b$", false, "ba", None),
-    ("^$", false, "", Some([Some((0, 0)), None, None, None])),
-    ("", false, "ab", Some([Some((0, 0)), None, None, None])),
-    ("a|", false, "b", Some([Some((0, 0)), None, None, None])),
+    ("^$", false, "", Some(&[Some((0, 0)), None, None, None])),
+    ("", false, "ab", Some(&[Some((0, 0)), None, None, None])),
+    ("a|", false, "b", Some(&[Some((0, 0)), None, None, None])),
     (
         "(|a)b",
         false,
         "ab",
-        Some([Some((0, 2)), Some((0, 1)), None, None]),
+        Some(&[Some((0, 2)), Some((0, 1)), None, None]),
     ),
-    ("(a)|b", false, "b", Some([Some((0, 1)), None, None, None])),
+    ("(a)|b", false, "b", Some(&[Some((0, 1)), None, None, None])),
     (
         "(?:a|)$",
         true,
         "bA",
-        Some([Some((1, 2)), None, None, None]),
+        Some(&[Some((1, 2)), None, None, None]),
     ),
     (
         "^/(a|ab)(c|bcd)?",
         false,
         "/abcd",
-        Some([Some((0, 5)), Some((1, 2)), Some((2, 5)), None]),
+        Some(&[Some((0, 5)), Some((1, 2)), Some((2, 5)), None]),
     ),
     (
         "x{2,3}?y",
         false,
         "xxxy",
-        Some([Some((0, 4)), None, None, None]),
+        Some(&[Some((0, 4)), None, None, None]),
     ),
     (
         "x{007,}",
         false,
         "xxxxxxxx",
-        Some([Some((0, 8)), None, None, None]),
+        Some(&[Some((0, 8)), None, None, None]),
     ),
     (
         "[]^a-c-]+",
         false,
         "d]^b-",
-        Some([Some((1, 5)), None, None, None]),
+        Some(&[Some((1, 5)), None, None, None]),
     ),
     (
         "\\x41\\.",
         false,
         "A.",
-        Some([Some((0, 2)), None, None, None]),
+        Some(&[Some((0, 2)), None, None, None]),
     ),
     (
         "[^a]b",
         true,
         "AbxB",
-        Some([Some((2, 4)), None, None, None]),
+        Some(&[Some((2, 4)), None, None, None]),
     ),
     (
         "[\\x5b]",
         true,
         "{[",
-        Some([Some((1, 2)), None, None, None]),
+        Some(&[Some((1, 2)), None, None, None]),
     ),
     (
         "[^\\]]",
         false,
         "]x",
-        Some([Some((1, 2)), None, None, None]),
+        Some(&[Some((1, 2)), None, None, None]),
     ),
     (
         "[\\d_-]+",
         false,
         "a-_7",
-        Some([Some((1, 4)), None, None, None]),
+        Some(&[Some((1, 4)), None, None, None]),
     ),
     (
         "(a+)(b+)?c",
         false,
         "aaacaabc",
-        Some([Some((0, 4)), Some((0, 3)), None, None]),
+        Some(&[Some((0, 4)), Some((0, 3)), None, None]),
     ),
     (
         "(ab)*c",
         false,
         "ababc",
-        Some([Some((0, 5)), Some((2, 4)), None, None]),
+        Some(&[Some((0, 5)), Some((2, 4)), None, None]),
     ),
     (
         "(a|b)*?b",
         false,
         "aab",
-        Some([Some((0, 3)), Some((1, 2)), None, None]),
+        Some(&[Some((0, 3)), Some((1, 2)), None, None]),
     ),
     (
         "((a{2})|b){2}",
         false,
         "aab",
-        Some([Some((0, 3)), Some((2, 3)), Some((0, 2)), None]),
+        Some(&[Some((0, 3)), Some((2, 3)), Some((0, 2)), None]),
     ),
     (
         "(.*)(\\d+)",
         false,
         "page 2024",
-        Some([Some((0, 9)), Some((0, 8)), Some((8, 9)), None]),
+        Some(&[Some((0, 9)), Some((0, 8)), Some((8, 9)), None]),
     ),
     (
         "(.*?)(\\d+)",
         false,
         "page 2024",
-        Some([Some((0, 9)), Some((0, 5)), Some((5, 9)), None]),
+        Some(&[Some((0, 9)), Some((0, 5)), Some((5, 9)), None]),
     ),
     (
         "^(.*/)?([^/]*)$",
         false,
         "a/b/c",
-        Some([Some((0, 5)), Some((0, 4)), Some((4, 5)), None]),
+        Some(&[Some((0, 5)), Some((0, 4)), Some((4, 5)), None]),
     ),
     (
         "(^|/)x",
         false,
         "a/x",
-        Some([Some((1, 3)), Some((1, 2)), None, None]),
+        Some(&[Some((1, 3)), Some((1, 2)), None, None]),
     ),
-    ("a.c", false, "a\nc", Some([Some((0, 3)), None, None, None])),
+    (
+        "a.c",
+        false,
+        "a\nc",
+        Some(&[Some((0, 3)), None, None, None]),
+    ),
     (
         "(a(b(c)?)?)?$",
         false,
         "ab",
-        Some([Some((0, 2)), Some((0, 2)), Some((1, 2)), None]),
+        Some(&[Some((0, 2)), Some((0, 2)), Some((1, 2)), None]),
     ),
     (
         "(?:(a)|(b)|(c))+",
         false,
         "abc",
-        Some([Some((0, 3)), Some((0, 1)), Some((1, 2)), Some((2, 3))]),
+        Some(&[Some((0, 3)), Some((0, 1)), Some((1, 2)), Some((2, 3))]),
     ),
     (
         "\\S+\\s\\S",
         false,
         "ab cd",
-        Some([Some((0, 4)), None, None, None]),
+        Some(&[Some((0, 4)), None, None, None]),
     ),
     (
         "\\W\\D",
         false,
         "a1-x",
-        Some([Some((2, 4)), None, None, None]),
+        Some(&[Some((2, 4)), None, None, None]),
     ),
     (
         "(x)?(y)?z",
         false,
         "yz",
-        Some([Some((0, 2)), None, Some((0, 1)), None]),
+        Some(&[Some((0, 2)), None, Some((0, 1)), None]),
     ),
     (
         "(a{2}){2}",
         false,
         "aaaaa",
-        Some([Some((0, 4)), Some((2, 4)), None, None]),
+        Some(&[Some((0, 4)), Some((2, 4)), None, None]),
     ),
     // a count over 255 is no count, and a name that there is not is no name
     (
         "a{256}",
         false,
         "a{256}",
-        Some([Some((0, 6)), None, None, None]),
+        Some(&[Some((0, 6)), None, None, None]),
     ),
     (
         "[[:foo:]]",
         false,
         ":]",
-        Some([Some((0, 2)), None, None, None]),
+        Some(&[Some((0, 2)), None, None, None]),
     ),
     (
         "[^[:alpha:]_]\\d",
         false,
         "a_.7",
-        Some([Some((2, 4)), None, None, None]),
+        Some(&[Some((2, 4)), None, None, None]),
     ),
 ];
 
@@ -290,7 +303,11 @@ fn the_first_way_is_found(rt: HostRuntime) -> Result<(), Fail> {
     for &(pattern, nocase, hay, wanted) in MATCHES {
         let pat = read(&rt, alloc, pattern, nocase);
         let found = first_match(alloc, &pat, hay.as_bytes())?.map(|captures| spans(&captures));
-        assert_eq!(rt; found, wanted, "{pattern} in {hay}");
+        assert_eq!(rt;
+            found.as_ref().map(|places| places.as_slice()),
+            wanted,
+            "{pattern} in {hay}"
+        );
     }
     Ok(())
 }
@@ -320,32 +337,32 @@ fn trees_that_no_text_gives(rt: HostRuntime) -> Result<(), Fail> {
 }
 
 // The pattern, a part, how many of it stand in the text, and where the match is.
-static LONG: &[(&str, &str, u32, Option<Places>)] = &[
+static LONG: &[(&str, &str, u32, Wanted)] = &[
     (
         "(a)*",
         "a",
         8190,
-        Some([Some((0, 8190)), Some((8189, 8190)), None, None]),
+        Some(&[Some((0, 8190)), Some((8189, 8190)), None, None]),
     ),
     (
         "^(.*)$",
         "a",
         8190,
-        Some([Some((0, 8190)), Some((0, 8190)), None, None]),
+        Some(&[Some((0, 8190)), Some((0, 8190)), None, None]),
     ),
     ("(a|a)*b", "a", 8000, None),
     (
         "^(a|a)*$",
         "a",
         8000,
-        Some([Some((0, 8000)), Some((7999, 8000)), None, None]),
+        Some(&[Some((0, 8000)), Some((7999, 8000)), None, None]),
     ),
     ("(a|b|ab)*c", "ab", 8000, None),
     (
         "^(a|b|ab)*$",
         "ab",
         8000,
-        Some([Some((0, 16000)), Some((15999, 16000)), None, None]),
+        Some(&[Some((0, 16000)), Some((15999, 16000)), None, None]),
     ),
     ("(x+x+)+y", "x", 4000, None),
     ("(.*)(.*)(.*)(.*)y", "x", 400, None),
@@ -362,7 +379,11 @@ fn hostile_texts_take_a_moment(rt: HostRuntime) -> Result<(), Fail> {
         }
         let pat = read(&rt, alloc, pattern, false);
         let found = first_match(alloc, &pat, &hay)?.map(|captures| spans(&captures));
-        assert_eq!(rt; found, wanted, "{pattern} on {count} of {part}");
+        assert_eq!(rt;
+            found.as_ref().map(|places| places.as_slice()),
+            wanted,
+            "{pattern} on {count} of {part}"
+        );
     }
     Ok(())
 }
