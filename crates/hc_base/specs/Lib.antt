@@ -6,5 +6,4 @@ pub mod Gives
 pub mod Lines
 pub mod Paths
 pub mod Tape
-pub mod Target
 pub mod formers
