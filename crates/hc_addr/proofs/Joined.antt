@@ -4,8 +4,8 @@ use Rattle.std.specs.List.{AllByRecursion, join_with_byte, list_any, slice_split
 use Rattle.std.proofs.lemmas.List.Elements.{All-from_recursion}
 use Rattle.std.proofs.lemmas.List.Folds.{list_any-append}
 use Rattle.std.proofs.lemmas.List.Splits.{slice_split_at, slice_split_none}
-use Rattle.hc_base.specs.Bytes.{begins_with}
-use Rattle.hc_addr.specs.Numbers.{colon, is_colon}
+use Rattle.hc_base.specs.Bytes.{begins_with, colon}
+use Rattle.hc_addr.specs.Numbers.{is_colon}
 use Rattle.hc_addr.specs.Addresses.{begins_with_gap, gap_of, has_colon}
 
 abbrev pub Lacks : ℕ → List ℕ → Type 0

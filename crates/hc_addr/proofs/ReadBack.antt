@@ -9,10 +9,10 @@ use Rattle.std.proofs.lemmas.Bool.Decides.{nat_tests}
 use Rattle.std.proofs.lemmas.Int.Digits.{number_push}
 use Rattle.std.proofs.lemmas.Nat.{div-add-mod'}
 use Rattle.std.proofs.Math.Nat.{mod-lt, pow-zero}
-use Rattle.hc_base.specs.Bytes.{dot}
+use Rattle.hc_base.specs.Bytes.{colon, dot}
 use Rattle.hc_addr.specs.declared.addr.Addr.{Addr}
 use Rattle.hc_addr.specs.declared.addr.Addr.TheVariants.{V4, V6}
-use Rattle.hc_addr.specs.Numbers.{at_most, byte_of, colon, group_of, numbers_of, row_of}
+use Rattle.hc_addr.specs.Numbers.{at_most, byte_of, group_of, numbers_of, row_of}
 use Rattle.hc_addr.specs.Addresses.{v4_of, v6_at, v6_of, whole}
 use Rattle.hc_addr.specs.Printed.{IsReadBack, hexadecimal, last_digits, printed}
 use Rattle.hc_addr.proofs.Digits.{digits_read, div_below, printed_lacks, printed_some}

@@ -1,12 +1,12 @@
 -- The two forms of rows, for the functions that read both.
 use Rattle.std.specs.Prelude.{ℕ, ◌==◌, ◌+◌, ◌*◌, List, nat_lt, Option, Some, None, if◌then◌else◌}
 use Rattle.std.specs.List.{slice_split}
-use Rattle.hc_base.specs.Bytes.{dot}
+use Rattle.hc_base.specs.Bytes.{colon, dot}
 use Rattle.hc_addr.specs.declared.numbers.Form.{Form}
 use Rattle.hc_addr.specs.declared.numbers.Form.TheVariants.{Dotted, Coloned}
 use Rattle.hc_addr.specs.declared.numbers.Row.{Row}
 use Rattle.hc_addr.specs.declared.sizes.TheConstants.{BYTES, BYTE_VALUES, GROUPS, GROUP_VALUES}
-use Rattle.hc_addr.specs.Numbers.{byte_of, colon, group_of, numbers_of, row_of}
+use Rattle.hc_addr.specs.Numbers.{byte_of, group_of, numbers_of, row_of}
 
 -- What a form has: its separator, how it writes a number, how many values a number has, and how many
 -- numbers stand in a row at most.

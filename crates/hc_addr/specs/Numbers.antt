@@ -4,13 +4,9 @@ use Rattle.std.specs.Char.{is_digit}
 use Rattle.std.specs.Int.Digits.{number_from_digits}
 use Rattle.std.specs.List.{list_all, slice_split}
 use Rattle.std.specs.Str.Parse.{digits_value}
-use Rattle.hc_base.specs.Bytes.{dot}
+use Rattle.hc_base.specs.Bytes.{colon, dot}
 use Rattle.hc_addr.specs.declared.numbers.Row.{Row}
 use Rattle.hc_addr.specs.declared.sizes.TheConstants.{BYTES, BYTE_DIGITS, BYTE_VALUES, DECIMAL, GROUPS, GROUP_DIGITS, GROUP_VALUES, HEXADECIMAL, HIGHEST_BYTE}
-
--- The byte between the groups of an IPv6 address.
-abbrev pub colon : ℕ
-colon = 58
 
 abbrev pub is_dot : ℕ → Bool
 is_dot b = b == dot

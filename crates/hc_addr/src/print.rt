@@ -1,7 +1,7 @@
 ghost use Rattle.std.specs.Prelude.{◌≡◌, ◌≤◌, length, map, List, [], ◌∷◌, IfOk};
 ghost use Rattle.std.specs.List.{join_with_byte};
-ghost use Rattle.hc_addr.specs.Numbers.{colon};
 ghost use Rattle.std.specs.String.{string_bytes};
+ghost use Rattle.hc_base.specs.Bytes.{colon};
 ghost use Rattle.hc_addr.specs.declared.addr.Addr.TheVariants.{V4, V6};
 ghost use Rattle.hc_addr.specs.Printed.{hexadecimal, last_digits, printed};
 

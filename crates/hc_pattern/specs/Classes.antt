@@ -3,11 +3,10 @@ use Rattle.std.specs.Prelude.{ℕ, zero, suc, ◌+◌, ◌-◌, ◌==◌, Bool, 
 use Rattle.std.specs.Option.{option_or}
 use Rattle.std.specs.List.{list_any}
 use Rattle.std.specs.Char.{to_ascii_lowercase, to_ascii_uppercase}
-use Rattle.hc_base.specs.Bytes.{dash}
+use Rattle.hc_base.specs.Bytes.{bracket_close, dash}
 use Rattle.hc_base.specs.declared.fault.AtByte.{AtByte}
 use Rattle.hc_pattern.specs.Members.{Member, one, many, hyphen, refused, member_at}
 use Rattle.hc_pattern.specs.Refusals.{wrong_syntax}
-use Rattle.hc_pattern.specs.Signs.{bracket_close}
 
 -- A member at its place.
 pub record Placed : Type 0 where

@@ -1,14 +1,13 @@
 -- Globs: our own choice, after the Apache manual ("fnmatch") and the shell.
 use Rattle.std.specs.Prelude.{ℕ, zero, suc, ◌+◌, ◌==◌, Bool, true, false, not, ◌&&◌, ◌||◌, List, [], ◌∷◌, length, Option, Some, None, Result, Ok, Err, if◌then◌else◌, nat_le, nat_lt, option_map}
 use Rattle.std.specs.List.{list_any}
-use Rattle.hc_base.specs.Bytes.{backslash, dash, slash}
+use Rattle.hc_base.specs.Bytes.{backslash, bracket_close, bracket_open, caret, dash, exclamation, question, slash, star}
 use Rattle.hc_base.specs.declared.fault.AtByte.{AtByte}
 use Rattle.hc_pattern.specs.Bits.{set_where}
 use Rattle.hc_pattern.specs.declared.mark.Mark.{Mark}
 use Rattle.hc_pattern.specs.declared.mark.Range.{Range}
 use Rattle.hc_pattern.specs.Pattern.{Pattern, byte, class, start, finish, cat, repeat}
 use Rattle.hc_pattern.specs.Refusals.{most_nodes, too_large, wrong_syntax}
-use Rattle.hc_pattern.specs.Signs.{bracket_close, bracket_open, caret, exclamation, question, star}
 
 -- Of a byte of a glob a `Mark` says its place, and that it is plain where a backslash before it makes it
 -- so; its place is then that of the backslash.

@@ -1,6 +1,5 @@
 pub mod Bits
 pub mod Pattern
-pub mod Signs
 pub mod Refusals
 pub mod Globs
 pub mod GlobViews

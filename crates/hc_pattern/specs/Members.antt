@@ -2,10 +2,9 @@
 use Rattle.std.specs.Prelude.{ℕ, ◌+◌, ◌*◌, ◌==◌, not, ◌&&◌, List, [], ◌∷◌, length, if◌then◌else◌, nat_eq, codes}
 use Rattle.std.specs.List.{starts_with}
 use Rattle.std.specs.Char.{digit_value, is_ascii_alphanumeric, is_ascii_hexdigit}
-use Rattle.hc_base.specs.Bytes.{backslash, cr, dash, delete, digit_zero, letter_a, letter_x, slash, space, tab, tilde, underscore}
+use Rattle.hc_base.specs.Bytes.{at_sign, backslash, backspace, brace_open, bracket_open, capital_a, capital_d, capital_f, capital_s, capital_w, capital_z, caret, colon, cr, dash, delete, digit_nine, digit_zero, exclamation, grave, last_byte, letter_a, letter_d, letter_f, letter_s, letter_w, letter_x, letter_z, nul, shift_out, slash, space, tab, tilde, underscore, unit_separator}
 use Rattle.hc_base.specs.declared.fault.AtByte.{AtByte}
 use Rattle.hc_pattern.specs.Refusals.{unsupported, wrong_syntax}
-use Rattle.hc_pattern.specs.Signs.{at_sign, backspace, brace_open, bracket_open, capital_a, capital_d, capital_f, capital_s, capital_w, capital_z, caret, colon, digit_nine, exclamation, grave, last_byte, letter_d, letter_f, letter_s, letter_w, letter_z, nul, shift_out, unit_separator}
 
 -- What a byte, an escape or a named set stands for: a set is given by its ranges. A hyphen in a class
 -- may make a range.

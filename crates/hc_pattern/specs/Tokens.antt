@@ -2,14 +2,13 @@
 use Rattle.std.specs.Prelude.{ℕ, zero, suc, ◌+◌, ◌-◌, ◌*◌, ◌==◌, Bool, true, false, not, ◌&&◌, List, [], ◌∷◌, length, take, drop, Option, Some, None, if◌then◌else◌, nat_lt}
 use Rattle.std.specs.List.{fold, prefix_len}
 use Rattle.std.specs.Char.{eq_ignore_ascii_case, is_ascii_alphabetic, is_ascii_digit}
-use Rattle.hc_base.specs.Bytes.{backslash, begins_with, digit_zero, dollar, dot}
+use Rattle.hc_base.specs.Bytes.{backslash, bar, begins_with, brace_close, brace_open, bracket_open, caret, colon, comma, digit_zero, dollar, dot, parenthesis_close, parenthesis_open, plus, question, star}
 use Rattle.hc_base.specs.declared.fault.AtByte.{AtByte}
 use Rattle.hc_pattern.specs.Bits.{set_where}
 use Rattle.hc_pattern.specs.Classes.{Class, class_from, class_test, is_in_ranges, parts_of, parts_refusal}
 use Rattle.hc_pattern.specs.Members.{Member, one, many, hyphen, refused, escape}
 use Rattle.hc_pattern.specs.Pattern.{Pattern, byte, class, start, finish}
 use Rattle.hc_pattern.specs.Refusals.{unsupported, wrong_syntax}
-use Rattle.hc_pattern.specs.Signs.{bar, brace_close, brace_open, bracket_open, caret, colon, comma, parenthesis_close, parenthesis_open, plus, question, star}
 
 -- A quantifier: so many turns at least, and at most where there is a second number. `is_sign` where it
 -- is `*`, `+` or `?`, `is_plus` where it is `+`.

@@ -1,9 +1,9 @@
 ghost use Rattle.std.specs.Prelude.{◌≡◌, ℕ, ◌<◌, ◌≤◌, ◌+◌, ◌||◌, ◌&&◌, ◌∷◌, [], Bool, true, IfOk, MatchOption, length, map, not, ◌==◌, option_map};
 ghost use Rattle.hc_pattern.specs.Bits.{set_where};
 ghost use Rattle.hc_pattern.specs.Classes.{class_from, class_test, folded, is_hyphen, is_in_part, is_in_ranges, joined, part_of, part_refusal, parts_of, parts_refusal};
-ghost use Rattle.hc_pattern.specs.Signs.{bracket_close};
 ghost use Rattle.hc_pattern.specs.ClassViews.{class_view, part_view, placed_view};
 ghost use Rattle.std.specs.List.{list_any};
+ghost use Rattle.hc_base.specs.Bytes.{bracket_close};
 ghost use Rattle.hc_pattern.specs.MemberViews.{member_view};
 
 use crate::ByteSet;

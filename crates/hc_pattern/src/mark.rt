@@ -1,8 +1,8 @@
 ghost use Rattle.std.specs.Prelude.{◌≡◌, ℕ, ◌<◌, ◌∷◌, [], ◌||◌, IfSome, MatchOption, length, option_map, take};
+ghost use Rattle.hc_base.specs.Bytes.{caret, exclamation};
 ghost use Rattle.hc_pattern.specs.Bits.{has_byte};
 ghost use Rattle.hc_pattern.specs.Globs.{before_close, class_of, falling, is_among, means, members_of, ranges_of};
 ghost use Rattle.hc_pattern.specs.GlobViews.{class_view};
-ghost use Rattle.hc_pattern.specs.Signs.{caret, exclamation};
 
 use crate::ByteSet;
 
