@@ -1,10 +1,11 @@
 -- Sets of states that grow by one state.
-use Rattle.std.proofs.Common.{◌≡◌, ◌≢◌, ℕ, ◌+◌, ◌-◌, ◌<◌, ◌≤◌, ◌∙◌, sym, arith, ◌||◌, ap, refl, subst, not, count_by, length-set, slice_index_or, List, length, slice_set, Bool, true, false, ◌⊎◌, inl, inr, get_or-set_same, get_or-set_other}
+use Rattle.std.proofs.Common.{◌≡◌, ℕ, ◌+◌, ◌<◌, ◌≤◌, ◌∙◌, sym, arith, ◌||◌, ap, refl, subst, not, count_by, length-set, slice_index_or, List, length, slice_set, Bool, true, false, ◌⊎◌, inl, inr, get_or-set_same, get_or-set_other}
 use Rattle.std.proofs.lemmas.Bool.{cases_eq}
 use Rattle.std.proofs.lemmas.List.{get_or_default}
 use Rattle.std.proofs.lemmas.Grind.{common_steps}
 use Rattle.hc_dfa.specs.Machines.{Steps, Reads, IsSilent}
-use Rattle.hc_dfa.specs.Sets.{AreChanges, Marks, Has, IsClosed, IsStep, SilentPath, Follows}
+use Rattle.hc_dfa.specs.Classings.{Classing, IsAsFine}
+use Rattle.hc_dfa.specs.Sets.{AreChanges, ArePieces, Marks, Has, IsClosed, IsStep, SilentPath, Follows, TellsSteps}
 use Rattle.hc_dfa.specs.Sets.SilentPath.{stays, goes_on}
 use Rattle.hc_dfa.specs.declared.machine.ReadingStep.{ReadingStep}
 use Rattle.hc_dfa.specs.declared.machine.SilentStep.{SilentStep}
@@ -88,9 +89,37 @@ spread_closed m set more grew count is all same state next has silent =
     let to = is.closed same k silent.step (let w = silent.among.1 in omega arith) from in
     subst (λ (x : ℕ). Has more x) silent.enters (subst (λ (x : SilentStep). Has more x.to) item to)
 
--- A byte at which no step begins, and before which none ends, leads to what the byte before it leads to.
-pub step_same : (m : Steps) (changes from to : List Bool) (byte : ℕ) → AreChanges m changes → 0 < byte → (Has changes byte → ⊥) → IsStep m from (byte - 1) to → IsStep m from byte to
-step_same m changes from to byte are more isnt step = record {
+-- Two bytes with no change between them are read by the same steps.
+module _ (m : Steps) (changes : List Bool) (are : AreChanges m changes) (b d : ℕ) (ordered : b ≤ d)
+    (none : (k : ℕ) → b < k → k ≤ d → Has changes k → ⊥) where
+  read_later : (before state : ℕ) → Reads m before b state → Reads m before d state
+  read_later before state r =
+      let cases : (d ≤ r.step.high) ⊎ (r.step.high < d) = grind arith in
+      record {
+        step = r.step;
+        among = r.among;
+        leaves = r.leaves;
+        enters = r.enters;
+        low = (let l = r.low in omega arith);
+        high = elim cases [ inl h ↦ h | inr past ↦ absurd (none (r.step.high + 1) (let h = r.high in omega arith) (omega arith) (are.high r.step r.among)) ];
+      }
+
+  read_earlier : (before state : ℕ) → Reads m before d state → Reads m before b state
+  read_earlier before state r =
+      let cases : (r.step.low ≤ b) ⊎ (b < r.step.low) = grind arith in
+      record {
+        step = r.step;
+        among = r.among;
+        leaves = r.leaves;
+        enters = r.enters;
+        low = elim cases [ inl l ↦ l | inr past ↦ absurd (none r.step.low past r.low (are.low r.step r.among)) ];
+        high = (let h = r.high in omega arith);
+      }
+
+-- Bytes that are read by the same steps lead to the same sets.
+step_alike : (m : Steps) (from to : List Bool) (b d : ℕ) → ((before state : ℕ) → Reads m before b state → Reads m before d state)
+    → ((before state : ℕ) → Reads m before d state → Reads m before b state) → IsStep m from b to → IsStep m from d to
+step_alike m from to b d later earlier step = record {
   read = step.read;
   closes = step.closes;
   reads = record {
@@ -99,18 +128,17 @@ step_same m changes from to byte are more isnt step = record {
     complete = λ before state has reads. step.reads.complete before state has (earlier before state reads);
   };
 }
-  where
-    later : (before state : ℕ) → Reads m before (byte - 1) state → Reads m before byte state
-    later before state r =
-        let high = are.high r.step r.among in
-        let other : byte ≢ r.step.high + 1 = λ e. isnt (subst (λ (x : ℕ). Has changes x) (sym e) high) in
-        record { step = r.step; among = r.among; leaves = r.leaves; enters = r.enters; low = (let l = r.low in omega arith); high = (let h = r.high in omega arith) }
 
-    earlier : (before state : ℕ) → Reads m before byte state → Reads m before (byte - 1) state
-    earlier before state r =
-        let low = are.low r.step r.among in
-        let other : byte ≢ r.step.low = λ e. isnt (subst (λ (x : ℕ). Has changes x) (sym e) low) in
-        record { step = r.step; among = r.among; leaves = r.leaves; enters = r.enters; low = (let l = r.low in omega arith); high = (let h = r.high in omega arith) }
+pub pieces_tell : (m : Steps) (changes : List Bool) (numbers : List ℕ) (c : Classing) → AreChanges m changes → ArePieces changes 256 numbers → IsAsFine c numbers
+    → TellsSteps m c
+pieces_tell m changes numbers c are pieces fine from to b d bb db same step =
+    let cases : (b ≤ d) ⊎ (d ≤ b) = grind arith in
+    elim cases [
+      | inl up ↦ (let none = λ (k : ℕ). pieces b d k db (fine b d bb db same) in
+          step_alike m from to b d (read_later m changes are b d up none) (read_earlier m changes are b d up none) step)
+      | inr down ↦ (let none = λ (k : ℕ). pieces d b k bb (sym (fine b d bb db same)) in
+          step_alike m from to b d (read_earlier m changes are d b down none) (read_later m changes are d b down none) step)
+    ]
 
 -- The changes of the first reading steps.
 pub record ChangesBelow (m : Steps) (changes : List Bool) (count : ℕ) : Type 0 where

@@ -1,31 +1,38 @@
 -- The automaton of sets of a machine's states.
-use Rattle.std.proofs.Common.{◌≡◌, ℕ, ◌*◌, ◌<◌, ◌≤◌, List, [], ◌∷◌, length, Bool, true, Some, slice_get, Vec, arith}
+use Rattle.std.proofs.Common.{◌≡◌, ℕ, ◌*◌, ◌<◌, ◌≤◌, List, [], ◌∷◌, length, Bool, true, Some, slice_get, Vec, arith, ap, ◌∙◌}
 use Rattle.std.proofs.lemmas.Option.{slice_get_within}
 use Rattle.std.specs.declared.alloc.Global.{Global}
 use Rattle.hc_dfa.specs.Automata.{Automaton, next_state, accepts_from, accepts}
 use Rattle.hc_dfa.specs.Machines.{Steps, PathToFinal, AcceptsPathsOf}
 use Rattle.hc_dfa.specs.Machines.PathToFinal.{ends, silently, by_byte}
-use Rattle.hc_dfa.specs.Sets.{Has, IsSetOf, SilentPath, IsClosure, IsProper, IsStep, IsMark, IsSameSet, SetsExplored}
+use Rattle.hc_dfa.specs.Sets.{Has, IsSetOf, SilentPath, IsClosure, IsProper, IsStep, IsMark, IsSameSet, SetsExplored, TellsSteps}
 use Rattle.hc_dfa.specs.Sets.SilentPath.{stays, goes_on}
 use Rattle.hc_dfa.specs.Texts.{IsText}
+use Rattle.hc_dfa.specs.Classings.{Classing, AreClasses, class_count, class_of, first_of, expanded}
 use Rattle.hc_dfa.proofs.Rows.{Marked, mark_at, leads_at}
+use Rattle.hc_dfa.proofs.Tables.{cell_within, expanded_at}
 
 abbrev pub SetsMarked : Steps → List (Vec Bool Global) → List Bool → Type 0
 SetsMarked m sets finals = Marked (λ set answer. IsMark m.finals set.items answer) sets finals
 
 -- Each set has a row and a mark.
-pub record AllSets (m : Steps) (sets : List (Vec Bool Global)) (made : Automaton) : Type 0 where
-  pub explored : SetsExplored m sets made.next
-  pub marked : SetsMarked m sets made.finals
-  pub whole : length made.next ≡ 256 * length made.finals
-  pub all : length sets ≤ length made.finals
+pub record AllSets (m : Steps) (sets : List (Vec Bool Global)) (c : Classing) (rows : List ℕ) (finals : List Bool) : Type 0 where
+  pub classes : AreClasses c
+  pub tells : TellsSteps m c
+  pub explored : SetsExplored m c.firsts sets rows
+  pub marked : SetsMarked m sets finals
+  pub whole : length rows ≡ length finals * class_count c
+  pub all : length sets ≤ length finals
 
 -- A silent path in front of a path.
 pub after_silent : (m : Steps) (from : ℕ) {state : ℕ} (text : List ℕ) → SilentPath m from state → PathToFinal m state text → PathToFinal m from text
 after_silent m from text stays path = path
 after_silent m from text (goes_on silent step) path = after_silent m from text silent (silently step path)
 
-module _ (m : Steps) (sets : List (Vec Bool Global)) (made : Automaton) (is : AllSets m sets made) where
+module _ (m : Steps) (sets : List (Vec Bool Global)) (c : Classing) (rows : List ℕ) (finals : List Bool) (is : AllSets m sets c rows finals) where
+  abbrev pub made : Automaton
+  made = record { next = expanded c rows (length finals); finals = finals }
+
   mark_here : (state : ℕ) (set : Vec Bool Global) → slice_get sets state ≡ Some set → IsMark m.finals set.items (accepts_from made state [])
   mark_here state set at =
       mark_at (λ set answer. IsMark m.finals set.items answer) sets made.finals state set is.marked (let w = slice_get_within sets state set at in omega (arith, is.all)) at
@@ -33,8 +40,14 @@ module _ (m : Steps) (sets : List (Vec Bool Global)) (made : Automaton) (is : Al
   step_here : (state byte : ℕ) (set : Vec Bool Global) → slice_get sets state ≡ Some set → byte < 256
       → (to : Vec Bool Global) × (slice_get sets (next_state made state byte) ≡ Some to) × IsStep m set.items byte to.items
   step_here state byte set at below =
-      leads_at IsSameSet (λ set. IsProper m set.items) (λ from byte to. IsStep m from.items byte to.items) sets made.next state byte set is.explored at
-      (let w = slice_get_within sets state set at in omega (arith, is.all, is.whole, below)) below
+      let class = is.classes.within byte below in
+      let here : state < length finals = (let w = slice_get_within sets state set at in omega (arith, is.all)) in
+      let leads = leads_at (class_count c) IsSameSet (λ set. IsProper m set.items) (λ from k to. IsStep m from.items (first_of c k) to.items) sets rows
+      state (class_of c byte) set is.explored at (rw is.whole (cell_within (class_count c) state (class_of c byte) (length finals) here class)) class in (
+        leads.0,
+        ap (λ k. slice_get sets k) (expanded_at c rows (length finals) state byte here below) ∙ leads.1,
+        is.tells set.items leads.0.items (first_of c (class_of c byte)) byte (is.classes.below (class_of c byte) class) below (is.classes.own (class_of c byte) class) leads.2,
+      )
 
   -- What a set accepts, a path from one of its states reads.
   pub to_path : (text : List ℕ) (state : ℕ) (set : Vec Bool Global) → slice_get sets state ≡ Some set → IsText text → accepts_from made state text ≡ true

@@ -1,4 +1,8 @@
 pub mod Runs
+pub mod Tables
+pub mod Grouped
+pub mod Columns
+pub mod Pieces
 pub mod Rows
 pub mod Pairs
 pub mod Nearest

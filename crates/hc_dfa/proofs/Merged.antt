@@ -1,14 +1,14 @@
 -- Automata whose states with the same test are made one.
-use Rattle.std.proofs.Common.{◌≡◌, ℕ, ◌-◌, ◌⊎◌, inl, inr, [], ◌∷◌, ◌++◌, length-append, ◌+◌, ◌*◌, ◌<◌, List, length, slice_index, Bool, true, false, ◌&&◌, refl, sym, ◌∙◌, ap, subst, arith, Some, slice_get, ◌≤◌, Vec}
-use Rattle.std.proofs.lemmas.List.{get_or_append_left}
-use Rattle.std.proofs.Math.Seq.{get_or-append_seam}
+use Rattle.std.proofs.Common.{◌≡◌, ℕ, ◌<◌, List, length, slice_index, Bool, true, false, ◌&&◌, refl, sym, ◌∙◌, ap, subst, arith, Some, slice_get, ◌≤◌, Vec}
 use Rattle.std.proofs.lemmas.Option.{slice_get_within}
 use Rattle.std.specs.declared.alloc.Global.{Global}
 use Rattle.hc_dfa.specs.Automata.{Automaton, states, next_state, accepts}
-use Rattle.hc_dfa.specs.Blocks.{RespectsFinals, Refines, IsStable, AreLeaders, IsSignature, Represents, RepresentsBelow, block_on}
+use Rattle.hc_dfa.specs.Blocks.{RespectsFinals, Refines, IsStable, AreLeaders, IsSignature, Represents, block_on}
 use Rattle.hc_dfa.specs.Built.{Accepts, product_of}
 use Rattle.hc_dfa.specs.declared.products.Keep.TheVariants.{Both}
+use Rattle.hc_dfa.specs.Classings.{Classing, AreClasses, Tells, class_of}
 use Rattle.hc_dfa.proofs.Runs.{IsAutomaton, next_within, simulated}
+use Rattle.hc_dfa.proofs.Tables.{stands_for}
 
 pub refined_finals : (a : Automaton) (blocks finer : List ℕ) → Refines a blocks finer → RespectsFinals a blocks → RespectsFinals a finer
 refined_finals a blocks finer refines finals s t sb tb same = finals s t sb tb (refines.own s t sb tb same)
@@ -21,16 +21,17 @@ stable a blocks finer refines finals e = record {
   steps = λ s t byte sb tb same b. subst (λ (xs : List ℕ). block_on a xs s byte ≡ block_on a xs t byte) (sym e) (refines.steps s t byte sb tb same b);
 }
 
-pub merged : (a made : Automaton) (blocks leaders : List ℕ) → IsAutomaton a → IsStable a blocks → AreLeaders (states a) blocks leaders
-    → ((cell : ℕ) → cell < 256 * states a → slice_index made.next cell ≡ slice_index leaders (slice_index blocks (slice_index a.next cell)))
+pub merged : (a made : Automaton) (blocks leaders table : List ℕ) → IsAutomaton a → IsStable a blocks → AreLeaders (states a) blocks leaders
+    → ((s : ℕ) → s < states a → slice_index table s ≡ slice_index leaders (slice_index blocks s))
+    → ((s byte : ℕ) → s < states a → byte < 256 → next_state made s byte ≡ slice_index table (next_state a s byte))
     → made.finals ≡ a.finals → Accepts made (accepts a)
 unfolding accepts
-merged a made blocks leaders is stable leads each finals text bytes =
+merged a made blocks leaders table is stable leads led each finals text bytes =
     simulated a made (λ answer. answer) (λ s t. (s < states a) × (t < states a) × (slice_index blocks s ≡ slice_index blocks t))
     (λ s t byte r b.
     let sn = next_within a is s byte r.0 b in
     let tn = next_within a is t byte r.1 b in
-    let cell = each (256 * t + byte) (let h = r.1 in omega arith) in
+    let cell = each t byte r.1 b ∙ led (next_state a t byte) tn in
     let target = leads.bound (block_on a blocks t byte) (stable.bound (next_state a t byte) tn) in (
       sn,
       subst (λ (x : ℕ). x < states a) (sym cell) target,
@@ -66,22 +67,7 @@ refines a bytes blocks finer signatures represents len few each = record {
     one : (s t : ℕ) (sb : s < states a) (tb : t < states a) → slice_index finer s ≡ slice_index finer t → (each s sb).0 ≡ (each t tb).0
     one s t sb tb same = let x = (each s sb).1 in let y = (each t tb).1 in cc
 
--- A byte that leads each state where the byte before leads it is represented.
-pub represents_same : (a : Automaton) (byte : ℕ) (bytes : List ℕ) → RepresentsBelow a byte bytes → 0 < byte → ((s : ℕ) → s < states a → next_state a s byte ≡ next_state a s (byte - 1))
-    → RepresentsBelow a (byte + 1) bytes
-represents_same a byte bytes is more same other below =
-    let cases : (other < byte) ⊎ (other ≡ byte) = grind arith in
-    elim cases [
-      | inl old ↦ is other old
-      | inr e ↦ (let r = is (byte - 1) (omega arith) in (r.0, r.1, λ s sb. ap (λ x. next_state a s x) e ∙ (same s sb ∙ r.2 s sb)))
-    ]
-
--- A byte that is added represents itself.
-pub represents_itself : (a : Automaton) (byte : ℕ) (bytes : List ℕ) → RepresentsBelow a byte bytes → RepresentsBelow a (byte + 1) (bytes ++ byte ∷ [])
-represents_itself a byte bytes is other below =
-    let cases : (other < byte) ⊎ (other ≡ byte) = grind arith in
-    let len = length-append bytes (byte ∷ []) in
-    elim cases [
-      | inl old ↦ (let r = is other old in (r.0, omega (arith, r.1), λ s sb. r.2 s sb ∙ ap (λ x. next_state a s x) (sym (get_or_append_left bytes (byte ∷ []) 0 r.0 r.1))))
-      | inr e ↦ (length bytes, omega arith, λ s sb. ap (λ x. next_state a s x) (e ∙ sym (get_or-append_seam bytes byte [] 0)))
-    ]
+-- The least bytes of the classes represent all bytes.
+pub firsts_represent : (c : Classing) (a : Automaton) → AreClasses c → Tells c a → Represents a c.firsts
+firsts_represent c a is tells byte below =
+    (class_of c byte, is.within byte below, λ s sb. sym (stands_for c a is tells s byte sb below))

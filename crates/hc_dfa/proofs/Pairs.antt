@@ -1,5 +1,5 @@
 -- The automaton of pairs of states.
-use Rattle.std.proofs.Common.{◌≡◌, ℕ, ◌*◌, ◌≤◌, List, [], ◌∷◌, length, Bool, Some, slice_get, arith}
+use Rattle.std.proofs.Common.{◌≡◌, ℕ, ◌*◌, ◌<◌, ◌≤◌, List, [], ◌∷◌, length, Bool, Some, slice_get, arith, ap, ◌∙◌}
 use Rattle.std.proofs.lemmas.Option.{slice_get_within}
 use Rattle.hc_dfa.specs.Automata.{Automaton, next_state, is_final, accepts_from, accepts}
 use Rattle.hc_dfa.specs.Built.{Accepts, kept, product_of}
@@ -7,7 +7,9 @@ use Rattle.hc_dfa.specs.Texts.{IsText}
 use Rattle.hc_dfa.specs.Explored.{IsOne}
 use Rattle.hc_dfa.specs.Pairs.{IsPair, pair_step, PairsExplored}
 use Rattle.hc_dfa.specs.declared.products.Keep.{Keep}
+use Rattle.hc_dfa.specs.Classings.{Classing, AreClasses, Tells, class_count, class_of, first_of, expanded}
 use Rattle.hc_dfa.proofs.Rows.{Marked, mark_at, leads_at}
+use Rattle.hc_dfa.proofs.Tables.{cell_within, expanded_at, stands_for}
 
 -- Whether a pair of states is final.
 abbrev pub IsPairMark : Automaton → Automaton → Keep → (ℕ × ℕ) → Bool → Type 0
@@ -17,24 +19,41 @@ abbrev pub PairsMarked : Automaton → Automaton → Keep → List (ℕ × ℕ) 
 PairsMarked a b keep pairs finals = Marked (IsPairMark a b keep) pairs finals
 
 -- Each pair of states has a row and a mark.
-pub record AllPairs (a b : Automaton) (keep : Keep) (pairs : List (ℕ × ℕ)) (made : Automaton) : Type 0 where
-  pub explored : PairsExplored a b pairs made.next
-  pub marked : PairsMarked a b keep pairs made.finals
-  pub whole : length made.next ≡ 256 * length made.finals
-  pub all : length pairs ≤ length made.finals
+pub record AllPairs (a b : Automaton) (keep : Keep) (pairs : List (ℕ × ℕ)) (c : Classing) (rows : List ℕ) (finals : List Bool) : Type 0 where
+  pub classes : AreClasses c
+  pub first : Tells c a
+  pub second : Tells c b
+  pub explored : PairsExplored a b c.firsts pairs rows
+  pub marked : PairsMarked a b keep pairs finals
+  pub whole : length rows ≡ length finals * class_count c
+  pub all : length pairs ≤ length finals
 
-pub pairs_run : (a b : Automaton) (keep : Keep) (pairs : List (ℕ × ℕ)) (made : Automaton) → AllPairs a b keep pairs made
-    → (state : ℕ) (pair : ℕ × ℕ) (text : List ℕ) → slice_get pairs state ≡ Some pair → IsText text
-    → accepts_from made state text ≡ kept keep (accepts_from a pair.0 text) (accepts_from b pair.1 text)
-pairs_run a b keep pairs made is state pair [] at bytes =
-    mark_at (IsPairMark a b keep) pairs made.finals state pair is.marked (let w = slice_get_within pairs state pair at in omega (arith, is.all)) at
-pairs_run a b keep pairs made is state pair (byte ∷ text) at bytes =
-    let w = slice_get_within pairs state pair at in
-    let leads = leads_at IsOne (IsPair a b) (λ from byte to. to ≡ pair_step a b from byte) pairs made.next state byte pair is.explored at (omega (arith, is.all, is.whole, bytes.0)) bytes.0 in
-    let here = pairs_run a b keep pairs made is (next_state made state byte) leads.0 text leads.1 bytes.1 in
-    rw leads.2 at here
+module _ (a b : Automaton) (keep : Keep) (pairs : List (ℕ × ℕ)) (c : Classing) (rows : List ℕ) (finals : List Bool)
+    (is : AllPairs a b keep pairs c rows finals) where
+  abbrev pub made : Automaton
+  made = record { next = expanded c rows (length finals); finals = finals }
 
-pub pairs_accept : (a b : Automaton) (keep : Keep) (pairs : List (ℕ × ℕ)) (made : Automaton) → AllPairs a b keep pairs made
-    → slice_get pairs 0 ≡ Some (0, 0) → Accepts made (product_of keep a b)
-unfolding accepts
-pairs_accept a b keep pairs made is start text bytes = pairs_run a b keep pairs made is 0 (0, 0) text start bytes
+  pub step_to : (state byte : ℕ) (pair : ℕ × ℕ) → slice_get pairs state ≡ Some pair → byte < 256
+      → (to : ℕ × ℕ) × (slice_get pairs (next_state made state byte) ≡ Some to) × (to ≡ pair_step a b pair byte)
+  step_to state byte pair at below =
+      let class = is.classes.within byte below in
+      let here : state < length finals = (let w = slice_get_within pairs state pair at in omega (arith, is.all)) in
+      let proper = is.explored.proper state pair at in
+      let leads = leads_at (class_count c) IsOne (IsPair a b) (λ from k to. to ≡ pair_step a b from (first_of c k)) pairs rows
+      state (class_of c byte) pair is.explored at (rw is.whole (cell_within (class_count c) state (class_of c byte) (length finals) here class)) class in
+      let one = stands_for c a is.classes is.first pair.0 byte proper.0 below in
+      let two = stands_for c b is.classes is.second pair.1 byte proper.1 below in
+      (leads.0, ap (λ k. slice_get pairs k) (expanded_at c rows (length finals) state byte here below) ∙ leads.1, leads.2 ∙ (ap (λ s. (s, next_state b pair.1 (first_of c (class_of c byte)))) one ∙ ap (λ s. (next_state a pair.0 byte, s)) two))
+
+  pub pairs_run : (state : ℕ) (pair : ℕ × ℕ) (text : List ℕ) → slice_get pairs state ≡ Some pair → IsText text
+      → accepts_from made state text ≡ kept keep (accepts_from a pair.0 text) (accepts_from b pair.1 text)
+  pairs_run state pair [] at bytes =
+      mark_at (IsPairMark a b keep) pairs finals state pair is.marked (let w = slice_get_within pairs state pair at in omega (arith, is.all)) at
+  pairs_run state pair (byte ∷ text) at bytes =
+      let to = step_to state byte pair at bytes.0 in
+      let here = pairs_run (next_state made state byte) to.0 text to.1 bytes.1 in
+      rw to.2 at here
+
+  pub pairs_accept : slice_get pairs 0 ≡ Some (0, 0) → Accepts made (product_of keep a b)
+  unfolding accepts
+  pairs_accept start text bytes = pairs_run 0 (0, 0) text start bytes

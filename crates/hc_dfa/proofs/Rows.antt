@@ -9,7 +9,7 @@ use Rattle.std.proofs.Math.Bool.{beq}
 use Rattle.indexmap.specs.IndexSet.{insert_key}
 use Rattle.std.proofs.Math.Seq.{get_or-append_seam}
 use Rattle.std.proofs.lemmas.Option.{slice_get_within, slice_get-get_or, slice_get_cases, get_or_from_slice_get}
-use Rattle.hc_dfa.specs.Automata.{IsTable}
+use Rattle.hc_dfa.specs.Classings.{Classing, AreClasses, IsRows, class_count}
 use Rattle.hc_dfa.specs.Explored.{Extends, IsMet, Leads, Explored}
 
 -- Where no key stands, the keys have ended.
@@ -61,26 +61,26 @@ same_marks (true ∷ xs) (false ∷ ys) same = absurd (cc)
 same_marks (false ∷ xs) (true ∷ ys) same = absurd (cc)
 same_marks (false ∷ xs) (false ∷ ys) same = ap (λ rest. false ∷ rest) (same_marks xs ys same)
 
-module _ {K : Type 0} (Same : K → K → Type 0) (Proper : K → Type 0) (Step : K → ℕ → K → Type 0) where
+module _ {K : Type 0} (width : ℕ) (Same : K → K → Type 0) (Proper : K → Type 0) (Step : K → ℕ → K → Type 0) where
   -- A cell that leads on still does when keys are added.
-  pub leads_later : (keys more : List K) (cell number : ℕ) → Extends keys more → Leads Step keys cell number → Leads Step more cell number
+  pub leads_later : (keys more : List K) (cell number : ℕ) → Extends keys more → Leads width Step keys cell number → Leads width Step more cell number
   leads_later keys more cell number extends leads =
-      record { from = leads.from; to = leads.to; from_is = extends (cell / 256) leads.from leads.from_is; to_is = extends number leads.to leads.to_is; step = leads.step }
+      record { from = leads.from; to = leads.to; from_is = extends (cell / width) leads.from leads.from_is; to_is = extends number leads.to leads.to_is; step = leads.step }
 
-  -- The new cell leads on by its byte.
+  -- The new cell leads on by its place in the row.
   pub leads_on : (keys : List K) (key to : K) (row byte number cell : ℕ) → slice_get keys row ≡ Some key → slice_get keys number ≡ Some to
-      → cell ≡ row * 256 + byte → byte < 256 → Step key byte to → Leads Step keys cell number
+      → cell ≡ row * width + byte → byte < width → Step key byte to → Leads width Step keys cell number
   leads_on keys key to row byte number cell at stored is below step =
-      let e : cell / 256 ≡ row = ap (λ x. x / 256) is ∙ div-mul-add row 256 byte below in
-      let f : cell % 256 ≡ byte = ap (λ x. x % 256) is ∙ mod-mul-add row 256 byte below in
+      let e : cell / width ≡ row = ap (λ x. x / width) is ∙ div-mul-add row width byte below in
+      let f : cell % width ≡ byte = ap (λ x. x % width) is ∙ mod-mul-add row width byte below in
       record { from = key; to = to; from_is = rw e at; to_is = stored; step = rw f step }
 
   -- One more cell: its number is that of the key that its byte leads to.
   pub explored_cell : (keys more : List K) (key to : K) (next : List ℕ) (row byte number : ℕ)
-      → Explored Proper Step keys next → Extends keys more → ((i : ℕ) (other : K) → slice_get more i ≡ Some other → Proper other)
+      → Explored width Proper Step keys next → Extends keys more → ((i : ℕ) (other : K) → slice_get more i ≡ Some other → Proper other)
       → slice_get keys row ≡ Some key → slice_get more number ≡ Some to
-      → length next ≡ row * 256 + byte → byte < 256 → Step key byte to
-      → Explored Proper Step more (next ++ number ∷ [])
+      → length next ≡ row * width + byte → byte < width → Step key byte to
+      → Explored width Proper Step more (next ++ number ∷ [])
   explored_cell keys more key to next row byte number is extends proper at stored len below step =
       record {
         proper = proper;
@@ -94,39 +94,40 @@ module _ {K : Type 0} (Same : K → K → Type 0) (Proper : K → Type 0) (Step 
 
   -- The same where the key is met.
   pub explored_more : (keys more : List K) (key to : K) (next : List ℕ) (row byte number : ℕ)
-      → Explored Proper Step keys next → (met : IsMet Same keys to more number) → slice_get keys row ≡ Some key
-      → length next ≡ row * 256 + byte → byte < 256 → Step key byte met.to → Proper to
-      → Explored Proper Step more (next ++ number ∷ [])
+      → Explored width Proper Step keys next → (met : IsMet Same keys to more number) → slice_get keys row ≡ Some key
+      → length next ≡ row * width + byte → byte < width → Step key byte met.to → Proper to
+      → Explored width Proper Step more (next ++ number ∷ [])
   explored_more keys more key to next row byte number is met at len below step proper =
       explored_cell keys more key met.to next row byte number is met.extends
       (λ i other here. elim (met.only i other here) [ inl old ↦ is.proper i other old | inr e ↦ subst Proper (sym e) proper ])
       at met.stored len below step
 
-  -- The cell of a key and a byte leads to the key of the step.
-  pub leads_at : (keys : List K) (next : List ℕ) (state byte : ℕ) (key : K) → Explored Proper Step keys next → slice_get keys state ≡ Some key
-      → 256 * state + byte < length next → byte < 256 → (to : K) × (slice_get keys (slice_index next (256 * state + byte)) ≡ Some to) × Step key byte to
+  -- The cell of a key and a place in its row leads to the key of the step.
+  pub leads_at : (keys : List K) (next : List ℕ) (state byte : ℕ) (key : K) → Explored width Proper Step keys next → slice_get keys state ≡ Some key
+      → state * width + byte < length next → byte < width → (to : K) × (slice_get keys (slice_index next (state * width + byte)) ≡ Some to) × Step key byte to
   leads_at keys next state byte key is at within below =
-      let cell : ℕ = 256 * state + byte in
+      let cell : ℕ = state * width + byte in
       let leads = is.leads cell within in
-      let e : cell / 256 ≡ state = ap (λ x. x / 256) (let h : cell ≡ state * 256 + byte = omega arith in h) ∙ div-mul-add state 256 byte below in
-      let f : cell % 256 ≡ byte = ap (λ x. x % 256) (let h : cell ≡ state * 256 + byte = omega arith in h) ∙ mod-mul-add state 256 byte below in
+      let e : cell / width ≡ state = div-mul-add state width byte below in
+      let f : cell % width ≡ byte = mod-mul-add state width byte below in
       let same : leads.from ≡ key = let from = rw e at leads.from_is in cc in
-      (leads.to, leads.to_is, subst (λ (b : ℕ). Step key b leads.to) f (subst (λ (k : K). Step k (cell % 256) leads.to) same leads.step))
+      (leads.to, leads.to_is, subst (λ (b : ℕ). Step key b leads.to) f (subst (λ (k : K). Step k (cell % width) leads.to) same leads.step))
 
   -- The rows and the marks of all keys are a table.
-  pub table : (keys : List K) (next : List ℕ) (finals : List Bool) → Explored Proper Step keys next → length next ≡ 256 * length finals
-      → 0 < length finals → length finals < 2 ^ 32 → length keys ≤ length finals → IsTable next finals
-  table keys next finals is whole some few all =
+  pub table : (c : Classing) (keys : List K) (next : List ℕ) (finals : List Bool) → AreClasses c → Explored width Proper Step keys next
+      → length next ≡ length finals * class_count c → 0 < length finals → length finals < 2 ^ 32 → length keys ≤ length finals → IsRows c next finals
+  table c keys next finals classes is whole some few all =
       record {
         some = some;
         few = few;
+        classes = classes;
         whole = whole;
         within = λ cell below. let leads = is.leads cell below in let w = slice_get_within keys (slice_index next cell) leads.to leads.to_is in omega arith;
       }
 
   -- The first key that is met stands first, with no row yet.
   pub explored_first : (keys more : List K) (key : K) (next : List ℕ) (number : ℕ) → keys ≡ [] → next ≡ [] → IsMet Same keys key more number → Proper key
-      → Explored Proper Step more next
+      → Explored width Proper Step more next
   explored_first keys more key next number none no_rows met proper =
       record {
         proper = λ i other here. elim (met.only i other here) [ inl old ↦ (let nothing = rw none at old in absurd (cc)) | inr e ↦ subst Proper (sym e) proper ];

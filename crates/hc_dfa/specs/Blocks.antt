@@ -31,13 +31,10 @@ pub record IsStable (a : Automaton) (blocks : List ℕ) : Type 0 where
   pub steps : RespectsSteps a blocks blocks
 
 -- Each byte leads every state where one of these bytes leads it.
-abbrev pub RepresentsBelow : Automaton → ℕ → List ℕ → Type 0
-RepresentsBelow a count bytes =
-    (byte : ℕ) → byte < count →
-    (k : ℕ) × (k < length bytes) × ((s : ℕ) → s < states a → next_state a s byte ≡ next_state a s (slice_index bytes k))
-
 abbrev pub Represents : Automaton → List ℕ → Type 0
-Represents a bytes = RepresentsBelow a 256 bytes
+Represents a bytes =
+    (byte : ℕ) → byte < 256 →
+    (k : ℕ) × (k < length bytes) × ((s : ℕ) → s < states a → next_state a s byte ≡ next_state a s (slice_index bytes k))
 
 -- What a refinement tells states apart by: the blocks that these bytes lead to, and the state's own.
 pub record IsSignature (a : Automaton) (bytes blocks : List ℕ) (state : ℕ) (signature : List ℕ) : Type 0 where

@@ -1,5 +1,5 @@
 -- How many bytes lead from each state to a final one, at the least.
-use Rattle.std.specs.Prelude.{◌≡◌, ℕ, ◌+◌, ◌<◌, ◌≤◌, ◌⊎◌, List, [], ◌∷◌, length, slice_index, true}
+use Rattle.std.specs.Prelude.{◌≡◌, ℕ, ◌+◌, ◌<◌, ◌≤◌, ◌⊎◌, List, [], ◌∷◌, length, slice_index, true, Option, None, Some}
 use Rattle.hc_dfa.specs.Automata.{Automaton, states, next_state, is_final}
 use Rattle.hc_dfa.specs.declared.leasts.TheConstants.{NONE}
 
@@ -26,6 +26,13 @@ pub record IsNearer (a : Automaton) (distances : List ℕ) (round state distance
   pub found : NONE ≤ slice_index distances state
       → ((distance ≡ round + 1) × ((byte : ℕ) × (byte < 256) × (distance_on a distances state byte ≡ round)))
       ⊎ ((distance ≡ NONE) × ((byte : ℕ) → byte < 256 → distance_on a distances state byte ≡ round → ⊥))
+
+-- The first byte that leads from the state to one at this distance, and `None` exactly where none does.
+abbrev pub IsFirstTo : Automaton → List ℕ → ℕ → ℕ → Option ℕ → Type 0
+IsFirstTo a distances state distance None = (byte : ℕ) → byte < 256 → distance_on a distances state byte ≡ distance → ⊥
+IsFirstTo a distances state distance (Some byte) =
+    (byte < 256) × (distance_on a distances state byte ≡ distance)
+    × ((other : ℕ) → other < byte → distance_on a distances state other ≡ distance → ⊥)
 
 -- A walk from a state: each byte is the first that leads one nearer to a final state.
 abbrev pub IsWalk : Automaton → List ℕ → ℕ → List ℕ → Type 0

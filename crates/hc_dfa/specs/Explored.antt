@@ -18,15 +18,16 @@ pub record IsMet {K : Type 0} (Same : K → K → Type 0) (keys : List K) (key :
 abbrev pub IsOne : {K : Type 0} → K → K → Type 0
 IsOne x y = x ≡ y
 
--- The number leads from the key of a cell's row, by the cell's byte, to a key.
-pub record Leads {K : Type 0} (Step : K → ℕ → K → Type 0) (keys : List K) (cell number : ℕ) : Type 0 where
+-- The number leads from the key of a cell's row, by the cell's place in the row, to a key.
+pub record Leads {K : Type 0} (width : ℕ) (Step : K → ℕ → K → Type 0) (keys : List K) (cell number : ℕ) : Type 0 where
   pub from : K
   pub to : K
-  pub from_is : slice_get keys (cell / 256) ≡ Some from
+  pub from_is : slice_get keys (cell / width) ≡ Some from
   pub to_is : slice_get keys number ≡ Some to
-  pub step : Step from (cell % 256) to
+  pub step : Step from (cell % width) to
 
 -- Each key is a proper one, and each cell of the rows made so far leads on.
-pub record Explored {K : Type 0} (Proper : K → Type 0) (Step : K → ℕ → K → Type 0) (keys : List K) (next : List ℕ) : Type 0 where
+pub record Explored {K : Type 0} (width : ℕ) (Proper : K → Type 0) (Step : K → ℕ → K → Type 0) (keys : List K) (next : List ℕ)
+    : Type 0 where
   pub proper : (i : ℕ) (key : K) → slice_get keys i ≡ Some key → Proper key
-  pub leads : (cell : ℕ) → cell < length next → Leads Step keys cell (slice_index next cell)
+  pub leads : (cell : ℕ) → cell < length next → Leads width Step keys cell (slice_index next cell)

@@ -1,6 +1,7 @@
 pub mod Automata
 pub mod Blocks
 pub mod Built
+pub mod Classings
 pub mod Distances
 pub mod Explored
 pub mod Images

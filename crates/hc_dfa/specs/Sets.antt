@@ -1,8 +1,9 @@
 -- Sets of a machine's states, as a mark for each state.
-use Rattle.std.specs.Prelude.{◌≡◌, ℕ, ◌+◌, ◌<◌, ◌≤◌, List, length, count_by, not, slice_index_or, Bool, true, false, slice_get, slice_set, Option, None, Some, Vec}
+use Rattle.std.specs.Prelude.{◌≡◌, ℕ, ◌+◌, ◌<◌, ◌≤◌, List, length, count_by, not, slice_index, slice_index_or, Bool, true, false, slice_get, slice_set, Option, None, Some, Vec}
 use Rattle.std.specs.List.{Contains}
 use Rattle.std.specs.declared.alloc.Global.{Global}
-use Rattle.hc_dfa.specs.Explored.{Extends, Explored}
+use Rattle.hc_dfa.specs.Classings.{Classing, class_of}
+use Rattle.hc_dfa.specs.Explored.{Explored}
 use Rattle.hc_dfa.specs.Machines.{Steps, Reads, IsSilent}
 use Rattle.hc_dfa.specs.declared.machine.ReadingStep.{ReadingStep}
 use Rattle.hc_dfa.specs.declared.machine.SilentStep.{SilentStep}
@@ -90,18 +91,17 @@ abbrev pub IsSetAt : List (Vec Bool Global) → ℕ → Option (Vec Bool Global)
 IsSetAt sets i None = length sets ≤ i
 IsSetAt sets i (Some set) = (stored : Vec Bool Global) × (slice_get sets i ≡ Some stored) × (stored.items ≡ set.items)
 
-abbrev pub AreProper : Steps → List (Vec Bool Global) → Type 0
-AreProper m sets = (i : ℕ) (set : Vec Bool Global) → slice_get sets i ≡ Some set → IsProper m set.items
+-- Bytes with the same number have no change between them, nor at the later one.
+abbrev pub ArePieces : List Bool → ℕ → List ℕ → Type 0
+ArePieces changes count numbers =
+    (b d k : ℕ) → d < count → slice_index numbers b ≡ slice_index numbers d → b < k → k ≤ d → Has changes k → ⊥
 
--- The number is that of a set to which the byte leads.
-abbrev pub LeadsTo : Steps → List Bool → List (Vec Bool Global) → ℕ → ℕ → Type 0
-LeadsTo m set sets byte number = (to : Vec Bool Global) × (slice_get sets number ≡ Some to) × IsStep m set byte to.items
+-- Bytes of one class lead from each set to the same sets.
+abbrev pub TellsSteps : Steps → Classing → Type 0
+TellsSteps m c =
+    (from to : List Bool) (b d : ℕ) → b < 256 → d < 256 → class_of c b ≡ class_of c d → IsStep m from b to → IsStep m from d to
 
--- The same after sets were met.
-pub record IsTarget (m : Steps) (set : List Bool) (sets more : List (Vec Bool Global)) (byte number : ℕ) : Type 0 where
-  pub extends : Extends sets more
-  pub proper : AreProper m more
-  pub leads : LeadsTo m set more byte number
-
-abbrev pub SetsExplored : Steps → List (Vec Bool Global) → List ℕ → Type 0
-SetsExplored m sets next = Explored (λ set. IsProper m set.items) (λ from byte to. IsStep m from.items byte to.items) sets next
+-- The rows made so far have an entry for each of these bytes.
+abbrev pub SetsExplored : Steps → List ℕ → List (Vec Bool Global) → List ℕ → Type 0
+SetsExplored m bytes sets next =
+    Explored (length bytes) (λ set. IsProper m set.items) (λ from k to. IsStep m from.items (slice_index bytes k) to.items) sets next

@@ -1,10 +1,12 @@
-ghost use Rattle.std.specs.Prelude.{◌≡◌, ℕ, ◌+◌, ◌*◌, Some, slice_get, vec_len, IfOk, OnOk};
-ghost use Rattle.std.specs.Prelude.{Vec, Bool, ◌<◌, ◌-◌, length};
+ghost use Rattle.std.specs.Prelude.{◌≡◌, ℕ, ◌+◌, ◌*◌, ◌<◌, Some, slice_get, length, vec_len, IfOk, OnOk, Vec, Bool};
 ghost use Rattle.std.specs.declared.alloc.Global.{Global};
+ghost use Rattle.hc_dfa.specs.Classings.{AreClasses};
 ghost use Rattle.hc_dfa.specs.Explored.{Extends};
 ghost use Rattle.hc_dfa.specs.Machines.{AcceptsPathsOf};
-ghost use Rattle.hc_dfa.specs.Sets.{AreChanges, AreProper, IsSetAt, IsTarget, LeadsTo, SetsExplored};
+ghost use Rattle.hc_dfa.specs.Sets.{ArePieces, IsSetAt, SetsExplored, TellsSteps};
 
+use crate::classes::Classes;
+use crate::coarse::coarsened;
 use crate::dfa::BYTES;
 use crate::numbers::number_of_set;
 use crate::subsets::{changes_of, close, has_any, read, set_of};
@@ -19,7 +21,7 @@ impl Machine {
     pub fn determinize(&self, alloc: Global) -> Result<Dfa, NoMemory>
         ensures { IfOk result (AcceptsPathsOf self.now) }
     {
-        let changes = changes_of(alloc, self)?;
+        let classes = alike_bytes(alloc, self)?;
         let mut sets = IndexSet::new(alloc);
         let starts = set_of(alloc, self.states(), self.starts())?;
         number_of_set(&mut sets, close(self, starts))?;
@@ -27,9 +29,10 @@ impl Machine {
         let mut finals = Vec::new(alloc);
         for state in 0..u32::MAX {
             let Some(set) = set_at(alloc, &sets, state)? else {
-                return Ok(Dfa::made(next, finals));
+                let smaller = coarsened(alloc, &Dfa::made(classes, next, finals))?;
+                return Ok(smaller);
             };
-            add_set_row(alloc, &mut next, &mut sets, self, &changes, &set)?;
+            add_set_row(alloc, &mut next, &mut sets, self, classes.firsts(), &set)?;
             finals.push(has_any(&set, self.finals()))?;
         }
         Err(NoMemory)
@@ -50,52 +53,51 @@ fn set_at(
     }
 }
 
-/// Adds the row of a set of states, and the sets that it meets.
+/// Adds the row of a set of states, with an entry for each of the bytes, and the sets that it meets.
 fn add_set_row(
     alloc: Global,
     next: &mut Vec<u32>,
     sets: &mut IndexSet<Vec<bool>>,
     machine: &Machine,
-    changes: &[bool],
+    bytes: &[u8],
     set: &[bool],
 ) -> Result<(), NoMemory>
-    requires changes { AreChanges machine.now changes.now }
-    requires explored { SetsExplored machine.now sets.old.keys next.old.items }
+    requires explored { SetsExplored machine.now bytes.now sets.old.keys next.old.items }
     requires row { (row : ℕ) × (stored : Vec Bool Global) × (slice_get sets.old.keys row ≡ Some stored)
-        × (stored.items ≡ set.now) × (vec_len next.old ≡ 256 * row) }
-    ensures explored { OnOk result (SetsExplored machine.now sets.new.keys next.new.items) }
-    ensures len { OnOk result (vec_len next.new ≡ vec_len next.old + 256) }
+        × (stored.items ≡ set.now) × (vec_len next.old ≡ row * length bytes.now) }
+    ensures explored { OnOk result (SetsExplored machine.now bytes.now sets.new.keys next.new.items) }
+    ensures len { OnOk result (vec_len next.new ≡ vec_len next.old + length bytes.now) }
     ensures extends { OnOk result (Extends sets.old.keys sets.new.keys) }
 {
-    let mut number = 0;
-    for byte in 0..BYTES {
-        number = target_of(alloc, sets, machine, changes, set, byte as u8, number)?;
-        next.push(number)?;
+    for byte in bytes {
+        let target = close(machine, read(alloc, machine, set, *byte)?);
+        next.push(number_of_set(sets, target)?)?;
     }
     Ok(())
 }
 
-/// The number of the set to which a byte leads: `last`, that of the byte before, where no reading step
-/// tells the two bytes apart.
-fn target_of(
-    alloc: Global,
-    sets: &mut IndexSet<Vec<bool>>,
-    machine: &Machine,
-    changes: &[bool],
-    set: &[bool],
-    byte: u8,
-    last: u32,
-) -> Result<u32, NoMemory>
-    requires proper { AreProper machine.now sets.old.keys }
-    requires changes { AreChanges machine.now changes.now }
-    requires len { length set.now ≡ machine.now.states }
-    requires last { 0 < byte → LeadsTo machine.now set.now sets.old.keys (byte - 1) last }
-    ensures { IfOk result (λ number. IsTarget machine.now set.now sets.old.keys sets.new.keys byte number) }
+/// Classes of bytes that no reading step tells apart.
+fn alike_bytes(alloc: Global, machine: &Machine) -> Result<Classes, NoMemory>
+    ensures classes { IfOk result AreClasses }
+    ensures tells { IfOk result (TellsSteps machine.now) }
 {
-    if byte > 0 && !changes[byte as usize] {
-        return Ok(last);
+    let changes = changes_of(alloc, machine)?;
+    let numbers = pieces_of(alloc, &changes)?;
+    let classes = Classes::of_numbers(alloc, &numbers)?;
+    Ok(classes)
+}
+
+/// The number of each byte's piece, where a new one begins at each change.
+fn pieces_of(alloc: Global, changes: &[bool]) -> Result<Vec<u32>, NoMemory>
+    requires { length changes.now ≡ 257 }
+    ensures len { IfOk result (λ numbers. vec_len numbers ≡ 256) }
+    ensures pieces { IfOk result (λ numbers. ArePieces changes.now 256 numbers.items) }
+{
+    let mut numbers = Vec::new(alloc);
+    let mut piece = 0;
+    for byte in 0..BYTES {
+        piece += changes[byte] as u32;
+        numbers.push(piece)?;
     }
-    let target = close(machine, read(alloc, machine, set, byte)?);
-    let number = number_of_set(sets, target)?;
-    Ok(number)
+    Ok(numbers)
 }

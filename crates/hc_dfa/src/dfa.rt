@@ -1,7 +1,11 @@
 ghost use Rattle.std.specs.Prelude.{◌≡◌, ℕ, ◌<◌, ◌≤◌, ◌^◌, IfOk, map, not};
+ghost use Rattle.std.specs.Prelude.{length, slice_index, vec_len};
 ghost use Rattle.hc_dfa.specs.Automata.{states, next_state, is_final, accepts, IsTable};
 ghost use Rattle.hc_dfa.specs.Built.{Accepts, complement_of};
+ghost use Rattle.hc_dfa.specs.Classings.{AreClasses, IsRows, Tells, expanded};
 
+use crate::classes::Classes;
+use crate::coarse::coarsened;
 use hc_base::NoMemory;
 use std::alloc::Global;
 use std::marker::Model;
@@ -9,30 +13,56 @@ use std::marker::Model;
 /// How many bytes there are.
 pub const BYTES: usize = 256;
 
-/// A deterministic automaton over bytes: a set of texts.
+/// A deterministic automaton over bytes: a set of texts. It keeps a next state for each state and
+/// class of bytes.
 #[derive(Debug, Drop)]
 pub struct Dfa {
-    next: Vec<u32>,
+    classes: Classes,
+    rows: Vec<u32>,
     finals: Vec<bool>,
 }
 
 impl Model for Dfa {
-    ghost use Rattle.hc_dfa.specs.Automata.{Automaton, IsTable};
+    ghost use Rattle.std.specs.Prelude.{length};
+    ghost use Rattle.hc_dfa.specs.Automata.{Automaton};
+    ghost use Rattle.hc_dfa.specs.Classings.{IsRows, expanded};
 
     ghost Value = { Automaton };
 
-    ghost view = { λ d. record { next = d.next.items; finals = d.finals.items } };
+    ghost view = { λ d. record { next = expanded d.classes d.rows.items (length d.finals.items); finals = d.finals.items } };
 
-    ghost invariant = { λ d. IsTable d.next.items d.finals.items };
+    ghost invariant = { λ d. IsRows d.classes d.rows.items d.finals.items };
 }
 
 impl Dfa {
-    /// The automaton of a table that was built already.
-    pub(crate) fn made(next: Vec<u32>, finals: Vec<bool>) -> Dfa
-        requires { IsTable next.items finals.items }
-        ensures { result ≡ record { next = next.items; finals = finals.items } }
+    /// The automaton of a table by classes: a next state for each state and class.
+    pub(crate) fn made(classes: Classes, rows: Vec<u32>, finals: Vec<bool>) -> Dfa
+        requires { IsRows classes rows.items finals.items }
+        ensures { result ≡ record { next = expanded classes rows.items (length finals.items); finals = finals.items } }
     {
-        Dfa { next, finals }
+        Dfa {
+            classes,
+            rows,
+            finals,
+        }
+    }
+
+    /// The automaton of a table of 256 next states for each state.
+    #[tactic(auto, using(crate::proofs::Tables::single_table, crate::proofs::Tables::single_rows))]
+    pub(crate) fn of_bytes(
+        alloc: Global,
+        next: Vec<u32>,
+        finals: Vec<bool>,
+    ) -> Result<Dfa, NoMemory>
+        requires { IsTable next.items finals.items }
+        ensures { IfOk result (λ a. a ≡ record { next = next.items; finals = finals.items }) }
+    {
+        let classes = Classes::of_single_bytes(alloc)?;
+        Ok(Dfa {
+            classes,
+            rows: next,
+            finals,
+        })
     }
 
     /// The automaton of a table: 256 next states for each state, in the order of the bytes, and
@@ -41,28 +71,57 @@ impl Dfa {
         requires { IsTable next.now finals.now }
         ensures { IfOk result (λ a. a ≡ record { next = next.now; finals = finals.now }) }
     {
+        let whole = Dfa::of_bytes(alloc, next.to_vec(alloc)?, finals.to_vec(alloc)?)?;
+        let smaller = coarsened(alloc, &whole)?;
+        Ok(smaller)
+    }
+
+    /// Classes of bytes that lead from each state to the same state.
+    #[tactic(auto, using(crate::proofs::Tables::expanded_tells))]
+    pub(crate) fn classes(&self) -> &Classes
+        ensures tells { Tells result.now self.now }
+        ensures classes { AreClasses result.now }
+    {
+        &self.classes
+    }
+
+    /// The same automaton, with each step led on by a table from each state to a state.
+    #[tactic(auto, using(crate::proofs::Tables::led_rows, crate::proofs::Tables::led_at))]
+    pub(crate) fn redirected(&self, alloc: Global, table: &[u32]) -> Result<Dfa, NoMemory>
+        requires len { length table.now ≡ states self.now }
+        requires within { (s : ℕ) → s < states self.now → slice_index table.now s < states self.now }
+        ensures finals { IfOk result (λ made. made.finals ≡ self.now.finals) }
+        ensures steps { IfOk result (λ made. (s byte : ℕ) → s < states self.now → byte < 256 →
+            next_state made s byte ≡ slice_index table.now (next_state self.now s byte)) }
+    {
+        let rows = led(alloc, &self.rows, table)?;
         Ok(Dfa {
-            next: next.to_vec(alloc)?,
-            finals: finals.to_vec(alloc)?,
+            classes: self.classes.clone()?,
+            rows,
+            finals: self.finals.to_vec(alloc)?,
         })
     }
 
-    pub(crate) fn finals(&self) -> &[bool]
-        ensures { result.now ≡ self.now.finals }
+    /// Whether each state is final.
+    pub(crate) fn finals(&self, alloc: Global) -> Result<Vec<bool>, NoMemory>
+        ensures { IfOk result (λ finals. finals.items ≡ self.now.finals) }
     {
-        &self.finals
+        let finals = self.finals.to_vec(alloc)?;
+        Ok(finals)
     }
 
     /// The state in which each run begins.
+    #[tactic(auto, using(crate::proofs::Tables::expanded_table))]
     pub fn start(&self) -> u32
         ensures value { result ≡ 0 }
         ensures table { IsTable self.now.next self.now.finals }
     {
-        let _ = &self.next;
+        let _ = &self.rows;
         0
     }
 
     /// How many states there are: at least one.
+    #[tactic(auto, using(crate::proofs::Tables::expanded_table))]
     pub fn states(&self) -> u32
         ensures value { result ≡ states self.now }
         ensures table { IsTable self.now.next self.now.finals }
@@ -71,12 +130,13 @@ impl Dfa {
     }
 
     /// The state that a byte leads to.
+    #[tactic(auto, using(crate::proofs::Tables::expanded_at))]
     pub fn next_state(&self, state: u32, byte: u8) -> u32
         requires { state < states self.now }
         ensures value { result ≡ next_state self.now state byte }
         ensures within { result < states self.now }
     {
-        self.next[BYTES * state as usize + byte as usize]
+        self.rows[state as usize * self.classes.count() + self.classes.class_of(byte) as usize]
     }
 
     pub fn is_final(&self, state: u32) -> bool
@@ -91,7 +151,7 @@ impl Dfa {
     pub fn accepts(&self, text: &[u8]) -> bool
         ensures { result ≡ accepts self.now text.now }
     {
-        let _ = &self.next;
+        let _ = &self.rows;
         let mut state = 0;
         for byte in text {
             state = self.next_state(state, *byte);
@@ -105,22 +165,37 @@ impl Clone for Dfa {
 
     fn clone(&self) -> Result<Dfa, NoMemory> {
         Ok(Dfa {
-            next: self.next.clone()?,
+            classes: self.classes.clone()?,
+            rows: self.rows.clone()?,
             finals: self.finals.clone()?,
         })
     }
 }
 
 /// The automaton of the texts that this one does not accept.
-#[tactic(auto, using(crate::proofs::Runs::complemented))]
+#[tactic(auto, using(crate::proofs::Tables::opposite_rows, crate::proofs::Tables::opposite_accepts))]
 pub fn complement(alloc: Global, a: &Dfa) -> Result<Dfa, NoMemory>
     ensures { IfOk result (λ made. Accepts made (complement_of a.now)) }
 {
     let finals = opposites(alloc, &a.finals)?;
     Ok(Dfa {
-        next: a.next.to_vec(alloc)?,
+        classes: a.classes.clone()?,
+        rows: a.rows.to_vec(alloc)?,
         finals,
     })
+}
+
+/// Where a table leads each of these states.
+pub fn led(alloc: Global, states: &[u32], table: &[u32]) -> Result<Vec<u32>, NoMemory>
+    requires { (k : ℕ) → k < length states.now → slice_index states.now k < length table.now }
+    ensures len { IfOk result (λ led. vec_len led ≡ length states.now) }
+    ensures each { IfOk result (λ led. (k : ℕ) → k < length states.now → slice_index led.items k ≡ slice_index table.now (slice_index states.now k)) }
+{
+    let mut led = Vec::new(alloc);
+    for state in states {
+        led.push(table[*state as usize])?;
+    }
+    Ok(led)
 }
 
 fn opposites(alloc: Global, answers: &[bool]) -> Result<Vec<bool>, NoMemory>

@@ -3,6 +3,7 @@ ghost use Rattle.hc_dfa.specs.Automata.{accepts};
 ghost use Rattle.hc_dfa.specs.Built.{Accepts, AreFirst};
 ghost use Rattle.hc_dfa.specs.Singles.{single, single_step};
 
+use crate::coarse::coarsened;
 use crate::dfa::BYTES;
 use crate::{Dfa, Keep, Member, least, product, reduce};
 use hc_base::{List, NoMemory};
@@ -27,8 +28,8 @@ pub fn first_members(alloc: Global, a: &Dfa, count: usize) -> Result<List<Member
 }
 
 /// The automaton of one text. Its states count the bytes that were read, and the last one stands for
-/// any other text.
-fn single(alloc: Global, text: &[u8]) -> Result<Dfa, NoMemory>
+/// any other text. A text of 4,294,967,294 bytes or more is refused as memory is.
+pub fn single(alloc: Global, text: &[u8]) -> Result<Dfa, NoMemory>
     ensures { IfOk result (λ made. Accepts made (single text.now)) }
 {
     if text.len() >= u32::MAX as usize - 1 {
@@ -42,7 +43,9 @@ fn single(alloc: Global, text: &[u8]) -> Result<Dfa, NoMemory>
     for state in 0..text.len() + 2 {
         finals.push(state == text.len())?;
     }
-    Ok(Dfa::made(next, finals))
+    let whole = Dfa::of_bytes(alloc, next, finals)?;
+    let only = coarsened(alloc, &whole)?;
+    Ok(only)
 }
 
 fn single_step(text: &[u8], state: u32, byte: u8) -> u32

@@ -1,9 +1,9 @@
 ghost use Rattle.std.specs.Prelude.{◌≡◌, ℕ, ◌+◌, ◌<◌, ◌≤◌, slice_index, length, vec_len, IfOk};
 ghost use Rattle.hc_dfa.specs.Automata.{Automaton, states, next_state, is_final, accepts, IsTable};
-ghost use Rattle.hc_dfa.specs.Distances.{Distances, IsBound, IsNearer, distance_on};
+ghost use Rattle.hc_dfa.specs.Classings.{Classing, AreClasses, Tells};
+ghost use Rattle.hc_dfa.specs.Distances.{Distances, IsBound, IsFirstTo, IsNearer, distance_on};
 ghost use Rattle.hc_dfa.specs.Texts.{IsLeastOf};
 
-use crate::dfa::BYTES;
 use crate::{Dfa, Member};
 use hc_base::NoMemory;
 use std::alloc::Global;
@@ -39,12 +39,25 @@ fn first_step(a: &Dfa, distances: &[u32], state: u32) -> u8
     ensures first { (byte : ℕ) → byte < result → slice_index distances.now state ≡ distance_on a.now distances.now state byte + 1 → ⊥ }
 {
     let left = distances[state as usize] - 1;
-    for byte in 0..BYTES {
-        if distances[a.next_state(state, byte as u8) as usize] == left {
-            return byte as u8;
+    let Some(byte) = first_to(a, a.classes().firsts(), distances, state, left) else {
+        unreachable!()
+    };
+    byte
+}
+
+/// The first byte that leads from a state to one at this distance. Asked are the least bytes of classes.
+fn first_to(a: &Dfa, bytes: &[u8], distances: &[u32], state: u32, distance: u32) -> Option<u8>
+    requires bytes { (c : Classing) × (c.firsts ≡ bytes.now) × AreClasses c × Tells c a.now }
+    requires len { length distances.now ≡ states a.now }
+    requires state { state < states a.now }
+    ensures { IsFirstTo a.now distances.now state distance result }
+{
+    for byte in bytes {
+        if distances[a.next_state(state, *byte) as usize] == distance {
+            return Some(*byte);
         }
     }
-    unreachable!()
+    None
 }
 
 /// The distance of each state to the nearest final one.
@@ -97,10 +110,8 @@ fn after_step(a: &Dfa, distances: &[u32], round: u32, state: u32) -> u32
     if distances[state as usize] < NONE {
         return distances[state as usize];
     }
-    for byte in 0..BYTES {
-        if distances[a.next_state(state, byte as u8) as usize] == round {
-            return round + 1;
-        }
+    match first_to(a, a.classes().firsts(), distances, state, round) {
+        Some(_) => round + 1,
+        None => NONE,
     }
-    NONE
 }

@@ -1,6 +1,8 @@
 //! Deterministic automata over bytes, as sets of texts.
 #![tactic(auto)]
 
+mod classes;
+mod coarse;
 mod determinize;
 mod dfa;
 mod first;
@@ -15,7 +17,7 @@ mod reduced;
 mod subsets;
 
 pub use dfa::{Dfa, complement};
-pub use first::first_members;
+pub use first::{first_members, single};
 pub use image::byte_image;
 pub use include::{Inclusion, included};
 pub use leasts::least;

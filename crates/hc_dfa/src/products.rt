@@ -1,11 +1,12 @@
 ghost use Rattle.std.specs.Prelude.{◌≡◌, ℕ, ◌+◌, ◌*◌, ◌<◌, Some, slice_get, length, vec_len, IfOk, OnOk};
 ghost use Rattle.hc_dfa.specs.Automata.{accepts, IsTable};
 ghost use Rattle.hc_dfa.specs.Built.{Accepts, kept, product_of};
+ghost use Rattle.hc_dfa.specs.Classings.{AreClasses, Tells};
 ghost use Rattle.hc_dfa.specs.Explored.{Extends};
 ghost use Rattle.hc_dfa.specs.Pairs.{IsPair, PairsExplored};
 
 use crate::Dfa;
-use crate::dfa::BYTES;
+use crate::classes::Classes;
 use crate::numbers::number_of;
 use hc_base::NoMemory;
 use indexmap::IndexSet;
@@ -35,39 +36,49 @@ impl Keep {
 pub fn product(alloc: Global, a: &Dfa, b: &Dfa, keep: Keep) -> Result<Dfa, NoMemory>
     ensures { IfOk result (λ made. Accepts made (product_of keep a.now b.now)) }
 {
+    let shared = shared_classes(alloc, a, b)?;
     let mut pairs = IndexSet::new(alloc);
     number_of(&mut pairs, (a.start(), b.start()))?;
     let mut next = Vec::new(alloc);
     let mut finals = Vec::new(alloc);
     for state in 0..u32::MAX {
         let Some(pair) = pairs.get_index(state as usize).copied() else {
-            return Ok(Dfa::made(next, finals));
+            return Ok(Dfa::made(shared, next, finals));
         };
-        add_row(&mut next, &mut pairs, a, b, pair)?;
+        add_row(&mut next, &mut pairs, a, b, shared.firsts(), pair)?;
         finals.push(keep.keeps(a.is_final(pair.0), b.is_final(pair.1)))?;
     }
     Err(NoMemory)
 }
 
-/// Adds the row of a pair of states, and the pairs that it meets.
+/// Classes of bytes that neither automaton tells apart.
+#[tactic(auto, using(crate::proofs::Tables::finer_tells))]
+fn shared_classes(alloc: Global, a: &Dfa, b: &Dfa) -> Result<Classes, NoMemory>
+    ensures classes { IfOk result AreClasses }
+    ensures first { IfOk result (λ classes. Tells classes a.now) }
+    ensures second { IfOk result (λ classes. Tells classes b.now) }
+{
+    let shared = Classes::common(alloc, a.classes(), b.classes())?;
+    Ok(shared)
+}
+
+/// Adds the row of a pair of states, with an entry for each of the bytes, and the pairs that it meets.
 fn add_row(
     next: &mut Vec<u32>,
     pairs: &mut IndexSet<(u32, u32)>,
     a: &Dfa,
     b: &Dfa,
+    bytes: &[u8],
     pair: (u32, u32),
 ) -> Result<(), NoMemory>
-    requires explored { PairsExplored a.now b.now pairs.old.keys next.old.items }
-    requires row { (row : ℕ) × (slice_get pairs.old.keys row ≡ Some pair) × (vec_len next.old ≡ 256 * row) }
-    ensures explored { OnOk result (PairsExplored a.now b.now pairs.new.keys next.new.items) }
-    ensures len { OnOk result (vec_len next.new ≡ vec_len next.old + 256) }
+    requires explored { PairsExplored a.now b.now bytes.now pairs.old.keys next.old.items }
+    requires row { (row : ℕ) × (slice_get pairs.old.keys row ≡ Some pair) × (vec_len next.old ≡ row * length bytes.now) }
+    ensures explored { OnOk result (PairsExplored a.now b.now bytes.now pairs.new.keys next.new.items) }
+    ensures len { OnOk result (vec_len next.new ≡ vec_len next.old + length bytes.now) }
     ensures extends { OnOk result (Extends pairs.old.keys pairs.new.keys) }
 {
-    for byte in 0..BYTES {
-        let target = (
-            a.next_state(pair.0, byte as u8),
-            b.next_state(pair.1, byte as u8),
-        );
+    for byte in bytes {
+        let target = (a.next_state(pair.0, *byte), b.next_state(pair.1, *byte));
         next.push(number_of(pairs, target)?)?;
     }
     Ok(())

@@ -3,7 +3,8 @@ ghost use Rattle.hc_dfa.specs.Automata.{accepts, next_state, states};
 ghost use Rattle.hc_dfa.specs.Blocks.{IsSignature, IsStable, AreLeaders, Refines, Represents, RespectsFinals};
 ghost use Rattle.hc_dfa.specs.Built.{Accepts};
 
-use crate::dfa::BYTES;
+use crate::coarse::coarsened;
+use crate::dfa::led;
 use crate::numbers::number_of_list;
 use crate::{Dfa, Keep, product};
 use hc_base::NoMemory;
@@ -12,30 +13,26 @@ use std::alloc::Global;
 
 /// The automaton with the same test that has the fewest states: of those that can be reached, the
 /// ones with the same test are made one. That they are the fewest is tested, and no contract says it.
-#[tactic(auto, using(crate::proofs::Merged::reduced))]
 pub fn reduce(alloc: Global, a: &Dfa) -> Result<Dfa, NoMemory>
     ensures { IfOk result (λ made. Accepts made (accepts a.now)) }
 {
     let met = product(alloc, a, a, Keep::Both)?;
     let merged = merge(alloc, &met)?;
-    let reduced = product(alloc, &merged, &merged, Keep::Both)?;
+    let again = product(alloc, &merged, &merged, Keep::Both)?;
+    let reduced = coarsened(alloc, &again)?;
     Ok(reduced)
 }
 
 /// The same automaton, with each step led to the first state of its block.
-#[tactic(auto, using(crate::proofs::Merged::merged))]
 fn merge(alloc: Global, a: &Dfa) -> Result<Dfa, NoMemory>
     ensures { IfOk result (λ made. Accepts made (accepts a.now)) }
 {
-    let cells = a.states() as usize * BYTES;
+    let _ = a.states();
     let blocks = stable_blocks(alloc, a)?;
     let leaders = leaders_of(alloc, &blocks)?;
-    let mut next = Vec::new(alloc);
-    for cell in 0..cells {
-        let target = a.next_state((cell / BYTES) as u32, (cell % BYTES) as u8);
-        next.push(leaders[blocks[target as usize] as usize])?;
-    }
-    Ok(Dfa::made(next, a.finals().to_vec(alloc)?))
+    let table = led(alloc, &blocks, &leaders)?;
+    let merged = a.redirected(alloc, &table)?;
+    Ok(merged)
 }
 
 /// The first state of each block.
@@ -57,10 +54,10 @@ fn leaders_of(alloc: Global, blocks: &[u32]) -> Result<Vec<u32>, NoMemory>
 fn stable_blocks(alloc: Global, a: &Dfa) -> Result<Vec<u32>, NoMemory>
     ensures { IfOk result (λ blocks. IsStable a.now blocks.items) }
 {
-    let bytes = representatives(alloc, a)?;
+    let bytes = a.classes().firsts();
     let mut blocks = by_finals(alloc, a)?;
     for _round in 0..u32::MAX {
-        let finer = refine(alloc, a, &bytes, &blocks)?;
+        let finer = refine(alloc, a, bytes, &blocks)?;
         if finer == blocks {
             return Ok(finer);
         }
@@ -78,33 +75,6 @@ fn by_finals(alloc: Global, a: &Dfa) -> Result<Vec<u32>, NoMemory>
         blocks.push(a.is_final(state) as u32)?;
     }
     Ok(blocks)
-}
-
-/// The first byte, and each that leads some state elsewhere than the byte before it.
-fn representatives(alloc: Global, a: &Dfa) -> Result<Vec<u8>, NoMemory>
-    ensures { IfOk result (λ bytes. Represents a.now bytes.items) }
-{
-    let mut bytes = Vec::new(alloc);
-    for byte in 0..BYTES {
-        if byte > 0 && !differs(a, byte as u8) {
-            continue;
-        }
-        bytes.push(byte as u8)?;
-    }
-    Ok(bytes)
-}
-
-/// Whether a byte leads some state elsewhere than the byte before it.
-fn differs(a: &Dfa, byte: u8) -> bool
-    requires { 0 < byte }
-    ensures { result ≡ false → (s : ℕ) → s < states a.now → next_state a.now s byte ≡ next_state a.now s (byte - 1) }
-{
-    for state in 0..a.states() {
-        if a.next_state(state, byte) != a.next_state(state, byte - 1) {
-            return true;
-        }
-    }
-    false
 }
 
 /// Tells apart the states of a block that a byte leads to different blocks.

@@ -1,6 +1,7 @@
-use Rattle.std.proofs.Common.{◌<◌, ◌≤◌, length, arith, refl, sym, ◌∙◌}
+use Rattle.std.proofs.Common.{◌≡◌, ◌*◌, ◌<◌, ◌≤◌, ℕ, List, length, slice_index, arith, ap, refl, subst, sym, ◌∙◌}
+use Rattle.std.proofs.Math.Nat.{add-mul}
 use Rattle.std.proofs.lemmas.Option.{slice_get_within}
-use Rattle.hc_dfa.specs.Sets.{IsSameSet, IsProper, IsStep, IsMark}
+use Rattle.hc_dfa.specs.Sets.{IsSameSet, IsProper, IsStep, IsMark, SetsExplored}
 use Rattle.hc_dfa.proofs.Determined.{determined}
 use Rattle.hc_dfa.proofs.Rows.{explored_first, first_key, marked_none, marked_more, table}
 use Rattle.hc_dfa.proofs.machine.Machine.determinize.Goals as goal
@@ -9,7 +10,9 @@ pub loop-state-init : goal.loop-state-init
 loop-state-init c =
     let m = c.args.self.now in
     record {
-      explored = explored_first IsSameSet (λ set. IsProper m set.items) (λ from byte to. IsStep m from.items byte to.items) _ _ c.close.result _ c.in_ok-number_of_set.field-0
+      classes = c.in_ok-classes.ensures.classes;
+      tells = c.in_ok-classes.ensures.tells;
+      explored = explored_first _ IsSameSet (λ set. IsProper m set.items) (λ from k to. IsStep m from.items (slice_index c.in_ok-classes.classes.firsts k) to.items) _ _ c.close.result _ c.in_ok-number_of_set.field-0
           c.new-sets.ensures.empty c.new-next.ensures.items c.in_ok-number_of_set.ensures
           (record { len = c.close.ensures.len ∙ (c.in_ok-starts.ensures.len ∙ c.states.ensures.value); closed = c.close.ensures.closed });
       marked = rw c.new-finals.ensures.items (marked_none (λ set answer. IsMark m.finals set.items answer) c.number_of_set.new.sets.keys);
@@ -23,9 +26,12 @@ made-requires c =
     let m = c.args.self.now in
     let all : length c.loop-state.sets.keys ≤ c.loop-state.state = rw c.in_default.is at c.in_ok-set.ensures in
     let first = first_key IsSameSet _ c.number_of_set.new.sets.keys c.close.result c.in_ok-number_of_set.field-0 c.new-sets.ensures.empty c.in_ok-number_of_set.ensures in
+    let rows : length c.loop-state.next.items ≡ c.loop-state.state * length c.loop-state.classes.firsts = omega arith in
+    let marks : c.loop-state.state ≡ length c.loop-state.finals.items = omega arith in
     let some : 0 < length c.loop-state.sets.keys = slice_get_within _ _ _ (c.loop-state.invariant.start ∙ first) in
-    table IsSameSet (λ set. IsProper m set.items) (λ from byte to. IsStep m from.items byte to.items) c.loop-state.sets.keys _ _
-    c.loop-state.invariant.explored (omega arith) (omega arith) (omega arith) (omega arith)
+    table _ IsSameSet (λ set. IsProper m set.items) (λ from k to. IsStep m from.items (slice_index c.loop-state.classes.firsts k) to.items) c.loop-state.classes c.loop-state.sets.keys _ _
+    c.loop-state.invariant.classes c.loop-state.invariant.explored
+    (rows ∙ ap (λ (n : ℕ). n * length c.loop-state.classes.firsts) marks) (omega arith) (omega arith) (omega arith)
 
 pub returns-in_default : goal.returns-in_default
 returns-in_default c =
@@ -33,26 +39,37 @@ returns-in_default c =
     let all : length c.loop-state.sets.keys ≤ c.loop-state.state = rw c.in_default.is at c.in_ok-set.ensures in
     let first = first_key IsSameSet _ c.number_of_set.new.sets.keys c.close.result c.in_ok-number_of_set.field-0 c.new-sets.ensures.empty c.in_ok-number_of_set.ensures in
     let starts = rw (c.states.ensures.value, c.starts.ensures) at c.in_ok-starts.ensures in
-    rw c.made.ensures (determined m c.loop-state.sets.keys _
-    (record { explored = c.loop-state.invariant.explored; marked = c.loop-state.invariant.marked; whole = omega arith; all = omega arith })
+    let rows : length c.loop-state.next.items ≡ c.loop-state.state * length c.loop-state.classes.firsts = omega arith in
+    let marks : c.loop-state.state ≡ length c.loop-state.finals.items = omega arith in
+    rw (c.in_ok-smaller.ensures, c.made.ensures) (determined m c.loop-state.sets.keys c.loop-state.classes c.loop-state.next.items c.loop-state.finals.items
+    (record {
+      classes = c.loop-state.invariant.classes;
+      tells = c.loop-state.invariant.tells;
+      explored = c.loop-state.invariant.explored;
+      marked = c.loop-state.invariant.marked;
+      whole = rows ∙ ap (λ (n : ℕ). n * length c.loop-state.classes.firsts) marks;
+      all = omega arith;
+    })
     c.in_ok-starts.starts.items c.close.result starts c.close.ensures (c.loop-state.invariant.start ∙ first))
 
 pub add_set_row-requires-clause-row : goal.add_set_row-requires-clause-row
 add_set_row-requires-clause-row c =
     let here = rw c.in-Some.is at c.in_ok-set.ensures in
-    (c.loop-state.state, here.0, here.1, here.2 ∙ sym c.deref-in-loop-state.ensures.value, c.loop-state.invariant.rows)
+    (c.loop-state.state, here.0, here.1, here.2 ∙ sym c.deref.ensures.value, c.loop-state.invariant.rows ∙ ap (λ (bytes : List ℕ). c.loop-state.state * length bytes) (sym c.firsts.ensures.value))
 
 pub loop-state-preserved : goal.loop-state-preserved
 loop-state-preserved c =
     let m = c.args.self.now in
     let here = rw c.in-Some.is at c.in_ok-set.ensures in
     let first = first_key IsSameSet _ c.number_of_set.new.sets.keys c.close.result c.in_ok-number_of_set.field-0 c.new-sets.ensures.empty c.in_ok-number_of_set.ensures in
-    let mark = rw (c.finals.ensures, c.deref-in-loop-state-2.ensures.value) at c.has_any.ensures in
+    let mark = rw (c.finals.ensures, c.deref-in-loop-state.ensures.value) at c.has_any.ensures in
     record {
-      explored = c.in_ok-add_set_row.ensures.explored;
+      classes = c.loop-state.invariant.classes;
+      tells = c.loop-state.invariant.tells;
+      explored = subst (λ (bytes : List ℕ). SetsExplored m bytes c.add_set_row.new.sets.keys c.add_set_row.new.next.items) c.firsts.ensures.value c.in_ok-add_set_row.ensures.explored;
       marked = rw c.in_ok-push.ensures.items (marked_more (λ set answer. IsMark m.finals set.items answer) c.loop-state.sets.keys c.add_set_row.new.sets.keys c.loop-state.finals.items c.loop-state.state
           here.0 c.has_any.result c.loop-state.invariant.marked c.in_ok-add_set_row.ensures.extends (omega arith) here.1 (rw here.2 mark));
-      rows = omega (arith, c.in_ok-add_set_row.ensures.len);
+      rows = (let e = ap length c.firsts.ensures.value in let d = add-mul c.loop-state.state 1 (length c.loop-state.classes.firsts) in omega (arith, c.in_ok-add_set_row.ensures.len, e, d));
       marks = omega (arith, c.in_ok-push.ensures.len);
       start = c.in_ok-add_set_row.ensures.extends 0 c.close.result (c.loop-state.invariant.start ∙ first) ∙ sym first;
     }

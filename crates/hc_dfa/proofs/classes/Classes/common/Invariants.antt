@@ -1,0 +1,9 @@
+use Rattle.std.proofs.Common.{◌≡◌, ℕ, ◌<◌, slice_index, vec_len, Some, slice_get}
+use Rattle.hc_dfa.specs.Classings.{class_of}
+use Rattle.hc_dfa.proofs.classes.Classes.common.Given as goal
+
+abbrev pub invariant-loop-byte : goal.invariant-loop-byte
+invariant-loop-byte l = record {
+  len : vec_len l.numbers ≡ l.byte;
+  each : (byte : ℕ) → byte < l.byte → slice_get l.pairs.keys (slice_index l.numbers.items byte) ≡ Some (class_of l.a byte, class_of l.b byte);
+}

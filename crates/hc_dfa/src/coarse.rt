@@ -1,0 +1,65 @@
+ghost use Rattle.std.specs.Prelude.{◌≡◌, ℕ, ◌<◌, length, slice_index, vec_len, IfOk};
+ghost use Rattle.hc_dfa.specs.Automata.{next_state, states};
+ghost use Rattle.hc_dfa.specs.Classings.{AreColumns, IsColumn, TellsByNumber};
+
+use crate::Dfa;
+use crate::classes::Classes;
+use crate::dfa::BYTES;
+use crate::numbers::number_of_list;
+use hc_base::NoMemory;
+use indexmap::IndexSet;
+use std::alloc::Global;
+
+/// The same automaton with the fewest classes of bytes.
+pub fn coarsened(alloc: Global, a: &Dfa) -> Result<Dfa, NoMemory>
+    ensures { IfOk result (λ made. made ≡ a.now) }
+{
+    let numbers = byte_numbers(alloc, a)?;
+    let classes = Classes::of_numbers(alloc, &numbers)?;
+    let bytes = classes.firsts();
+    let mut rows = Vec::new(alloc);
+    for cell in 0..a.states() as usize * bytes.len() {
+        let state = (cell / bytes.len()) as u32;
+        rows.push(a.next_state(state, bytes[cell % bytes.len()]))?;
+    }
+    let finals = a.finals(alloc)?;
+    Ok(Dfa::made(classes, rows, finals))
+}
+
+/// A number for each byte: bytes with the same number lead from each state to the same state.
+fn byte_numbers(alloc: Global, a: &Dfa) -> Result<Vec<u32>, NoMemory>
+    ensures len { IfOk result (λ numbers. vec_len numbers ≡ 256) }
+    ensures tells { IfOk result (λ numbers. TellsByNumber numbers.items a.now) }
+{
+    let classes = a.classes();
+    let columns = column_numbers(alloc, a, classes.firsts())?;
+    let mut numbers = Vec::new(alloc);
+    for byte in 0..BYTES {
+        numbers.push(columns[classes.class_of(byte as u8) as usize])?;
+    }
+    Ok(numbers)
+}
+
+/// The same for each of these bytes.
+fn column_numbers(alloc: Global, a: &Dfa, bytes: &[u8]) -> Result<Vec<u32>, NoMemory>
+    ensures { IfOk result (λ numbers. AreColumns a.now bytes.now numbers.items) }
+{
+    let mut columns = IndexSet::new(alloc);
+    let mut numbers = Vec::new(alloc);
+    for byte in bytes {
+        let column = column(alloc, a, *byte)?;
+        numbers.push(number_of_list(&mut columns, column)?)?;
+    }
+    Ok(numbers)
+}
+
+/// Where a byte leads from each state.
+fn column(alloc: Global, a: &Dfa, byte: u8) -> Result<Vec<u32>, NoMemory>
+    ensures { IfOk result (λ column. IsColumn a.now byte column.items) }
+{
+    let mut column = Vec::new(alloc);
+    for state in 0..a.states() {
+        column.push(a.next_state(state, byte))?;
+    }
+    Ok(column)
+}
