@@ -1,7 +1,7 @@
 ghost use Rattle.std.specs.Prelude.{◌≡◌, ◌+◌, ◌<◌, ◌≤◌, drop, length, slice_index, take};
 
 /// The text before a byte of ASCII, or before its end, and what follows from there on.
-pub(crate) fn cut_before<'t>(text: &'t str, at: usize) -> (&'t str, &'t str)
+pub fn cut_before<'t>(text: &'t str, at: usize) -> (&'t str, &'t str)
     requires within { at ≤ length text.now }
     requires ascii { at < length text.now → slice_index text.now at < 128 }
     ensures front { result.0.now ≡ take at text.now }
@@ -11,7 +11,7 @@ pub(crate) fn cut_before<'t>(text: &'t str, at: usize) -> (&'t str, &'t str)
 }
 
 /// The text up to a byte of ASCII with that byte, and what follows behind it.
-pub(crate) fn cut_behind<'t>(text: &'t str, at: usize) -> (&'t str, &'t str)
+pub fn cut_behind<'t>(text: &'t str, at: usize) -> (&'t str, &'t str)
     requires within { at < length text.now }
     requires ascii { slice_index text.now at < 128 }
     ensures front { result.0.now ≡ take (at + 1) text.now }

@@ -10,6 +10,7 @@ mod trim;
 mod unjoin;
 mod words;
 
+pub use cut::{cut_before, cut_behind};
 pub use line::{FileKind, Line, LineFault};
 pub use logical::logical_lines;
-pub use words::{WordFault, conf_words, rewrite_words};
+pub use words::{WordFault, conf_words, rewrite_words, skip_blanks};

@@ -327,7 +327,8 @@ fn first_blank(bytes: &[u8]) -> usize
     bytes.len()
 }
 
-fn skip_blanks(text: &str) -> &str
+/// The text behind its first blanks.
+pub fn skip_blanks(text: &str) -> &str
     ensures { result.now ≡ skip_blanks text.now }
 {
     for (index, byte) in text.as_bytes().iter().enumerate() {

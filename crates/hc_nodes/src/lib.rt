@@ -10,3 +10,4 @@ mod stack;
 
 pub use build::read_nodes;
 pub use node::{Node, NodeFault};
+pub use section::split_name;
