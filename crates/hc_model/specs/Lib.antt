@@ -1,4 +1,3 @@
-pub mod Mapping
 pub mod Node
 pub mod PatternCode
 pub mod Walking

@@ -17,6 +17,14 @@ pub struct Config {
     pub reads: List<Read>,
 }
 
+/// One of the servers of a configuration.
+#[derive(Clone, Copy, Debug, PartialEq, Eq)]
+pub enum HostId {
+    Main,
+    /// A virtual host, by its place among them, counted from 0.
+    Nth(u32),
+}
+
 /// What one server is configured to: the main server or a virtual host.
 #[derive(Debug, Drop)]
 pub struct Server {

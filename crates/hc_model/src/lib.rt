@@ -20,7 +20,7 @@ mod walk;
 
 pub use authorization::{Merging, Need, ReqTree};
 pub use claim::{Claim, Decision, Scope, SetForm};
-pub use config::{Config, Define, HostAddr, Server};
+pub use config::{Config, Define, HostAddr, HostId, Server};
 pub use entry::{Entry, EntryForm};
 pub use event::{Authorized, Event};
 pub use expression::Expr;
