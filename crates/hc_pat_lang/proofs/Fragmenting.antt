@@ -5,22 +5,24 @@ use Rattle.std.proofs.lemmas.Bool.Decides.{eqb_tells}
 use Rattle.std.proofs.lemmas.Option.{slice_get_within}
 use Rattle.hc_dfa.specs.Explored.{Extends}
 use Rattle.hc_pattern.specs.Bits.{has_byte}
-use Rattle.hc_pattern.specs.Pattern.{Pattern}
 use Rattle.hc_pattern.specs.declared.set.ByteSet.{ByteSet}
-use Rattle.hc_ways.specs.Ways.{Ways, none, stop, behind, either, stop_where, step_where, grouped, preferred, any_turns, turns_then, turns_up_to, repeated}
-use Rattle.hc_ways.specs.Kept.{Turns, all_ways, with_turn}
+use Rattle.hc_ways.specs.Ways.{Ways, none, stop, behind, either, stop_where, grouped, moving, preferred, any_turns, turns_then, turns_up_to, repeated}
+use Rattle.hc_ways.specs.Kept.{Turns, with_turn}
 use Rattle.hc_ways.proofs.Behind.{behind-behind, behind-stop}
-use Rattle.hc_ways.proofs.Turns.{bounded}
+use Rattle.hc_ways.proofs.Turns.{Bounded}
 use Rattle.hc_pat_lang.specs.Fragments.{point_at, Serves, KnowsEnds, KeepsEnd, KeepsEnds, IsBelow, IsReady, IsFragment}
-use Rattle.hc_pat_lang.specs.Gates.{nowhere, finish_point, finish_gate, IsStep, IsFork, IsJoin}
+use Rattle.hc_pat_lang.specs.Gates.{alone_gate, nowhere, nowhere_gate, finish_point, finish_gate, IsStep, IsFork, IsJoin}
 use Rattle.hc_pat_lang.specs.Nodes.{Takes, LeadsBelow, AreNodes, AgreesFrom}
 use Rattle.hc_pat_lang.specs.Nodes.Takes.{by_first}
 use Rattle.hc_pat_lang.specs.declared.gates.Gate.{Gate}
 use Rattle.hc_pat_lang.specs.declared.gates.Point.{Point}
 use Rattle.hc_pat_lang.specs.declared.nodes.Node.{Node}
-use Rattle.hc_pat_lang.specs.declared.nodes.Node.TheVariants.{Dead, End, Step, Fork}
+use Rattle.hc_pat_lang.specs.declared.nodes.Node.TheVariants.{Dead, End, Step, Marked, Fork}
+use Rattle.hc_pat_lang.specs.declared.gates.Part.{Part}
+use Rattle.hc_pat_lang.specs.declared.gates.Part.TheVariants.{Outside, Inside, Without}
+use Rattle.hc_pat_lang.specs.Turned.{seen, step_by, step_node}
 use Rattle.hc_pat_lang.proofs.Parts.{get_left, get_last, get_cases, get_other, get_same}
-use Rattle.hc_pat_lang.proofs.Serving.{IsEither, AreEither, behind_turn, keeps_same, keeps_dead, keeps_finish, keeps_step, keeps_then, keeps_either, knows_nowhere, fork_taken, nothing_taken, serves_step, serves_finish, serves_behind, serves_either, serves_preferred, serves_grouped, serves_any, serves_as}
+use Rattle.hc_pat_lang.proofs.Serving.{IsEither, AreEither, behind_turn, keeps_same, keeps_dead, keeps_finish, keeps_step, keeps_then, keeps_either, knows_nowhere, fork_taken, nothing_taken, serves_step, serves_none, serves_stop, serves_finish, serves_behind, serves_either, serves_preferred, serves_grouped, serves_moving, serves_any, serves_as}
 
 -- ---- nodes that are added
 
@@ -35,6 +37,7 @@ leads_more : (count more : ℕ) (node : Node) → count ≤ more → LeadsBelow 
 leads_more count more Dead less leads = tt
 leads_more count more End less leads = tt
 leads_more count more (Step set to) less leads = omega arith
+leads_more count more (Marked set to) less leads = omega arith
 leads_more count more (Fork first second) less leads = ((let l = leads.0 in omega arith), (let l = leads.1 in omega arith))
 
 pub two_nodes : (nodes : List Node) → AreNodes nodes → 1 < length nodes
@@ -111,6 +114,18 @@ fragment_finish exits nodes ready =
     (λ later are. record { first = keeps_finish later are _; still = keeps_finish later are _; moved = keeps_finish later are _ })
     (λ later are knows text. serves_finish later text are exits knows)
 
+pub fragment_stop : (exits : Gate) (nodes : List Node) → IsReady nodes exits → IsFragment (λ text. stop) exits nodes nodes exits
+fragment_stop exits nodes ready =
+    pure _ exits exits nodes ready (λ later are. record { first = keeps_same later _; still = keeps_same later _; moved = keeps_same later _ }) (λ later are knows text. serves_stop later text exits)
+
+-- No way leads from nowhere.
+pub fragment_none : (exits : Gate) (nodes : List Node) → IsReady nodes exits → IsFragment (λ text. none) exits nodes nodes nowhere_gate
+fragment_none exits nodes ready =
+    let some = two_nodes nodes ready.are in
+    pure _ exits nowhere_gate nodes (record { are = ready.are; below = record { first = omega arith; still = omega arith; moved = omega arith } })
+    (λ later are. record { first = keeps_dead later are _; still = keeps_dead later are _; moved = keeps_dead later are _ })
+    (λ later are knows text. serves_none later text are exits)
+
 -- ---- one byte
 
 point_step : (entries : Gate) (entry : Point) → entries.first ≡ entry → entries.still ≡ entry → entries.moved ≡ entry → (moved : Bool) (at : ℕ) → point_at entries moved at ≡ entry
@@ -121,20 +136,25 @@ point_step entries entry first still moved false at = by_place (nat_eq at 0)
     by_place true = first
     by_place false = still
 
-pub fragment_step : (test : ℕ → Bool) (set : ByteSet) (exits entries : Gate) (old new : List Node) → IsReady old exits → IsStep old new set exits entries
-    → ((byte : ℕ) → test byte ≡ has_byte set byte) → IsFragment (λ text. step_where text test) exits old new entries
-fragment_step test set exits entries old new ready is same =
+step_below : (part : Part) (set : ByteSet) (to count : ℕ) → to < count → LeadsBelow count (step_node part set to)
+step_below Outside set to count below = below
+step_below Inside set to count below = below
+step_below (Without number) set to count below = below
+
+pub fragment_step : (part : Part) (test : ℕ → Bool) (set : ByteSet) (exits entries : Gate) (old new : List Node) → IsReady old exits → IsStep old new (step_node part set exits.moved.state) entries
+    → ((byte : ℕ) → test byte ≡ has_byte set byte) → IsFragment (λ text. step_by (seen part text) test) exits old new entries
+fragment_step part test set exits entries old new ready is same =
     let entry : Point = record { state = length old; ends = false } in
     let len = longer_pushed old new _ is.nodes in
     let step = λ (later : List Node) (agrees : AgreesFrom (length old) new later).
-    let s : slice_get later (length old) ≡ Some (Step set exits.moved.state) = agrees (length old) _ (omega arith) (last_node old new _ is.nodes) in s in
+    let s : slice_get later (length old) ≡ Some (step_node part set exits.moved.state) = agrees (length old) _ (omega arith) (last_node old new _ is.nodes) in s in
     let keeps = λ (later : List Node) (agrees : AgreesFrom (length old) new later) (exit point : Point) (e : point ≡ entry).
-    let k : KeepsEnd later exit point = subst (λ (p : Point). KeepsEnd later exit p) (sym e) (keeps_step later set exits.moved.state exit entry (step later agrees) refl) in k in
+    let k : KeepsEnd later exit point = subst (λ (p : Point). KeepsEnd later exit p) (sym e) (keeps_step later part set exits.moved.state exit entry (step later agrees) refl) in k in
     record {
       kept = extends_pushed old new _ is.nodes;
       longer = omega arith;
       ready = record {
-        are = are_pushed old new _ ready.are is.nodes (let b = ready.below.moved in let n : exits.moved.state < length old + 1 = omega arith in n);
+        are = are_pushed old new _ ready.are is.nodes (step_below part set _ _ (let b = ready.below.moved in let n : exits.moved.state < length old + 1 = omega arith in n));
         below = record {
           first = (let e = ap (λ (p : Point). p.state) is.first in omega arith);
           still = (let e = ap (λ (p : Point). p.state) is.still in omega arith);
@@ -142,8 +162,43 @@ fragment_step test set exits entries old new ready is same =
         };
       };
       ends = λ later are agrees. record { first = keeps later agrees _ _ is.first; still = keeps later agrees _ _ is.still; moved = keeps later agrees _ _ is.moved };
-      serves = λ later are agrees knows text. serves_step later text set test exits entry same (step later agrees) entries (point_step entries entry is.first is.still is.moved);
+      serves = λ later are agrees knows text. serves_step later text part set test exits entry same (step later agrees) entries (point_step entries entry is.first is.still is.moved);
     }
+
+-- ---- nodes that are added around
+
+-- The later nodes have the earlier ones in their places.
+pub record Grows (old new : List Node) : Type 0 where
+  pub kept : Extends old new
+  pub longer : length old ≤ length new
+  pub are : AreNodes new
+
+pub fragment_grows : (ways : List ℕ → Ways Turns) (exits entries : Gate) (old new : List Node) → IsFragment ways exits old new entries → Grows old new
+fragment_grows ways exits entries old new is = record { kept = is.kept; longer = is.longer; are = is.ready.are }
+
+pub grows_on : (old mid new : List Node) → Grows old mid → Grows mid new → Grows old new
+grows_on old mid new first second = record { kept = λ i node at. second.kept i node (first.kept i node at); longer = (let a = first.longer in let b = second.longer in omega arith); are = second.are }
+
+pub ready_later : (old new : List Node) (gate : Gate) → IsReady old gate → Grows old new → IsReady new gate
+ready_later old new gate ready grows = record { are = grows.are; below = below_more (length old) (length new) gate grows.longer ready.below }
+
+pub fragment_later : (ways : List ℕ → Ways Turns) (exits entries : Gate) (old mid new : List Node) → IsFragment ways exits old mid entries → Grows mid new → IsFragment ways exits old new entries
+fragment_later ways exits entries old mid new is grows = record {
+  kept = λ i node at. grows.kept i node (is.kept i node at);
+  longer = (let a = is.longer in let b = grows.longer in omega arith);
+  ready = ready_later mid new entries is.ready grows;
+  ends = λ later are agrees. is.ends later are (agrees_front (length old) mid new later grows.kept agrees);
+  serves = λ later are agrees. is.serves later are (agrees_front (length old) mid new later grows.kept agrees);
+}
+
+pub fragment_earlier : (ways : List ℕ → Ways Turns) (exits entries : Gate) (base old new : List Node) → Grows base old → IsFragment ways exits old new entries → IsFragment ways exits base new entries
+fragment_earlier ways exits entries base old new grows is = record {
+  kept = λ i node at. is.kept i node (grows.kept i node at);
+  longer = (let a = is.longer in let b = grows.longer in omega arith);
+  ready = is.ready;
+  ends = λ later are agrees. is.ends later are (agrees_past (length base) (length old) new later grows.longer agrees);
+  serves = λ later are agrees. is.serves later are (agrees_past (length base) (length old) new later grows.longer agrees);
+}
 
 -- ---- one behind the other
 
@@ -217,29 +272,37 @@ joined one two entries old new join are left right =
           };
     }
 
-pub fragment_either : (first second : List ℕ → Ways Turns) (exits one two entries : Gate) (old mid most new : List Node) → IsFragment first exits old mid one → IsFragment second exits mid most two
+pub join_ready : (one two entries : Gate) (old new : List Node) → IsJoin old new one two entries → AreNodes old → IsBelow (length old) one → IsBelow (length old) two → IsReady new entries
+join_ready one two entries old new join are left right = (joined one two entries old new join are left right).ready
+
+pub join_grows : (one two entries : Gate) (old new : List Node) → IsJoin old new one two entries → AreNodes old → IsBelow (length old) one → IsBelow (length old) two → Grows old new
+join_grows one two entries old new join are left right = let j = joined one two entries old new join are left right in record { kept = j.kept; longer = j.longer; are = j.ready.are }
+
+pub fragment_joined : (first second : List ℕ → Ways Turns) (exits one two entries : Gate) (old most new : List Node) → IsFragment first exits old most one → IsFragment second exits old most two
     → IsJoin most new one two entries → IsFragment (λ text. either (first text) (second text)) exits old new entries
-fragment_either first second exits one two entries old mid most new left right join =
+fragment_joined first second exits one two entries old most new left right join =
     let l = left.longer in
-    let r = right.longer in
-    let j = joined one two entries most new join right.ready.are (below_more _ _ one right.longer left.ready.below) right.ready.below in
+    let j = joined one two entries most new join right.ready.are left.ready.below right.ready.below in
     let to_most = λ (later : List Node) (agrees : AgreesFrom (length old) new later). let t : AgreesFrom (length old) most later = agrees_front (length old) most new later j.kept agrees in t in
-    let to_mid = λ (later : List Node) (agrees : AgreesFrom (length old) new later). let t : AgreesFrom (length old) mid later = agrees_front (length old) mid most later right.kept (to_most later agrees) in t in
-    let to_right = λ (later : List Node) (agrees : AgreesFrom (length old) new later). let t : AgreesFrom (length mid) most later = agrees_past (length old) (length mid) most later left.longer (to_most later agrees) in t in
     let either_is = λ (later : List Node) (agrees : AgreesFrom (length old) new later). let t : AreEither later one two entries = j.either later (agrees_past (length old) (length most) new later (omega arith) agrees) in t in
     record {
-      kept = λ i node at. j.kept i node (right.kept i node (left.kept i node at));
+      kept = λ i node at. j.kept i node (left.kept i node at);
       longer = (let k = j.longer in omega arith);
       ready = j.ready;
       ends = λ later are agrees.
-          let a = left.ends later are (to_mid later agrees) in
-          let b = right.ends later are (to_right later agrees) in
+          let a = left.ends later are (to_most later agrees) in
+          let b = right.ends later are (to_most later agrees) in
           let e = either_is later agrees in
           record { first = keeps_either later _ _ _ _ a.first b.first e.first; still = keeps_either later _ _ _ _ a.still b.still e.still; moved = keeps_either later _ _ _ _ a.moved b.moved e.moved };
       serves = λ later are agrees knows text.
           serves_either later text (first text) (second text) exits one two entries
-          (left.serves later are (to_mid later agrees) knows text) (right.serves later are (to_right later agrees) knows text) (either_is later agrees);
+          (left.serves later are (to_most later agrees) knows text) (right.serves later are (to_most later agrees) knows text) (either_is later agrees);
     }
+
+pub fragment_either : (first second : List ℕ → Ways Turns) (exits one two entries : Gate) (old mid most new : List Node) → IsFragment first exits old mid one → IsFragment second exits mid most two
+    → IsJoin most new one two entries → IsFragment (λ text. either (first text) (second text)) exits old new entries
+fragment_either first second exits one two entries old mid most new left right =
+    fragment_joined first second exits one two entries old most new (fragment_later _ _ _ old mid most left (fragment_grows _ _ _ mid most right)) (fragment_earlier _ _ _ old mid most (fragment_grows _ _ _ old mid left) right)
 
 pub fragment_preferred : (greedy : Bool) (turn : List ℕ → Ways Turns) (exits one entries : Gate) (old mid new : List Node) → IsBelow (length old) exits → IsFragment turn exits old mid one
     → IsJoin mid new one exits entries → IsFragment (λ text. preferred greedy (turn text)) exits old new entries
@@ -283,15 +346,33 @@ fragment_as ways other exits entries old new same is = record {
   serves = λ later are agrees knows text. serves_as later text (ways text) (other text) exits entries (same text) (is.serves later are agrees knows text);
 }
 
+pub fragment_moving : (body : List ℕ → Ways Turns) (exits turn : Gate) (old new : List Node) → IsFragment body (behind_turn [] [] exits.moved) old new turn
+    → IsFragment (λ text. moving (body text)) exits old new (alone_gate turn)
+fragment_moving body exits turn old new is = record {
+  kept = is.kept;
+  longer = is.longer;
+  ready = record { are = is.ready.are; below = record { first = is.ready.below.first; still = is.ready.below.still; moved = is.ready.below.still } };
+  ends = λ later are agrees.
+      let e = is.ends later are agrees in
+      record {
+        first = keeps_then later _ _ _ (keeps_dead later are _) e.first;
+        still = keeps_then later _ _ _ (keeps_dead later are _) e.still;
+        moved = keeps_then later _ _ _ (keeps_dead later are _) e.still;
+      };
+  serves = λ later are agrees knows text.
+      serves_moving later text are (body text) exits turn
+      (is.serves later are agrees (record { first = knows_nowhere later are; still = knows_nowhere later are; moved = knows.moved }) text);
+}
+
 -- ---- any number of turns
 
-pub fragment_any : (greedy : Bool) (body : Pattern) (exits turn : Gate) (again first still : Point) (old bare built set one new : List Node) → IsReady old exits
+pub fragment_any : (greedy : Bool) (body : List ℕ → Ways Turns) (exits turn : Gate) (again first still : Point) (old bare built set one new : List Node) → ((text : List ℕ) → Bounded (length text) (body text)) → IsReady old exits
     → bare ≡ old ++ Dead ∷ [] → again ≡ record { state = length old; ends = exits.moved.ends }
-    → IsFragment (λ text. all_ways text body) (behind_turn [] [] again) bare built turn
+    → IsFragment body (behind_turn [] [] again) bare built turn
     → set ≡ slice_set built (length old) (Fork exits.moved.state turn.still.state)
     → IsFork set one exits.first turn.first first → IsFork one new exits.still turn.still still
-    → IsFragment (λ text. any_turns greedy (all_ways text body) (length text)) exits old new (record { first = first; still = still; moved = again })
-fragment_any greedy body exits turn again first still old bare built set one new ready pushed again_is is set_is at_first at_still =
+    → IsFragment (λ text. any_turns greedy (body text) (length text)) exits old new (record { first = first; still = still; moved = again })
+fragment_any greedy body exits turn again first still old bare built set one new fits ready pushed again_is is set_is at_first at_still =
     let entries : Gate = record { first = first; still = still; moved = again } in
     let b = longer_pushed old bare Dead pushed in
     let l = is.longer in
@@ -354,7 +435,7 @@ fragment_any greedy body exits turn again first still old bare built set one new
             moved = keeps_again later are agrees;
           };
       serves = λ later are agrees knows text.
-          serves_any later text are greedy (all_ways text body) (bounded with_turn text body) exits turn entries
+          serves_any later text are greedy (body text) (fits text) exits turn entries
           (is.serves later are (agrees_built later agrees)
           (record { first = knows_nowhere later are; still = knows_nowhere later are; moved = (keeps_again later are agrees).knows knows.moved }) text)
           (first_at later agrees).fork (still_at later agrees).fork (loop_at later agrees);
@@ -375,31 +456,31 @@ behind_ready old new exits behind again ready pushed last is =
       below = record { first = omega arith; still = omega arith; moved = omega arith };
     })
 
-module _ (body : Pattern) (exits more entries : Gate) (old mid new : List Node) (least : ℕ) where
-  pub fragment_then : (rest : List ℕ → Ways Turns) → IsFragment rest exits old mid more → IsFragment (λ text. turns_then (all_ways text body) least stop) more mid new entries
-      → IsFragment (λ text. turns_then (all_ways text body) least (rest text)) exits old new entries
+module _ (body : List ℕ → Ways Turns) (exits more entries : Gate) (old mid new : List Node) (least : ℕ) where
+  pub fragment_then : (rest : List ℕ → Ways Turns) → IsFragment rest exits old mid more → IsFragment (λ text. turns_then (body text) least stop) more mid new entries
+      → IsFragment (λ text. turns_then (body text) least (rest text)) exits old new entries
   fragment_then rest later turns =
-      fragment_as _ _ exits entries old new (λ text. then_behind (all_ways text body) least (rest text)) (fragment_behind _ _ exits more entries old mid new later turns)
+      fragment_as _ _ exits entries old new (λ text. then_behind (body text) least (rest text)) (fragment_behind _ _ exits more entries old mid new later turns)
 
-pub fragment_repeat : (greedy : Bool) (body : Pattern) (exits more entries : Gate) (old mid new : List Node) (least most : ℕ) → least ≤ most
-    → IsFragment (λ text. turns_up_to greedy (all_ways text body) (most - least)) exits old mid more → IsFragment (λ text. turns_then (all_ways text body) least stop) more mid new entries
-    → IsFragment (λ text. repeated (length text) (all_ways text body) least (Some most) greedy) exits old new entries
+pub fragment_repeat : (greedy : Bool) (body : List ℕ → Ways Turns) (exits more entries : Gate) (old mid new : List Node) (least most : ℕ) → least ≤ most
+    → IsFragment (λ text. turns_up_to greedy (body text) (most - least)) exits old mid more → IsFragment (λ text. turns_then (body text) least stop) more mid new entries
+    → IsFragment (λ text. repeated (length text) (body text) least (Some most) greedy) exits old new entries
 fragment_repeat greedy body exits more entries old mid new least most within later turns =
     fragment_as _ _ exits entries old new
-    (λ text. ap (λ (v : Bool). if v then none else turns_then (all_ways text body) least (turns_up_to greedy (all_ways text body) (most - least))) (sym (le-ltb most least within)))
+    (λ text. ap (λ (v : Bool). if v then none else turns_then (body text) least (turns_up_to greedy (body text) (most - least))) (sym (le-ltb most least within)))
     (fragment_then body exits more entries old mid new least _ later turns)
 
 -- A turn more.
-pub fragment_turn : (body : Pattern) (exits gate entries : Gate) (old mid new : List Node) (count : ℕ) → IsFragment (λ text. turns_then (all_ways text body) count stop) exits old mid gate
-    → IsFragment (λ text. all_ways text body) gate mid new entries → IsFragment (λ text. turns_then (all_ways text body) (count + 1) stop) exits old new entries
+pub fragment_turn : (body : List ℕ → Ways Turns) (exits gate entries : Gate) (old mid new : List Node) (count : ℕ) → IsFragment (λ text. turns_then (body text) count stop) exits old mid gate
+    → IsFragment body gate mid new entries → IsFragment (λ text. turns_then (body text) (count + 1) stop) exits old new entries
 fragment_turn body exits gate entries old mid new count later turn =
-    fragment_as _ _ exits entries old new (λ text. ap (λ (n : ℕ). turns_then (all_ways text body) n stop) (sym (add-one count)))
+    fragment_as _ _ exits entries old new (λ text. ap (λ (n : ℕ). turns_then (body text) n stop) (sym (add-one count)))
     (fragment_behind _ _ exits gate entries old mid new later turn)
 
-pub fragment_optional : (greedy : Bool) (body : Pattern) (exits gate turn entries : Gate) (old mid built new : List Node) (count : ℕ) → IsBelow (length old) exits
-    → IsFragment (λ text. turns_up_to greedy (all_ways text body) count) exits old mid gate → IsFragment (λ text. all_ways text body) gate mid built turn → IsJoin built new turn exits entries
-    → IsFragment (λ text. turns_up_to greedy (all_ways text body) (count + 1)) exits old new entries
+pub fragment_optional : (greedy : Bool) (body : List ℕ → Ways Turns) (exits gate turn entries : Gate) (old mid built new : List Node) (count : ℕ) → IsBelow (length old) exits
+    → IsFragment (λ text. turns_up_to greedy (body text) count) exits old mid gate → IsFragment body gate mid built turn → IsJoin built new turn exits entries
+    → IsFragment (λ text. turns_up_to greedy (body text) (count + 1)) exits old new entries
 fragment_optional greedy body exits gate turn entries old mid built new count below later one join =
-    fragment_as _ _ exits entries old new (λ text. ap (turns_up_to greedy (all_ways text body)) (sym (add-one count)))
-    (fragment_preferred greedy (λ text. behind (all_ways text body) (turns_up_to greedy (all_ways text body) count)) exits turn entries old built new below
+    fragment_as _ _ exits entries old new (λ text. ap (turns_up_to greedy (body text)) (sym (add-one count)))
+    (fragment_preferred greedy (λ text. behind (body text) (turns_up_to greedy (body text) count)) exits turn entries old built new below
     (fragment_behind _ _ exits gate turn old mid built later one) join)

@@ -6,6 +6,15 @@ pub mod Rests
 pub mod Merges
 pub mod Parts
 pub mod Serving
+pub mod Bounds
+pub mod Seeing
+pub mod Unmarked
+pub mod Turning
+pub mod Choosing
+pub mod Marking
+pub mod Walking
+pub mod Reached
+pub mod Grouping
 pub mod Views
 pub mod Fragmenting
 pub mod Stepping

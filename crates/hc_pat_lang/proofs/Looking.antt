@@ -1,13 +1,14 @@
 -- The nodes that look for a pattern at any place.
-use Rattle.std.proofs.Common.{◌≡◌, ◌≢◌, ℕ, zero, suc, ◌+◌, ◌<◌, ◌≤◌, ◌↔◌, Bool, true, false, List, [], ◌∷◌, ◌++◌, length, drop, if◌then◌else◌, nat_eq, nat_lt, ◌||◌, Some, slice_get, slice_set, refl, sym, ◌∙◌, ap, subst, inl, inr, arith, eqb-true}
+use Rattle.std.proofs.Common.{◌≡◌, ◌≢◌, ℕ, zero, suc, ◌+◌, ◌<◌, ◌≤◌, ◌⊎◌, ◌↔◌, Bool, true, false, List, [], ◌∷◌, ◌++◌, length, drop, if◌then◌else◌, nat_eq, nat_lt, ◌||◌, Some, slice_get, slice_set, refl, sym, ◌∙◌, ap, subst, inl, inr, arith, eqb-true}
 use Rattle.std.proofs.Math.ListN.{length-set}
 use Rattle.std.proofs.lemmas.Option.{slice_get_within}
 use Rattle.hc_dfa.specs.Explored.{Extends}
-use Rattle.hc_dfa.specs.Texts.{IsText}
-use Rattle.hc_pattern.specs.Pattern.{Pattern}
 use Rattle.hc_pattern.specs.declared.set.ByteSet.{ByteSet}
-use Rattle.hc_ways.specs.Kept.{all_ways}
-use Rattle.hc_pat_lang.specs.Found.{IsFound}
+use Rattle.std.specs.List.{Contains}
+use Rattle.hc_ways.specs.Kept.{Turns}
+use Rattle.hc_ways.specs.Ways.{Way, Ways}
+use Rattle.hc_pat_lang.specs.Turned.{seen, seen_at}
+use Rattle.hc_pat_lang.specs.declared.gates.Part.TheVariants.{Outside}
 use Rattle.hc_pat_lang.specs.Fragments.{point_at, Serves, LeadsTo, KnowsEnd, KnowsEnds, IsReady, IsFragment}
 use Rattle.hc_pat_lang.specs.Gates.{anything}
 use Rattle.hc_pat_lang.specs.Matching.{IsFull, LooksFor, first_nodes}
@@ -18,8 +19,8 @@ use Rattle.hc_pat_lang.specs.declared.gates.Point.{Point}
 use Rattle.hc_pat_lang.specs.declared.nodes.Node.{Node}
 use Rattle.hc_pat_lang.specs.declared.nodes.Node.TheVariants.{Dead, End, Step, Fork}
 use Rattle.hc_pat_lang.proofs.Fragmenting.{are_pushed, are_set, extends_pushed, last_node, longer_pushed, two_nodes}
-use Rattle.hc_pat_lang.proofs.Parts.{exists_among, among_exists, get_other, get_same, goes_on}
-use Rattle.hc_pat_lang.proofs.Serving.{byte_taken, fork_taken}
+use Rattle.hc_pat_lang.proofs.Parts.{GoesOn, exists_among, among_exists, get_other, get_same, goes_on}
+use Rattle.hc_pat_lang.proofs.Serving.{byte_taken, end_taken, fork_taken, plain_is, sees_plain}
 
 -- ---- the first nodes
 
@@ -38,18 +39,6 @@ first_ready every nodes gate is same =
     subst (λ (xs : List Node). IsReady xs gate) (sym is)
     (subst (λ (g : Gate). IsReady (first_nodes every) g) (sym same)
     (record { are = are_first every; below = record { first = omega arith; still = omega arith; moved = omega arith } }))
-
--- ---- texts of bytes
-
-drop_text : (text : List ℕ) (n : ℕ) → IsText text → IsText (drop n text)
-drop_text text zero bytes = bytes
-drop_text [] (suc n) bytes = bytes
-drop_text (b ∷ bs) (suc n) bytes = drop_text bs n bytes.1
-
-byte_small : (text : List ℕ) (at byte : ℕ) → IsText text → slice_get text at ≡ Some byte → byte < 256
-byte_small [] at byte bytes is = absurd (let f = is in cc)
-byte_small (b ∷ bs) zero byte bytes is = (let e : b ≡ byte = cc in subst (λ (x : ℕ). x < 256) e bytes.0)
-byte_small (b ∷ bs) (suc at) byte bytes is = byte_small bs at byte bytes.1 is
 
 -- ---- the nodes that are added
 
@@ -98,15 +87,98 @@ looked built later every entries start ready looks = looked_by built _ _ _ later
 
 -- ---- what they take
 
-module _ (every : ByteSet) (full : IsFull every) (pattern : Pattern) (built later : List Node) (entries : Gate) (start : ℕ)
-    (fragment : IsFragment (λ text. all_ways text pattern) anything (first_nodes every) built entries) (look : Looked built later every entries start) where
-  every_taken : (text : List ℕ) → IsText text → Takes later 2 text
-  every_taken [] bytes = by_first (look.kept 2 _ (fragment.kept 2 (Fork 1 3) refl)) (at_end look.are.end)
-  every_taken (b ∷ bs) bytes = by_second (look.kept 2 _ (fragment.kept 2 (Fork 1 3) refl)) (by_byte (look.kept 3 _ (fragment.kept 3 (Step every 2) refl)) (full b bytes.0) (every_taken bs bytes.1))
+-- The letters from a place on, up to another, are bytes that are not marked.
+abbrev pub ArePlain : List ℕ → ℕ → ℕ → Type 0
+ArePlain text at end = (k : ℕ) → at ≤ k → k < end → seen Outside text k ≡ slice_get text k
+
+-- A way is found at a place, and nothing is marked before and behind it.
+pub record Finds (ways : List ℕ → Ways Turns) (text : List ℕ) : Type 0 where
+  pub from : ℕ
+  pub within : from ≤ length text
+  pub before : ArePlain text 0 from
+  pub way : Way Turns
+  pub among : Contains (ways text from []) way
+  pub after : ArePlain text way.end (length text)
+
+pub plain_here : (text : List ℕ) (at : ℕ) (on : GoesOn text at) → on.byte < 256 → seen Outside text at ≡ slice_get text at
+plain_here text at on small = ap (seen_at Outside) on.here ∙ sees_plain [] on.byte small ∙ sym on.here
+
+pub small_here : (text : List ℕ) (at : ℕ) (on : GoesOn text at) → seen Outside text at ≡ slice_get text at → on.byte < 256
+small_here text at on plain = (plain_is [] on.byte on.byte (nat_lt on.byte 256) refl (sym (ap (seen_at Outside) on.here) ∙ plain ∙ on.here)).0
+
+plain_more : (text : List ℕ) (at : ℕ) → ArePlain text 0 at → seen Outside text at ≡ slice_get text at → ArePlain text 0 (at + 1)
+plain_more text at before here k past below =
+    let cases : (k < at) ⊎ (k ≡ at) = grind arith in
+    elim cases [ inl less ↦ before k past less | inr e ↦ subst (λ (n : ℕ). seen Outside text n ≡ slice_get text n) (sym e) here ]
+
+module _ (every : ByteSet) (full : IsFull every) (ways : List ℕ → Ways Turns) (built later : List Node) (entries : Gate) (start : ℕ)
+    (fragment : IsFragment ways anything (first_nodes every) built entries) (look : Looked built later every entries start) where
+  fork_at : slice_get later 2 ≡ Some (Fork 1 3)
+  fork_at = look.kept 2 _ (fragment.kept 2 (Fork 1 3) refl)
+
+  every_at : slice_get later 3 ≡ Some (Step every 2)
+  every_at = look.kept 3 _ (fragment.kept 3 (Step every 2) refl)
+
+  byte_on : (node to : ℕ) (text : List ℕ) (at : ℕ) → slice_get later node ≡ Some (Step every to) → (on : GoesOn text at) → seen Outside text at ≡ slice_get text at → Takes later to (drop (at + 1) text)
+      → Takes later node (drop at text)
+  byte_on node to text at step on plain taken =
+      let small = small_here text at on plain in
+      subst (λ (t : List ℕ). Takes later node t) (sym on.rest) (by_byte step small (full on.byte small) taken)
+
+  -- A byte is passed.
+  record Passed (to : ℕ) (text : List ℕ) (at : ℕ) : Type 0 where
+    pub within : at < length text
+    pub plain : seen Outside text at ≡ slice_get text at
+    pub taken : Takes later to (drop (at + 1) text)
+
+  passed : (node to : ℕ) (text : List ℕ) (at : ℕ) → slice_get later node ≡ Some (Step every to) → Takes later node (drop at text) → Passed to text at
+  passed node to text at step taken =
+      let byte = byte_taken later Outside every to step taken in
+      elim (goes_on text at) [
+        | inl end ↦ absurd (let e = byte.is in let f = end.1 in cc)
+        | inr on ↦
+            let both : byte.letter ∷ byte.rest ≡ on.byte ∷ drop (at + 1) text = sym byte.is ∙ on.rest in
+            let letters : byte.letter ≡ on.byte = cc in
+            let rests : byte.rest ≡ drop (at + 1) text = cc in
+            let small = plain_is [] byte.letter byte.byte (nat_lt byte.letter 256) refl byte.sees in
+            record {
+              within = on.within;
+              plain = plain_here text at on (let s = small.0 in omega arith);
+              taken = subst (λ (t : List ℕ). Takes later to t) rests byte.taken;
+            }
+      ]
+
+  every_taken : (fuel : ℕ) (text : List ℕ) (at : ℕ) → length text ≤ at + fuel → ArePlain text at (length text) → Takes later 2 (drop at text)
+  every_taken zero text at enough plain = elim (goes_on text at) [
+    | inl past ↦ by_first fork_at (subst (λ (t : List ℕ). Takes later 1 t) (sym past.1) (at_end look.are.end))
+    | inr on ↦ absurd (let w = on.within in omega arith)
+  ]
+  every_taken (suc fuel) text at enough plain = elim (goes_on text at) [
+    | inl past ↦ by_first fork_at (subst (λ (t : List ℕ). Takes later 1 t) (sym past.1) (at_end look.are.end))
+    | inr on ↦ by_second fork_at (byte_on 3 2 text at every_at on (plain at (omega arith) on.within) (every_taken fuel text (at + 1) (omega arith) (λ k past below. plain k (omega arith) below)))
+  ]
+
+  none_left : (text : List ℕ) (at : ℕ) → drop at text ≡ [] → ArePlain text at (length text)
+  none_left text at none k past below = elim (goes_on text at) [
+    | inl end ↦ absurd (let e = end.2 in omega arith)
+    | inr on ↦ absurd (let e = on.rest in cc)
+  ]
+
+  plain_on : (text : List ℕ) (at end : ℕ) → seen Outside text at ≡ slice_get text at → ArePlain text (at + 1) end → ArePlain text at end
+  plain_on text at end here rest k past below =
+      let cases : (k ≡ at) ⊎ (at + 1 ≤ k) = grind arith in
+      elim cases [ inl e ↦ subst (λ (n : ℕ). seen Outside text n ≡ slice_get text n) (sym e) here | inr more ↦ rest k more below ]
+
+  every_plain : (fuel : ℕ) (text : List ℕ) (at : ℕ) → length text ≤ at + fuel → Takes later 2 (drop at text) → ArePlain text at (length text)
+  every_plain zero text at enough taken = λ k past below. absurd (omega arith)
+  every_plain (suc fuel) text at enough taken = elim (fork_taken later _ _ fork_at taken) [
+    | inl end ↦ none_left text at (end_taken later look.are.end end)
+    | inr byte ↦ let on = passed 3 2 text at every_at byte in plain_on text at (length text) on.plain (every_plain fuel text (at + 1) (omega arith) on.taken)
+  ]
 
   knows : KnowsEnds later anything
   knows =
-      let k : KnowsEnd later anything.first = record { ends = λ e. every_taken [] tt; only = λ taken. refl } in
+      let k : KnowsEnd later anything.first = record { ends = λ e. every_taken 0 [] 0 (omega arith) (λ k past below. absurd (omega arith)); only = λ taken. refl } in
       record { first = k; still = k; moved = k }
 
   any_at : (moved : Bool) (at : ℕ) → (point_at anything moved at).state ≡ 2
@@ -117,22 +189,29 @@ module _ (every : ByteSet) (full : IsFull every) (pattern : Pattern) (built late
       by_place true = refl
       by_place false = refl
 
-  serves : (text : List ℕ) → Serves later text (all_ways text pattern) anything entries
+  serves : (text : List ℕ) → Serves later text (ways text) anything entries
   serves = fragment.serves later look.are (λ i node past at. look.kept i node at) knows
 
   no_moves : (at : ℕ) → false ≡ true → 0 < at
   no_moves at e = absurd (let f = e in cc)
 
-  found_at : (text : List ℕ) (at : ℕ) → at ≤ length text → Takes later (point_at entries false at).state (drop at text) → IsFound pattern text
-  found_at text at within taken =
-      let some = exists_among _ (all_ways text pattern at []) (((serves text).leads at [] false within (no_moves at)).0 taken) in
-      record { from = at; within = within; way = some.0; among = some.1 }
+  found_at : (text : List ℕ) (at : ℕ) → at ≤ length text → ArePlain text 0 at → Takes later (point_at entries false at).state (drop at text) → Finds ways text
+  found_at text at within before taken =
+      let some = exists_among _ (ways text at []) (((serves text).leads at [] false within (no_moves at)).0 taken) in
+      record {
+        from = at;
+        within = within;
+        before = before;
+        way = some.0;
+        among = some.1;
+        after = every_plain (length text) text some.0.end (omega arith) (subst (λ (n : ℕ). Takes later n (drop some.0.end text)) (any_at (false || nat_lt at some.0.end) some.0.end) some.2);
+      }
 
-  at_found : (text : List ℕ) → IsText text → (is : IsFound pattern text) → Takes later (point_at entries false is.from).state (drop is.from text)
-  at_found text bytes is =
+  at_found : (text : List ℕ) → (is : Finds ways text) → Takes later (point_at entries false is.from).state (drop is.from text)
+  at_found text is =
       ((serves text).leads is.from [] false is.within (no_moves is.from)).1
-      (among_exists (LeadsTo later text anything false is.from) (all_ways text pattern is.from []) is.way is.among
-      (subst (λ (n : ℕ). Takes later n (drop is.way.end text)) (sym (any_at (false || nat_lt is.from is.way.end) is.way.end)) (every_taken (drop is.way.end text) (drop_text text is.way.end bytes))))
+      (among_exists (LeadsTo later text anything false is.from) (ways text is.from []) is.way is.among
+      (subst (λ (n : ℕ). Takes later n (drop is.way.end text)) (sym (any_at (false || nat_lt is.from is.way.end) is.way.end)) (every_taken (length text) text is.way.end (omega arith) is.after)))
 
   still_at : (at : ℕ) → 0 < at → point_at entries false at ≡ entries.still
   still_at at past = by_place (nat_eq at 0) refl
@@ -141,55 +220,41 @@ module _ (every : ByteSet) (full : IsFull every) (pattern : Pattern) (built late
       by_place true is = absurd (let e = eqb-true at 0 is in omega arith)
       by_place false is = refl
 
-  -- A byte is passed.
-  record Passed (text : List ℕ) (at : ℕ) : Type 0 where
-    pub within : at < length text
-    pub taken : Takes later (length built) (drop (at + 1) text)
-
-  passed : (text : List ℕ) (at : ℕ) → Takes later (length built + 1) (drop at text) → Passed text at
-  passed text at taken =
-      let byte = byte_taken later every (length built) look.at_byte taken in
-      elim (goes_on text at) [
-        | inl end ↦ absurd (let e = byte.is in let f = end.1 in cc)
-        | inr on ↦
-            let both : byte.byte ∷ byte.rest ≡ on.byte ∷ drop (at + 1) text = sym byte.is ∙ on.rest in
-            let rests : byte.rest ≡ drop (at + 1) text = cc in
-            record { within = on.within; taken = subst (λ (t : List ℕ). Takes later (length built) t) rests byte.taken }
-      ]
-
-  later_found : (fuel : ℕ) (text : List ℕ) (at : ℕ) → 0 < at → at ≤ length text → length text ≤ at + fuel → Takes later (length built) (drop at text) → IsFound pattern text
-  later_found zero text at past within enough taken = elim (fork_taken later _ _ look.at_later taken) [
-    | inl still ↦ found_at text at within (subst (λ (p : Point). Takes later p.state (drop at text)) (sym (still_at at past)) still)
-    | inr byte ↦ absurd (let w = (passed text at byte).within in omega arith)
+  later_found : (fuel : ℕ) (text : List ℕ) (at : ℕ) → 0 < at → at ≤ length text → length text ≤ at + fuel → ArePlain text 0 at → Takes later (length built) (drop at text) → Finds ways text
+  later_found zero text at past within enough before taken = elim (fork_taken later _ _ look.at_later taken) [
+    | inl still ↦ found_at text at within before (subst (λ (p : Point). Takes later p.state (drop at text)) (sym (still_at at past)) still)
+    | inr byte ↦ absurd (let w = (passed _ _ text at look.at_byte byte).within in omega arith)
   ]
-  later_found (suc fuel) text at past within enough taken = elim (fork_taken later _ _ look.at_later taken) [
-    | inl still ↦ found_at text at within (subst (λ (p : Point). Takes later p.state (drop at text)) (sym (still_at at past)) still)
-    | inr byte ↦ let on = passed text at byte in let w = on.within in later_found fuel text (at + 1) (omega arith) (omega arith) (omega arith) on.taken
+  later_found (suc fuel) text at past within enough before taken = elim (fork_taken later _ _ look.at_later taken) [
+    | inl still ↦ found_at text at within before (subst (λ (p : Point). Takes later p.state (drop at text)) (sym (still_at at past)) still)
+    | inr byte ↦ let on = passed _ _ text at look.at_byte byte in let w = on.within in
+        later_found fuel text (at + 1) (omega arith) (omega arith) (omega arith) (plain_more text at before on.plain) on.taken
   ]
 
-  byte_passed : (text : List ℕ) (at : ℕ) → IsText text → at < length text → Takes later (length built) (drop (at + 1) text) → Takes later (length built + 1) (drop at text)
-  byte_passed text at bytes within taken = elim (goes_on text at) [
+  byte_passed : (text : List ℕ) (at : ℕ) → at < length text → seen Outside text at ≡ slice_get text at → Takes later (length built) (drop (at + 1) text) → Takes later (length built + 1) (drop at text)
+  byte_passed text at within plain taken = elim (goes_on text at) [
     | inl end ↦ absurd (let e = end.2 in omega arith)
-    | inr on ↦ subst (λ (t : List ℕ). Takes later (length built + 1) t) (sym on.rest) (by_byte look.at_byte (full on.byte (byte_small text at on.byte bytes on.here)) taken)
+    | inr on ↦ byte_on _ _ text at look.at_byte on plain taken
   ]
 
-  found_later : (count : ℕ) (text : List ℕ) (at from : ℕ) → IsText text → from ≡ at + count → from ≤ length text → Takes later entries.still.state (drop from text) → Takes later (length built) (drop at text)
-  found_later zero text at from bytes is within still =
+  found_later : (count : ℕ) (text : List ℕ) (at from : ℕ) → ArePlain text 0 from → from ≡ at + count → from ≤ length text → Takes later entries.still.state (drop from text) → Takes later (length built) (drop at text)
+  found_later zero text at from before is within still =
       let same : from ≡ at = omega arith in by_first look.at_later (subst (λ (n : ℕ). Takes later entries.still.state (drop n text)) same still)
-  found_later (suc count) text at from bytes is within still =
-      by_second look.at_later (byte_passed text at bytes (omega arith) (found_later count text (at + 1) from bytes (omega arith) within still))
+  found_later (suc count) text at from before is within still =
+      by_second look.at_later (byte_passed text at (omega arith) (before at (omega arith) (omega arith)) (found_later count text (at + 1) from before (omega arith) within still))
 
-  start_found : (text : List ℕ) → Takes later start text → IsFound pattern text
+  start_found : (text : List ℕ) → Takes later start text → Finds ways text
   start_found text taken = elim (fork_taken later _ _ look.at_start taken) [
-    | inl first ↦ found_at text 0 (omega arith) first
-    | inr byte ↦ let on = passed text 0 byte in let w = on.within in later_found (length text) text 1 (omega arith) (omega arith) (omega arith) on.taken
+    | inl first ↦ found_at text 0 (omega arith) (λ k past below. absurd (omega arith)) first
+    | inr byte ↦ let on = passed _ _ text 0 look.at_byte byte in let w = on.within in
+        later_found (length text) text 1 (omega arith) (omega arith) (omega arith) (plain_more text 0 (λ k past below. absurd (omega arith)) on.plain) on.taken
   ]
 
-  found_by : (text : List ℕ) (from : ℕ) → IsText text → from ≤ length text → Takes later (point_at entries false from).state (drop from text) → Takes later start text
-  found_by text zero bytes within taken = by_first look.at_start taken
-  found_by text (suc from) bytes within taken =
+  found_by : (text : List ℕ) (from : ℕ) → ArePlain text 0 from → from ≤ length text → Takes later (point_at entries false from).state (drop from text) → Takes later start text
+  found_by text zero before within taken = by_first look.at_start taken
+  found_by text (suc from) before within taken =
       let still = subst (λ (p : Point). Takes later p.state (drop (suc from) text)) (still_at (suc from) (omega arith)) taken in
-      by_second look.at_start (byte_passed text 0 bytes (omega arith) (found_later from text 1 (suc from) bytes (omega arith) within still))
+      by_second look.at_start (byte_passed text 0 (omega arith) (before 0 (omega arith) (omega arith)) (found_later from text 1 (suc from) before (omega arith) within still))
 
-  pub taken_found : (text : List ℕ) → IsText text → Takes later start text ↔ IsFound pattern text
-  taken_found text bytes = ((λ taken. start_found text taken), (λ is. found_by text is.from bytes is.within (at_found text bytes is)))
+  pub taken_finds : (text : List ℕ) → Takes later start text ↔ Finds ways text
+  taken_finds text = ((λ taken. start_found text taken), (λ is. found_by text is.from is.before is.within (at_found text is)))

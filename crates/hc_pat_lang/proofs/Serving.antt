@@ -1,20 +1,23 @@
 -- Entries and exits, for each form of a pattern.
-use Rattle.std.proofs.Common.{◌≡◌, ℕ, zero, suc, ◌+◌, ◌<◌, ◌≤◌, ◌⊎◌, ◌||◌, Bool, true, false, List, [], ◌∷◌, ◌++◌, length, drop, if◌then◌else◌, nat_lt, nat_eq, Some, slice_get, refl, sym, ◌∙◌, ap, subst, inl, inr, arith, eq-eqb, eqb-true, ltb-true, lt-ltb, le-ltb}
+use Rattle.std.proofs.Common.{◌≡◌, ℕ, zero, suc, ◌+◌, ◌<◌, ◌≤◌, ◌⊎◌, ◌||◌, Bool, true, false, List, [], ◌∷◌, ◌++◌, length, drop, if◌then◌else◌, nat_lt, nat_eq, Option, None, Some, slice_get, ◌-◌, refl, sym, ◌∙◌, ap, subst, inl, inr, arith, eq-eqb, eqb-true, ltb-true, ltb-false, lt-ltb, le-ltb}
 use Rattle.std.specs.List.{AllByRecursion}
 use Rattle.hc_pattern.specs.Bits.{has_byte}
 use Rattle.hc_pattern.specs.declared.set.ByteSet.{ByteSet}
-use Rattle.hc_ways.specs.Ways.{Way, Ways, none, stop, behind, either, stop_where, meets, step_where, closed, grouped, preferred, moving, any_turns}
+use Rattle.hc_ways.specs.Ways.{Way, Ways, none, stop, behind, either, stop_where, meets, closed, grouped, preferred, moving, any_turns}
 use Rattle.hc_ways.specs.Kept.{Turns, with_turn}
 use Rattle.hc_ways.proofs.Turns.{Bounded, any_turns_is}
 use Rattle.hc_pat_lang.specs.Fragments.{Exists, point_at, TakesRest, LeadsTo, Serves, KnowsEnd, KnowsEnds, KeepsEnd}
-use Rattle.hc_pat_lang.specs.Gates.{nowhere, finish_point, finish_gate}
+use Rattle.hc_pat_lang.specs.Gates.{alone_gate, nowhere, nowhere_gate, finish_point, finish_gate}
 use Rattle.hc_pat_lang.specs.Nodes.{Takes, AreNodes}
-use Rattle.hc_pat_lang.specs.Nodes.Takes.{at_end, by_byte, by_first, by_second}
+use Rattle.hc_pat_lang.specs.Nodes.Takes.{at_end, by_byte, by_marked, by_first, by_second}
 use Rattle.hc_pat_lang.specs.declared.gates.Gate.{Gate}
 use Rattle.hc_pat_lang.specs.declared.gates.Point.{Point}
 use Rattle.hc_pat_lang.specs.declared.nodes.Node.{Node}
-use Rattle.hc_pat_lang.specs.declared.nodes.Node.TheVariants.{Dead, End, Step, Fork}
-use Rattle.hc_pat_lang.proofs.Parts.{exists_with, exists_left, exists_right, exists_cases, to_flat, from_flat, to_mapped, from_mapped, to_filtered, from_filtered, all_append, all_flat, all_mapped, all_filtered, all_as, GoesOn, goes_on}
+use Rattle.hc_pat_lang.specs.declared.nodes.Node.TheVariants.{Dead, End, Step, Marked, Fork}
+use Rattle.hc_pat_lang.specs.declared.gates.Part.{Part}
+use Rattle.hc_pat_lang.specs.declared.gates.Part.TheVariants.{Outside, Inside, Without}
+use Rattle.hc_pat_lang.specs.Turned.{marked_byte, plain_byte, seen, seen_at, seen_in, step_by, step_node}
+use Rattle.hc_pat_lang.proofs.Parts.{exists_as, exists_with, exists_left, exists_right, exists_cases, to_flat, from_flat, to_mapped, from_mapped, to_filtered, from_filtered, all_append, all_flat, all_mapped, all_filtered, all_as, GoesOn, goes_on}
 
 -- ---- tests
 
@@ -52,36 +55,92 @@ moved_past false at end past ordered is = (let l = ltb-true at end is in omega a
 module _ (nodes : List Node) where
   pub nothing_taken : {node : ℕ} {text : List ℕ} → slice_get nodes node ≡ Some Dead → Takes nodes node text → ⊥
   nothing_taken is (at_end end) = (let f = is in cc)
-  nothing_taken is (by_byte step has path) = (let f = is in cc)
+  nothing_taken is (by_byte step small has path) = (let f = is in cc)
+  nothing_taken is (by_marked step small has path) = (let f = is in cc)
   nothing_taken is (by_first fork path) = (let f = is in cc)
   nothing_taken is (by_second fork path) = (let f = is in cc)
 
   pub end_taken : {node : ℕ} {text : List ℕ} → slice_get nodes node ≡ Some End → Takes nodes node text → text ≡ []
   end_taken is (at_end end) = refl
-  end_taken is (by_byte step has path) = absurd (let f = is in cc)
+  end_taken is (by_byte step small has path) = absurd (let f = is in cc)
+  end_taken is (by_marked step small has path) = absurd (let f = is in cc)
   end_taken is (by_first fork path) = absurd (let f = is in cc)
   end_taken is (by_second fork path) = absurd (let f = is in cc)
 
-  pub record TakesByte (set : ByteSet) (to : ℕ) (text : List ℕ) : Type 0 where
-    pub byte : ℕ
+  -- The text begins with a letter in which the part sees a byte of the set.
+  pub record TakesByte (part : Part) (set : ByteSet) (to : ℕ) (text : List ℕ) : Type 0 where
+    pub letter : ℕ
     pub rest : List ℕ
-    pub is : text ≡ byte ∷ rest
+    pub is : text ≡ letter ∷ rest
+    pub byte : ℕ
+    pub sees : seen_in part letter ≡ Some byte
     pub has : has_byte set byte ≡ true
     pub taken : Takes nodes to rest
 
-  pub byte_taken : {node : ℕ} {text : List ℕ} (set : ByteSet) (to : ℕ) → slice_get nodes node ≡ Some (Step set to) → Takes nodes node text → TakesByte set to text
-  byte_taken set to is (at_end end) = absurd (let f = is in cc)
-  byte_taken set to is (by_byte {to = next} {byte = byte} {set = other} {text = rest} step has path) =
+  pub sees_plain : (byte : ℕ) → byte < 256 → plain_byte byte ≡ Some byte
+  sees_plain byte small = ap (λ (v : Bool). if v then Some byte else None) (lt-ltb byte 256 small)
+
+  pub sees_marked : (byte : ℕ) → byte < 256 → marked_byte (256 + byte) ≡ Some byte
+  sees_marked byte small =
+      let e : 256 + byte - 256 ≡ byte = omega arith in
+      ap (λ (v : Bool). if v then None else plain_byte (256 + byte - 256)) (le-ltb (256 + byte) 256 (omega arith)) ∙ ap plain_byte e ∙ sees_plain byte small
+
+  step_taken : {node : ℕ} {text : List ℕ} (set : ByteSet) (to : ℕ) → slice_get nodes node ≡ Some (Step set to) → Takes nodes node text → TakesByte Outside set to text
+  step_taken set to is (at_end end) = absurd (let f = is in cc)
+  step_taken set to is (by_byte {to = next} {byte = byte} {set = other} {text = rest} step small has path) =
       let same : Step other next ≡ Step set to = (let f : Some (Step other next) ≡ Some (Step set to) = sym step ∙ is in cc) in
       let sets : other ≡ set = cc in
       let nexts : next ≡ to = cc in
-      record { byte = byte; rest = rest; is = refl; has = subst (λ (s : ByteSet). has_byte s byte ≡ true) sets has; taken = subst (λ (n : ℕ). Takes nodes n rest) nexts path }
-  byte_taken set to is (by_first fork path) = absurd (let f = is in cc)
-  byte_taken set to is (by_second fork path) = absurd (let f = is in cc)
+      record { letter = byte; rest = rest; is = refl; byte = byte; sees = sees_plain byte small; has = subst (λ (s : ByteSet). has_byte s byte ≡ true) sets has; taken = subst (λ (n : ℕ). Takes nodes n rest) nexts path }
+  step_taken set to is (by_marked step small has path) = absurd (let f = is in cc)
+  step_taken set to is (by_first fork path) = absurd (let f = is in cc)
+  step_taken set to is (by_second fork path) = absurd (let f = is in cc)
+
+  inside_taken : {node : ℕ} {text : List ℕ} (set : ByteSet) (to : ℕ) → slice_get nodes node ≡ Some (Marked set to) → Takes nodes node text → TakesByte Inside set to text
+  inside_taken set to is (at_end end) = absurd (let f = is in cc)
+  inside_taken set to is (by_byte step small has path) = absurd (let f = is in cc)
+  inside_taken set to is (by_marked {to = next} {byte = byte} {set = other} {text = rest} step small has path) =
+      let same : Marked other next ≡ Marked set to = (let f : Some (Marked other next) ≡ Some (Marked set to) = sym step ∙ is in cc) in
+      let sets : other ≡ set = cc in
+      let nexts : next ≡ to = cc in
+      record { letter = 256 + byte; rest = rest; is = refl; byte = byte; sees = sees_marked byte small; has = subst (λ (s : ByteSet). has_byte s byte ≡ true) sets has; taken = subst (λ (n : ℕ). Takes nodes n rest) nexts path }
+  inside_taken set to is (by_first fork path) = absurd (let f = is in cc)
+  inside_taken set to is (by_second fork path) = absurd (let f = is in cc)
+
+  pub byte_taken : {node : ℕ} {text : List ℕ} (part : Part) (set : ByteSet) (to : ℕ) → slice_get nodes node ≡ Some (step_node part set to) → Takes nodes node text → TakesByte part set to text
+  byte_taken Outside set to is taken = step_taken set to is taken
+  byte_taken Inside set to is taken = inside_taken set to is taken
+  byte_taken (Without number) set to is taken =
+      let byte = step_taken set to is taken in
+      record { letter = byte.letter; rest = byte.rest; is = byte.is; byte = byte.byte; sees = byte.sees; has = byte.has; taken = byte.taken }
+
+  pub plain_is : (letter byte : ℕ) (v : Bool) → nat_lt letter 256 ≡ v → (if v then Some letter else None) ≡ Some byte → (letter < 256) × (letter ≡ byte)
+  plain_is letter byte true less is = (ltb-true letter 256 less, let e : letter ≡ byte = cc in e)
+  plain_is letter byte false less is = absurd (let f = is in cc)
+
+  pub marked_is : (letter byte : ℕ) (v : Bool) → nat_lt letter 256 ≡ v → (if v then None else plain_byte (letter - 256)) ≡ Some byte → (byte < 256) × (letter ≡ 256 + byte)
+  marked_is letter byte true less is = absurd (let f = is in cc)
+  marked_is letter byte false less is =
+      let found = plain_is (letter - 256) byte (nat_lt (letter - 256) 256) refl is in
+      let past : 256 ≤ letter = ltb-false letter 256 less in
+      ((let a = found.0 in let b = found.1 in omega arith), (let b = found.1 in omega arith))
+
+  pub takes_byte : {node : ℕ} {text : List ℕ} (part : Part) (set : ByteSet) (to letter byte : ℕ) → slice_get nodes node ≡ Some (step_node part set to) → seen_in part letter ≡ Some byte
+      → has_byte set byte ≡ true → Takes nodes to text → Takes nodes node (letter ∷ text)
+  takes_byte {node} {text} Outside set to letter byte is sees has path =
+      let found = plain_is letter byte (nat_lt letter 256) refl sees in
+      by_byte is found.0 (subst (λ (b : ℕ). has_byte set b ≡ true) (sym found.1) has) path
+  takes_byte {node} {text} Inside set to letter byte is sees has path =
+      let found = marked_is letter byte (nat_lt letter 256) refl sees in
+      subst (λ (l : ℕ). Takes nodes node (l ∷ text)) (sym found.1) (by_marked is found.0 has path)
+  takes_byte {node} {text} (Without number) set to letter byte is sees has path =
+      let found = plain_is letter byte (nat_lt letter 256) refl sees in
+      by_byte is found.0 (subst (λ (b : ℕ). has_byte set b ≡ true) (sym found.1) has) path
 
   pub fork_taken : {node : ℕ} {text : List ℕ} (first second : ℕ) → slice_get nodes node ≡ Some (Fork first second) → Takes nodes node text → Takes nodes first text ⊎ Takes nodes second text
   fork_taken first second is (at_end end) = absurd (let f = is in cc)
-  fork_taken first second is (by_byte step has path) = absurd (let f = is in cc)
+  fork_taken first second is (by_byte step small has path) = absurd (let f = is in cc)
+  fork_taken first second is (by_marked step small has path) = absurd (let f = is in cc)
   fork_taken {text = text} first second is (by_first {first = one} {second = two} fork path) =
       let f : Some (Fork one two) ≡ Some (Fork first second) = sym fork ∙ is in
       let e : one ≡ first = cc in inl (subst (λ (n : ℕ). Takes nodes n text) e path)
@@ -136,14 +195,14 @@ module _ (nodes : List Node) where
   pub keeps_finish : AreNodes nodes → (point : Point) → KeepsEnd nodes point (finish_point point)
   keeps_finish are point = keeps_finish_by are point point.ends refl
 
-  pub keeps_step : (set : ByteSet) (to : ℕ) (exit entry : Point) → slice_get nodes entry.state ≡ Some (Step set to) → entry.ends ≡ false → KeepsEnd nodes exit entry
-  keeps_step set to exit entry step isnt = record {
+  pub keeps_step : (part : Part) (set : ByteSet) (to : ℕ) (exit entry : Point) → slice_get nodes entry.state ≡ Some (step_node part set to) → entry.ends ≡ false → KeepsEnd nodes exit entry
+  keeps_step part set to exit entry step isnt = record {
     knows = λ knows. record { ends = λ e. absurd (let f = e in let g = isnt in cc); only = λ taken. absurd (none taken) };
     back = λ knows taken. absurd (none taken);
   }
     where
       none : Takes nodes entry.state [] → ⊥
-      none taken = let byte = byte_taken set to step taken in let f = byte.is in cc
+      none taken = let byte = byte_taken part set to step taken in let f = byte.is in cc
 
   pub keeps_then : (exit mid entry : Point) → KeepsEnd nodes exit mid → KeepsEnd nodes mid entry → KeepsEnd nodes exit entry
   keeps_then exit mid entry first second = record {
@@ -194,6 +253,23 @@ module _ (nodes : List Node) where
       );
     }
 
+    nowhere_at : (moved : Bool) (at : ℕ) → (point_at nowhere_gate moved at).state ≡ 0
+    nowhere_at true at = refl
+    nowhere_at false at = by_place (nat_eq at 0)
+      where
+        by_place : (v : Bool) → (if v then nowhere else nowhere).state ≡ 0
+        by_place true = refl
+        by_place false = refl
+
+    pub serves_none : AreNodes nodes → (exits : Gate) → Serves nodes text none exits nowhere_gate
+    serves_none are exits = record {
+      ordered = λ at held within. tt;
+      leads = λ at held moved within past. (
+        (λ taken. absurd (nothing_taken are.dead (subst (λ (n : ℕ). Takes nodes n (drop at text)) (nowhere_at moved at) taken))),
+        (λ some. absurd some),
+      );
+    }
+
     all_if : (at end : ℕ) (held : Turns) (v : Bool) → (v ≡ true → (at ≤ end) × (end ≤ length text)) → AllByRecursion (λ (way : Way Turns). (at ≤ way.end) × (way.end ≤ length text)) (if v then stop end held else [])
     all_if at end held true ordered = (ordered refl, tt)
     all_if at end held false ordered = tt
@@ -207,40 +283,46 @@ module _ (nodes : List Node) where
     if_exists P end held true (inr none) = absurd none
     if_exists P end held false some = absurd some
 
-    record Fits (test : ℕ → Bool) (at : ℕ) : Type 0 where
+    record Fits (part : Part) (test : ℕ → Bool) (at : ℕ) : Type 0 where
       pub on : GoesOn text at
-      pub fits : test on.byte ≡ true
+      pub byte : ℕ
+      pub sees : seen_in part on.byte ≡ Some byte
+      pub fits : test byte ≡ true
 
-    fits : (test : ℕ → Bool) (at : ℕ) → meets test (slice_get text at) ≡ true → Fits test at
-    fits test at is = elim (goes_on text at) [
-      | inl past ↦ absurd (let f = ap (meets test) past.0 in cc)
-      | inr on ↦ record { on = on; fits = sym (ap (meets test) on.here) ∙ is }
+    fits_seen : (part : Part) (test : ℕ → Bool) (at : ℕ) (on : GoesOn text at) (sight : Option ℕ) → seen_in part on.byte ≡ sight → meets test sight ≡ true → Fits part test at
+    fits_seen part test at on None sees is = absurd (let f = is in cc)
+    fits_seen part test at on (Some byte) sees is = record { on = on; byte = byte; sees = sees; fits = is }
+
+    fits : (part : Part) (test : ℕ → Bool) (at : ℕ) → meets test (seen part text at) ≡ true → Fits part test at
+    fits part test at is = elim (goes_on text at) [
+      | inl past ↦ absurd (let f = ap (λ (o : Option ℕ). meets test (seen_at part o)) past.0 in cc)
+      | inr on ↦ fits_seen part test at on (seen_in part on.byte) refl (sym (ap (λ (o : Option ℕ). meets test (seen_at part o)) on.here) ∙ is)
     ]
 
-    pub serves_step : (set : ByteSet) (test : ℕ → Bool) (exits : Gate) (entry : Point) → ((byte : ℕ) → test byte ≡ has_byte set byte) → slice_get nodes entry.state ≡ Some (Step set exits.moved.state)
-        → (entries : Gate) → ((moved : Bool) (at : ℕ) → point_at entries moved at ≡ entry) → Serves nodes text (step_where text test) exits entries
-    serves_step set test exits entry same step entries are = record {
-      ordered = λ at held within. all_if at (at + 1) held (meets test (slice_get text at)) (λ is. let w = (fits test at is).on.within in (omega arith, omega arith));
+    pub serves_step : (part : Part) (set : ByteSet) (test : ℕ → Bool) (exits : Gate) (entry : Point) → ((byte : ℕ) → test byte ≡ has_byte set byte) → slice_get nodes entry.state ≡ Some (step_node part set exits.moved.state)
+        → (entries : Gate) → ((moved : Bool) (at : ℕ) → point_at entries moved at ≡ entry) → Serves nodes text (step_by (seen part text) test) exits entries
+    serves_step part set test exits entry same step entries are = record {
+      ordered = λ at held within. all_if at (at + 1) held (meets test (seen part text at)) (λ is. let w = (fits part test at is).on.within in (omega arith, omega arith));
       leads = λ at held moved within past. (
         (λ taken.
-            let byte = byte_taken set exits.moved.state step (subst (λ (p : Point). Takes nodes p.state (drop at text)) (are moved at) taken) in
+            let byte = byte_taken part set exits.moved.state step (subst (λ (p : Point). Takes nodes p.state (drop at text)) (are moved at) taken) in
             elim (goes_on text at) [
               | inl end ↦ absurd (let e = byte.is in let f = end.1 in cc)
               | inr on ↦
-                  let both : byte.byte ∷ byte.rest ≡ on.byte ∷ drop (at + 1) text = sym byte.is ∙ on.rest in
-                  let bytes : byte.byte ≡ on.byte = cc in
+                  let both : byte.letter ∷ byte.rest ≡ on.byte ∷ drop (at + 1) text = sym byte.is ∙ on.rest in
+                  let letters : byte.letter ≡ on.byte = cc in
                   let rests : byte.rest ≡ drop (at + 1) text = cc in
-                  exists_if _ (at + 1) held (meets test (slice_get text at))
-                  (ap (meets test) on.here ∙ same on.byte ∙ subst (λ (b : ℕ). has_byte set b ≡ true) bytes byte.has)
+                  exists_if _ (at + 1) held (meets test (seen part text at))
+                  (ap (λ (o : Option ℕ). meets test (seen_at part o)) on.here ∙ ap (λ (l : ℕ). meets test (seen_in part l)) (sym letters) ∙ ap (meets test) byte.sees ∙ same byte.byte ∙ byte.has)
                   (same_point exits true (moved || nat_lt at (at + 1)) (at + 1) (sym (further moved at (at + 1) (omega arith)))
                   (subst (λ (t : List ℕ). Takes nodes exits.moved.state t) rests byte.taken))
             ]),
         (λ some.
-            let found = if_exists _ (at + 1) held (meets test (slice_get text at)) some in
-            let fit = fits test at found.0 in
+            let found = if_exists _ (at + 1) held (meets test (seen part text at)) some in
+            let fit = fits part test at found.0 in
             let taken = same_point exits (moved || nat_lt at (at + 1)) true (at + 1) (further moved at (at + 1) (omega arith)) found.1 in
             subst (λ (p : Point). Takes nodes p.state (drop at text)) (sym (are moved at))
-            (subst (λ (t : List ℕ). Takes nodes entry.state t) (sym fit.on.rest) (by_byte step (sym (same fit.on.byte) ∙ fit.fits) taken))),
+            (subst (λ (t : List ℕ). Takes nodes entry.state t) (sym fit.on.rest) (takes_byte part set exits.moved.state fit.on.byte fit.byte step fit.sees (sym (same fit.byte) ∙ fit.fits) taken))),
       );
     }
 
@@ -395,6 +477,35 @@ module _ (nodes : List Node) where
         by_place : (v : Bool) → (if v then nowhere else nowhere).state ≡ 0
         by_place true = refl
         by_place false = refl
+
+    alone_at : (turn : Gate) (moved : Bool) (at : ℕ) → (moved ≡ true → 0 < at) → point_at (alone_gate turn) moved at ≡ point_at turn false at
+    alone_at turn false at past = refl
+    alone_at turn true at past = by_place (nat_eq at 0) refl
+      where
+        by_place : (v : Bool) → nat_eq at 0 ≡ v → turn.still ≡ (if v then turn.first else turn.still)
+        by_place true is = absurd (let e = eqb-true at 0 is in let p = past refl in omega arith)
+        by_place false is = refl
+
+    -- Only the ways that move lead through the gate behind a turn.
+    pub serves_moving : AreNodes nodes → (body : Ways Turns) (exits turn : Gate) → Serves nodes text body (behind_turn exits.moved) turn → Serves nodes text (moving body) exits (alone_gate turn)
+    serves_moving are body exits turn serves = record {
+      ordered = λ at held within. all_filtered _ (λ way. nat_lt at way.end) (body at held) (serves.ordered at held within);
+      leads = λ at held moved within past. (
+        (λ taken.
+            to_filtered _ (λ way. nat_lt at way.end) (body at held)
+            (exists_as _ _ (body at held)
+            (λ way there.
+            let found = behind_to are exits.moved way.end (nat_lt at way.end) there in
+            (same_point exits true (moved || nat_lt at way.end) way.end (sym (further moved at way.end (ltb-true at way.end found.0))) found.1, found.0))
+            ((serves.leads at held false within (λ e. absurd (let f = e in cc))).0 (subst (λ (p : Point). Takes nodes p.state (drop at text)) (alone_at turn moved at past) taken)))),
+        (λ some.
+            subst (λ (p : Point). Takes nodes p.state (drop at text)) (sym (alone_at turn moved at past))
+            ((serves.leads at held false within (λ e. absurd (let f = e in cc))).1
+            (exists_as _ _ (body at held)
+            (λ way there. same_point (behind_turn exits.moved) true (nat_lt at way.end) way.end (sym there.1) (same_point exits (moved || nat_lt at way.end) true way.end (further moved at way.end (ltb-true at way.end there.1)) there.0))
+            (from_filtered _ (λ way. nat_lt at way.end) (body at held) some)))),
+      );
+    }
 
     module _ (are : AreNodes nodes) (greedy : Bool) (body : Ways Turns) (is_bounded : Bounded (length text) body) (exits turn entries : Gate)
         (serves : Serves nodes text body (behind_turn entries.moved) turn)

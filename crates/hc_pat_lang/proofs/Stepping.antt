@@ -10,7 +10,7 @@ use Rattle.hc_pattern.specs.declared.set.ByteSet.{ByteSet}
 use Rattle.hc_pat_lang.specs.Added.{AddsReading, AddsSilent}
 use Rattle.hc_pat_lang.specs.Matching.{IsRunOf, IsClassBelow, IsClass, IsByteBelow, IsForkBelow, EndBelow, ReadsNode}
 use Rattle.hc_pat_lang.specs.Nodes.{Takes, AreNodes}
-use Rattle.hc_pat_lang.specs.Nodes.Takes.{at_end, by_byte, by_first, by_second}
+use Rattle.hc_pat_lang.specs.Nodes.Takes.{at_end, by_byte, by_marked, by_first, by_second}
 use Rattle.hc_pat_lang.specs.declared.nodes.Node.{Node}
 use Rattle.hc_pat_lang.specs.declared.nodes.Node.TheVariants.{Step, Fork}
 use Rattle.hc_pat_lang.proofs.Adding.{more_as, more_pushed, reads_more, reads_pushed}
@@ -174,14 +174,15 @@ module _ (nodes : List Node) (are : AreNodes nodes) (m : Steps) (Begins : ℕ �
   ]
   to_taken {node = node} (read_byte {next = next} {byte = byte} reads rest) = elim (made.reads node byte next reads) [
     | inl none ↦ absurd none
-    | inr is ↦ by_byte is.node is.leads.has (to_taken rest)
+    | inr is ↦ by_byte is.node is.leads.below is.leads.has (to_taken rest)
   ]
 
   from_taken : {node : ℕ} {text : List ℕ} → IsText text → node < length nodes → Takes nodes node text → PathToFinal m node text
   from_taken {node = node} bytes below (at_end end) = ends (made.finals.all node (inr (below, end)))
-  from_taken {node = node} bytes below (by_byte {to = to} {byte = byte} {set = set} step has rest) =
+  from_taken {node = node} bytes below (by_byte {to = to} {byte = byte} {set = set} step small has rest) =
       read_byte (made.leads node byte to (inr (record { set = set; below = below; node = step; leads = record { leaves = refl; below = bytes.0; has = has; enters = refl } })))
       (from_taken bytes.1 (are.within node (Step set to) step) rest)
+  from_taken bytes below (by_marked step small has rest) = absurd (let b = bytes.0 in omega arith)
   from_taken {node = node} bytes below (by_first {first = first} {second = second} fork rest) =
       let step : SilentStep = record { from = node; to = first } in
       silently {next = first} (record {

@@ -7,6 +7,7 @@ use Rattle.hc_ways.specs.Kept.{Turns}
 use Rattle.hc_pat_lang.specs.Nodes.{AgreesFrom, AreNodes, Takes}
 use Rattle.hc_pat_lang.specs.declared.gates.Gate.{Gate}
 use Rattle.hc_pat_lang.specs.declared.gates.Point.{Point}
+use Rattle.hc_pat_lang.specs.declared.chosen.Turns.{Turns as Both}
 use Rattle.hc_pat_lang.specs.declared.nodes.Node.{Node}
 
 -- It holds of some element.
@@ -71,3 +72,8 @@ pub record IsFragment (ways : List ℕ → Ways Turns) (exits : Gate) (old new :
   pub ends : (later : List Node) → AreNodes later → AgreesFrom (length old) new later → KeepsEnds later exits entries
   pub serves : (later : List Node) → AreNodes later → AgreesFrom (length old) new later → KnowsEnds later exits
       → (text : List ℕ) → Serves later text (ways text) exits entries
+
+-- Both gates of turns lead to the exits, the one by all ways and the other by those with a chosen turn.
+pub record AreTurns (all chosen : List ℕ → Ways Turns) (exits : Gate) (old new : List Node) (turns : Both) : Type 0 where
+  pub all_ways : IsFragment all exits old new turns.all
+  pub chosen_ways : IsFragment chosen exits old new turns.chosen

@@ -1,10 +1,9 @@
 -- The gates that are made of gates.
 use Rattle.std.specs.Prelude.{◌≡◌, ◌||◌, List, [], ◌∷◌, ◌++◌, length, true, false, if◌then◌else◌}
-use Rattle.hc_pattern.specs.declared.set.ByteSet.{ByteSet}
 use Rattle.hc_pat_lang.specs.declared.gates.Gate.{Gate}
 use Rattle.hc_pat_lang.specs.declared.gates.Point.{Point}
 use Rattle.hc_pat_lang.specs.declared.nodes.Node.{Node}
-use Rattle.hc_pat_lang.specs.declared.nodes.Node.TheVariants.{Step, Fork}
+use Rattle.hc_pat_lang.specs.declared.nodes.Node.TheVariants.{Fork}
 
 -- The first node, which takes no text.
 abbrev pub nowhere : Point
@@ -29,9 +28,13 @@ finish_gate gate = record { first = finish_point gate.first; still = finish_poin
 abbrev pub start_gate : Gate → Gate
 start_gate gate = record { first = gate.first; still = nowhere; moved = nowhere }
 
--- A new node for a byte of the set.
-pub record IsStep (old new : List Node) (set : ByteSet) (exits entries : Gate) : Type 0 where
-  pub nodes : new ≡ old ++ Step set exits.moved.state ∷ []
+-- The second node wherever a byte has been taken or a place has been left.
+abbrev pub alone_gate : Gate → Gate
+alone_gate gate = record { first = gate.first; still = gate.still; moved = gate.still }
+
+-- A new node, which takes no empty text.
+pub record IsStep (old new : List Node) (node : Node) (entries : Gate) : Type 0 where
+  pub nodes : new ≡ old ++ node ∷ []
   pub first : entries.first ≡ record { state = length old; ends = false }
   pub still : entries.still ≡ record { state = length old; ends = false }
   pub moved : entries.moved ≡ record { state = length old; ends = false }

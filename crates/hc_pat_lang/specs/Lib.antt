@@ -4,6 +4,8 @@ pub mod Added
 pub mod Led
 pub mod Merging
 pub mod Nodes
+pub mod Turned
+pub mod Walked
 pub mod Gates
 pub mod Fragments
 pub mod Matching

@@ -4,7 +4,7 @@ ghost use Rattle.hc_pat_lang.specs.Found.{IsFound};
 ghost use Rattle.hc_pat_lang.specs.Matching.{IsFull, LooksFor};
 ghost use Rattle.hc_pat_lang.specs.Sets.{AcceptsOnly};
 
-use crate::gates::Gate;
+use crate::gates::{Gate, Part};
 use crate::nodes::{Node, Nodes};
 use crate::table::automaton_of;
 use hc_base::NoMemory;
@@ -18,7 +18,7 @@ pub fn matched(alloc: Global, pat: &Pat) -> Result<Dfa, NoMemory>
 {
     let every = every_byte();
     let mut nodes = Nodes::new(alloc, every)?;
-    let entries = nodes.build(pat, Gate::anything())?;
+    let entries = nodes.build(pat, Part::Outside, Gate::anything())?;
     let start = nodes.look_for(every, entries)?;
     let machine = nodes.machine(alloc, start)?;
     let made = automaton_of(alloc, &machine)?;
@@ -26,7 +26,7 @@ pub fn matched(alloc: Global, pat: &Pat) -> Result<Dfa, NoMemory>
 }
 
 /// The set of all bytes.
-fn every_byte() -> ByteSet
+pub fn every_byte() -> ByteSet
     ensures { IsFull result }
 {
     ByteSet::empty().complement()
@@ -34,7 +34,7 @@ fn every_byte() -> ByteSet
 
 impl Nodes {
     /// Adds nodes for what the entries take at any place, behind any bytes.
-    fn look_for(&mut self, every: ByteSet, entries: Gate) -> Result<u32, NoMemory>
+    pub fn look_for(&mut self, every: ByteSet, entries: Gate) -> Result<u32, NoMemory>
         ensures { IfOk result (LooksFor self.old.list.items self.new.list.items every entries) }
     {
         let later = self.add(Node::Dead)?;

@@ -1,6 +1,7 @@
 ghost use Rattle.std.specs.Prelude.{◌≡◌, ◌||◌, ◌++◌, ◌∷◌, [], IfOk, if◌then◌else◌, length};
 ghost use Rattle.hc_pat_lang.specs.Fragments.{IsReady};
-ghost use Rattle.hc_pat_lang.specs.Gates.{IsJoin, IsFork, IsStep, anything, finish_gate, finish_point, nowhere, nowhere_gate, start_gate};
+ghost use Rattle.hc_pat_lang.specs.Gates.{IsJoin, IsFork, IsStep, alone_gate, anything, finish_gate, finish_point, nowhere, nowhere_gate, start_gate};
+ghost use Rattle.hc_pat_lang.specs.Turned.{leaves_out, step_node};
 
 use crate::nodes::{Node, Nodes};
 use hc_base::NoMemory;
@@ -21,6 +22,40 @@ pub struct Gate {
     pub first: Point,
     pub still: Point,
     pub moved: Point,
+}
+
+/// Which ways of a pattern nodes are made for, and whether their bytes are those of the chosen turn of a
+/// group.
+#[derive(Clone, Copy)]
+pub enum Part {
+    /// All ways, before or behind the turn.
+    Outside,
+    /// All ways, in the turn.
+    Inside,
+    /// The ways without a turn of the group, where none is chosen.
+    Without(u8),
+}
+
+impl Part {
+    /// Whether the ways through this group are left out.
+    pub fn leaves_out(self, number: u8) -> bool
+        ensures { result ≡ leaves_out self number }
+    {
+        match self {
+            Part::Outside | Part::Inside => false,
+            Part::Without(group) => group == number,
+        }
+    }
+
+    /// The node for a byte of the set, and then the texts of another node.
+    fn step(self, set: ByteSet, to: u32) -> Node
+        ensures { result ≡ step_node self set to }
+    {
+        match self {
+            Part::Outside | Part::Without(_) => Node::Step(set, to),
+            Part::Inside => Node::Marked(set, to),
+        }
+    }
 }
 
 impl Point {
@@ -82,6 +117,16 @@ impl Gate {
         Gate { moved, ..self }
     }
 
+    /// The gate of a turn that has to take a byte, whether the turn around it has taken one or not.
+    pub fn alone(self) -> Gate
+        ensures { result ≡ alone_gate self }
+    {
+        Gate {
+            moved: self.still,
+            ..self
+        }
+    }
+
     /// The gate before a `^`.
     pub fn start(self) -> Gate
         ensures { result ≡ start_gate self }
@@ -107,10 +152,10 @@ impl Gate {
 
 impl Nodes {
     /// A node for a byte of the set.
-    pub fn step(&mut self, set: ByteSet, exits: Gate) -> Result<Gate, NoMemory>
-        ensures { IfOk result (IsStep self.old.list.items self.new.list.items set exits) }
+    pub fn step(&mut self, set: ByteSet, part: Part, exits: Gate) -> Result<Gate, NoMemory>
+        ensures { IfOk result (IsStep self.old.list.items self.new.list.items (step_node part set exits.moved.state)) }
     {
-        let state = self.add(Node::Step(set, exits.moved.state))?;
+        let state = self.add(part.step(set, exits.moved.state))?;
         let point = Point { state, ends: false };
         Ok(Gate {
             first: point,

@@ -2,8 +2,10 @@
 #![tactic(auto)]
 
 mod build;
+mod chosen;
 mod finding;
 mod gates;
+mod held;
 mod joined;
 pub mod laws;
 mod nodes;
@@ -11,8 +13,10 @@ mod quotients;
 mod slashes;
 mod steps;
 mod table;
+mod walk;
 
 pub use finding::matched;
+pub use held::group_texts;
 pub use joined::concat;
 pub use quotients::{prefix_quotient, suffix_quotient};
 pub use slashes::merge_slashes;

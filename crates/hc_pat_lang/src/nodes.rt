@@ -14,6 +14,8 @@ pub enum Node {
     End,
     /// A byte of the set, and then the texts of another node.
     Step(ByteSet, u32),
+    /// The same, for a byte in the chosen turn of a group.
+    Marked(ByteSet, u32),
     /// The texts of either node.
     Fork(u32, u32),
 }

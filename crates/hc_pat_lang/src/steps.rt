@@ -28,7 +28,7 @@ impl Nodes {
         Ok(machine)
     }
 
-    fn node(&self, number: u32) -> Node
+    pub fn node(&self, number: u32) -> Node
         requires { number < length self.now.list.items }
         ensures { slice_get self.now.list.items number ≡ Some result }
     {

@@ -1,5 +1,8 @@
 use Rattle.hc_pattern.specs.Pattern.{pattern_of}
-use Rattle.hc_pat_lang.proofs.Looking.{first_ready, looked, taken_found}
+use Rattle.hc_pat_lang.specs.Turned.{part_ways}
+use Rattle.hc_pat_lang.specs.declared.gates.Part.TheVariants.{Outside}
+use Rattle.hc_pat_lang.proofs.Looking.{first_ready, looked, taken_finds}
+use Rattle.hc_pat_lang.proofs.Unmarked.{finds_plain}
 use Rattle.hc_pat_lang.proofs.finding.matched.Goals as goal
 
 pub build-requires : goal.build-requires
@@ -16,7 +19,8 @@ returns c text bytes =
     let every = c.every_byte-every.result in
     let fragment = rw (c.anything.ensures, c.in_ok-nodes.ensures) at c.in_ok-entries.ensures in
     let look = looked _ _ every _ _ c.in_ok-entries.ensures.ready c.in_ok-start.ensures in
-    let found = taken_found every c.every_byte-every.ensures (pattern_of c.args.pat.now) _ _ _ _ fragment look text bytes in
+    let finds = taken_finds every c.every_byte-every.ensures (λ other. part_ways Outside other (pattern_of c.args.pat.now)) _ _ _ _ fragment look text in
+    let found = finds_plain (pattern_of c.args.pat.now) text bytes in
     let reads = c.in_ok-machine.ensures text bytes in
     let accepts = c.in_ok-made.ensures text bytes in
-    ((λ accepted. found.0 (reads.0 (accepts.0 accepted))), (λ is. accepts.1 (reads.1 (found.1 is))))
+    ((λ accepted. found.0 (finds.0 (reads.0 (accepts.0 accepted)))), (λ is. accepts.1 (reads.1 (finds.1 (found.1 is)))))

@@ -1,11 +1,12 @@
 use Rattle.std.proofs.Common.{◌≡◌, ℕ, [], ◌∙◌, Some, ap, arith, rules, subst, sym}
 use Rattle.hc_pattern.specs.Pattern.{alt, byte, cat, finish, pattern_of}
-use Rattle.hc_ways.specs.Kept.{all_ways}
 use Rattle.hc_ways.specs.Ways.{stop, turns_then, turns_up_to}
 use Rattle.hc_pat_lang.specs.Fragments.{IsFragment}
+use Rattle.hc_pat_lang.specs.Turned.{part_ways}
+use Rattle.hc_pat_lang.proofs.Bounds.{bounded_part}
 use Rattle.hc_pat_lang.specs.declared.gates.Gate.{Gate}
 use Rattle.hc_pat_lang.specs.declared.gates.Point.{Point}
-use Rattle.hc_pat_lang.proofs.Fragmenting.{behind_ready, fragment_any, fragment_behind, fragment_either, fragment_finish, fragment_grouped, fragment_optional, fragment_repeat, fragment_then, fragment_turn}
+use Rattle.hc_pat_lang.proofs.Fragmenting.{behind_ready, fragment_any, fragment_behind, fragment_either, fragment_finish, fragment_grouped, fragment_none, fragment_optional, fragment_repeat, fragment_then, fragment_turn}
 use Rattle.hc_pat_lang.proofs.Serving.{behind_turn}
 use Rattle.hc_pat_lang.proofs.Views.{pattern-alt, pattern-byte, pattern-cat, pattern-finish}
 use Rattle.hc_pat_lang.proofs.nodes.Nodes.+build.Goals as goal
@@ -30,22 +31,25 @@ build-returns-in_ok-entries-in-Alt t c =
     let e : pattern_of c.args.pat.now ≡ alt (pattern_of c.in-Alt.first.value) (pattern_of c.in-Alt.second.value) = ap pattern_of c.in-Alt.is ∙ pattern-alt c.in-Alt.first c.in-Alt.second in
     rw e (fragment_either _ _ _ _ _ _ _ _ _ _ (rw c.deref-in-Alt.ensures at c.in_ok-one-in-Alt.ensures) (rw c.deref-in-Alt-2.ensures at c.in_ok-other-in-Alt.ensures) c.in_ok-entries-in-Alt.ensures)
 
+pub group-returns-then-leaves_out : goal.group-returns-then-leaves_out
+group-returns-then-leaves_out t c = rw (sym c.leaves_out.ensures ∙ c.if-leaves_out.true, c.nowhere.ensures) (fragment_none c.args.exits _ c.requires)
+
 pub group-returns : goal.group-returns
-group-returns t c = fragment_grouped c.args._number _ _ _ _ _ c.in_ok-entries.ensures
+group-returns t c = rw (sym c.leaves_out.ensures ∙ c.if-leaves_out.false) (fragment_grouped c.args.number _ _ _ _ _ c.in_ok-entries.ensures)
 
 pub repeat-returns-in_ok-entries-in-None : goal.repeat-returns-in_ok-entries-in-None
 repeat-returns-in_ok-entries-in-None t c =
-    rw c.in-None.is (fragment_then (pattern_of c.args.body.now) _ _ _ _ _ _ c.args.least _ c.in_ok-more-in-None.ensures c.in_ok-entries-in-None.ensures)
+    rw c.in-None.is (fragment_then (λ text. part_ways c.args.part text (pattern_of c.args.body.now)) _ _ _ _ _ _ c.args.least _ c.in_ok-more-in-None.ensures c.in_ok-entries-in-None.ensures)
 
 pub repeat-returns-in_ok-entries-in-Some-2 : goal.repeat-returns-in_ok-entries-in-Some-2
 repeat-returns-in_ok-entries-in-Some-2 t c =
     let both : Some c.in-Some.most ≡ Some c.in-Some-2.most = sym c.in-Some.is ∙ c.in-Some-2.is in
     let same : c.in-Some.most ≡ c.in-Some-2.most = cc in
     rw c.in-Some-2.is
-    (fragment_repeat c.args.greedy (pattern_of c.args.body.now) _ _ _ _ _ _ c.args.least c.in-Some-2.most (let f = c.if-most-least.false in omega arith) c.in_ok-more-in-Some-2.ensures c.in_ok-entries-in-Some-2.ensures)
+    (fragment_repeat c.args.greedy (λ text. part_ways c.args.part text (pattern_of c.args.body.now)) _ _ _ _ _ _ c.args.least c.in-Some-2.most (let f = c.if-most-least.false in omega arith) c.in_ok-more-in-Some-2.ensures c.in_ok-entries-in-Some-2.ensures)
 
 pub turns-loop-turn-preserved : goal.turns-loop-turn-preserved
-turns-loop-turn-preserved t c = fragment_turn (pattern_of c.args.body.now) _ _ _ _ _ _ c.loop-turn._turn c.loop-turn.invariant c.in_ok-gate.ensures
+turns-loop-turn-preserved t c = fragment_turn (λ text. part_ways c.args.part text (pattern_of c.args.body.now)) _ _ _ _ _ _ c.loop-turn._turn c.loop-turn.invariant c.in_ok-gate.ensures
 
 pub any_turns-build-requires : goal.any_turns-build-requires
 any_turns-build-requires t c =
@@ -59,20 +63,20 @@ pub any_turns-returns : goal.any_turns-returns
 any_turns-returns t c =
     let again : Point = record { state = c.in_ok-add.field-0; ends = c.args.exits.moved.ends } in
     let behind : c.with_moved-behind.result ≡ behind_turn [] [] again = c.with_moved-behind.ensures ∙ ap (λ (g : Gate). record g { moved = again }) c.nowhere.ensures in
-    fragment_any c.args._greedy (pattern_of c.args.body.now) c.args.exits c.in_ok-turn.turn again c.in_ok-first.first c.in_ok-still.still _ _ _ _ _ _ c.requires c.in_ok-add.ensures.ok
+    fragment_any c.args._greedy (λ text. part_ways c.args.part text (pattern_of c.args.body.now)) c.args.exits c.in_ok-turn.turn again c.in_ok-first.first c.in_ok-still.still _ _ _ _ _ _ (λ text. bounded_part c.args.part text (pattern_of c.args.body.now)) c.requires c.in_ok-add.ensures.ok
     (ap (λ (n : ℕ). record { state = n; ends = c.args.exits.moved.ends }) c.in_ok-add.ensures.number)
     (rw behind at c.in_ok-turn.ensures) (rw c.in_ok-add.ensures.number at c.set.ensures) c.in_ok-first.ensures c.in_ok-still.ensures
 
 pub turns-returns : goal.turns-returns
 turns-returns t c =
     let e : c.loop-turn._turn ≡ c.args.count = omega arith in
-    subst (λ (n : ℕ). IsFragment (λ text. turns_then (all_ways text (pattern_of c.args.body.now)) n stop) c.args.exits c.args.self.now.list.items c.loop-turn.self.list.items c.loop-turn.gate) e c.loop-turn.invariant
+    subst (λ (n : ℕ). IsFragment (λ text. turns_then (part_ways c.args.part text (pattern_of c.args.body.now)) n stop) c.args.exits c.args.self.now.list.items c.loop-turn.self.list.items c.loop-turn.gate) e c.loop-turn.invariant
 
 pub turns_up_to-loop-turn-preserved : goal.turns_up_to-loop-turn-preserved
 turns_up_to-loop-turn-preserved t c =
-    fragment_optional c.args._greedy (pattern_of c.args.body.now) _ _ _ _ _ _ _ _ c.loop-turn._turn c.requires.below c.loop-turn.invariant c.in_ok-turn.ensures c.in_ok-gate.ensures
+    fragment_optional c.args._greedy (λ text. part_ways c.args.part text (pattern_of c.args.body.now)) _ _ _ _ _ _ _ _ c.loop-turn._turn c.requires.below c.loop-turn.invariant c.in_ok-turn.ensures c.in_ok-gate.ensures
 
 pub turns_up_to-returns : goal.turns_up_to-returns
 turns_up_to-returns t c =
     let e : c.loop-turn._turn ≡ c.args.count = omega arith in
-    subst (λ (n : ℕ). IsFragment (λ text. turns_up_to c.args._greedy (all_ways text (pattern_of c.args.body.now)) n) c.args.exits c.args.self.now.list.items c.loop-turn.self.list.items c.loop-turn.gate) e c.loop-turn.invariant
+    subst (λ (n : ℕ). IsFragment (λ text. turns_up_to c.args._greedy (part_ways c.args.part text (pattern_of c.args.body.now)) n) c.args.exits c.args.self.now.list.items c.loop-turn.self.list.items c.loop-turn.gate) e c.loop-turn.invariant

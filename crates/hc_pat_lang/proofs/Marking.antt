@@ -1,0 +1,266 @@
+-- The ways of a pattern with a given turn of the group, through a text in which the bytes of this turn are marked.
+use Rattle.std.proofs.Common.{◌≡◌, ℕ, zero, suc, ◌+◌, ◌-◌, ◌<◌, ◌≤◌, ◌⊎◌, Bool, true, false, List, [], ◌∷◌, ◌++◌, length, if◌then◌else◌, nat_lt, nat_eq, Some, None, slice_get, refl, sym, ap, subst, inl, inr, arith, eq-eqb, ltb-true, lt-ltb}
+use Rattle.std.specs.List.{Contains}
+use Rattle.std.proofs.lemmas.List.Elements.{Contains-push_cases}
+use Rattle.hc_base.specs.declared.place.Span.{Span}
+use Rattle.hc_pattern.specs.Bits.{has_byte}
+use Rattle.hc_pattern.specs.Pattern.{Pattern, empty, byte, class, start, finish, cat, alt, group, repeat}
+use Rattle.hc_ways.specs.Ways.{Way, Ways, none, stop, behind, either, meets, closed, grouped, preferred, moving, any_turns, turns_up_to, turns_then}
+use Rattle.hc_ways.specs.Kept.{Turns, all_ways, with_turn}
+use Rattle.hc_ways.proofs.Behind.{behind-behind, behind-preferred, turn_or_next}
+use Rattle.hc_ways.proofs.Turns.{Bounded, any_turns_is, bounded, enough_turns}
+use Rattle.hc_pat_lang.specs.Fragments.{Exists}
+use Rattle.hc_pat_lang.specs.Turned.{chosen_any, chosen_behind, chosen_then, chosen_up_to, chosen_ways, part_ways, seen}
+use Rattle.hc_pat_lang.specs.declared.gates.Part.{Part}
+use Rattle.hc_pat_lang.specs.declared.gates.Part.TheVariants.{Outside, Inside}
+use Rattle.hc_pat_lang.proofs.Bounds.{bounded_part}
+use Rattle.hc_pat_lang.proofs.Choosing.{SeenOutside, SeesAll, all_among, fresh, sees_all, sees_rest}
+use Rattle.hc_pat_lang.proofs.Parts.{exists_as, exists_left, exists_right, exists_cases, to_flat, from_flat, from_mapped, to_filtered, from_filtered, exists_among, among_exists}
+use Rattle.hc_pat_lang.proofs.Seeing.{Grown, sees_any, sees_moving, sees_part, sees_then, sees_up_to}
+
+module _ (marked text : List ℕ) (same : length marked ≡ length text) (reads : (part : Part) (k b : ℕ) → seen part marked k ≡ Some b → slice_get text k ≡ Some b) (number : ℕ) (span : Span)
+    (outside : (k : ℕ) → (k < span.start) ⊎ (span.end ≤ k) → seen Outside marked k ≡ slice_get text k) (inside : (k : ℕ) → span.start ≤ k → k < span.end → seen Inside marked k ≡ slice_get text k) where
+  abbrev All : Ways Turns → Ways Turns → Type 1
+  All a b = SeesAll marked text same reads number a b
+
+  abbrev Ends : ℕ → Way Turns → Type 0
+  Ends end way = way.end ≡ end
+
+  -- Where a way keeps the turn, it was kept before, or there is a way with the turn chosen.
+  abbrev FromChosen : Ways Turns → Ways Turns → Type 0
+  FromChosen a b = (at : ℕ) (one other : Turns) (way : Way Turns) → at ≤ length text → Contains (b at other) way → Contains way.held (number, span) → Contains other (number, span) ⊎ Exists (Ends way.end) (a at one)
+
+  from_none : (b : Ways Turns) → ((at : ℕ) (other : Turns) (way : Way Turns) → Contains (b at other) way → way.held ≡ other) → FromChosen none b
+  from_none b held at one other way within among turn = inl (subst (λ (h : Turns). Contains h (number, span)) (held at other way among) turn)
+
+  stops_held : (v : Bool) (end : ℕ) (other : Turns) (way : Way Turns) → Contains (if v then stop end other else []) way → way.held ≡ other
+  stops_held true end other way among = elim (among_exists (λ (w : Way Turns). w ≡ way) (stop end other) way among refl) [
+    | inl e ↦ sym (ap (λ (w : Way Turns). w.held) e)
+    | inr isnt ↦ absurd isnt
+  ]
+  stops_held false end other way among = absurd (let w = among.1 in omega arith)
+
+  from_turn : (greedy : Bool) (turn : Ways Turns) (at : ℕ) (other : Turns) (way : Way Turns) → Contains (preferred greedy turn at other) way → (way.held ≡ other) ⊎ Contains (turn at other) way
+  from_turn greedy turn at other way among = by_greed greedy among
+    where
+      in_turn : Exists (λ (w : Way Turns). w ≡ way) (turn at other) → Contains (turn at other) way
+      in_turn some = let found = exists_among _ (turn at other) some in subst (λ (w : Way Turns). Contains (turn at other) w) found.2 found.1
+
+      by_greed : (g : Bool) → Contains (preferred g turn at other) way → (way.held ≡ other) ⊎ Contains (turn at other) way
+      by_greed true here = elim (exists_cases _ (turn at other) (stop at other) (among_exists (λ (w : Way Turns). w ≡ way) (turn at other ++ stop at other) way here refl)) [
+        | inl turned ↦ inr (in_turn turned)
+        | inr own ↦ elim own [ inl e ↦ inl (sym (ap (λ (w : Way Turns). w.held) e)) | inr isnt ↦ absurd isnt ]
+      ]
+      by_greed false here = elim (among_exists (λ (w : Way Turns). w ≡ way) (record { end = at; held = other } ∷ turn at other) way here refl) [
+        | inl e ↦ inl (sym (ap (λ (w : Way Turns). w.held) e))
+        | inr turned ↦ inr (in_turn turned)
+      ]
+
+  -- ---- one behind the other
+
+  record Split (b1 b2 : Ways Turns) (at : ℕ) (other : Turns) (way : Way Turns) : Type 0 where
+    pub middle : Way Turns
+    pub first : Contains (b1 at other) middle
+    pub second : Contains (b2 middle.end middle.held) way
+
+  split : (b1 b2 : Ways Turns) (at : ℕ) (other : Turns) (way : Way Turns) → Contains (behind b1 b2 at other) way → Split b1 b2 at other way
+  split b1 b2 at other way among =
+      let found = exists_among _ (b1 at other) (from_flat (λ (w : Way Turns). w ≡ way) (λ (w : Way Turns). b2 w.end w.held) (b1 at other) (among_exists (λ (w : Way Turns). w ≡ way) (behind b1 b2 at other) way among refl)) in
+      let last = exists_among _ (b2 found.0.end found.0.held) found.2 in
+      record { middle = found.0; first = found.1; second = subst (λ (w : Way Turns). Contains (b2 found.0.end found.0.held) w) last.2 last.1 }
+
+  put_behind : (a b : Ways Turns) (at middle end : ℕ) (one : Turns) → Exists (Ends middle) (a at one) → ((held : Turns) → Exists (Ends end) (b middle held)) → Exists (Ends end) (behind a b at one)
+  put_behind a b at middle end one first second =
+      to_flat _ (λ (w : Way Turns). b w.end w.held) (a at one) (exists_as _ _ (a at one) (λ way e. subst (λ (n : ℕ). Exists (Ends end) (b n way.held)) (sym e) (second way.held)) first)
+
+  module _ (l1 a1 l2 a2 b1 b2 : Ways Turns) (first : All l1 b1) (chosen : FromChosen a1 b1) (at : ℕ) (one other : Turns) (way : Way Turns) (within : at ≤ length text)
+      (grown : (middle : Way Turns) → Contains (b1 at other) middle → Contains (b2 middle.end middle.held) way → Grown text middle.end middle.held way)
+      (sees : (middle : Way Turns) → Contains (b1 at other) middle → Contains (b2 middle.end middle.held) way → SeenOutside marked text same reads number middle.end way.end → (held : Turns) → Exists (Ends way.end) (l2 middle.end held))
+      (chooses : (middle : Way Turns) → Contains (b1 at other) middle → Contains (b2 middle.end middle.held) way → (held : Turns) → Contains middle.held (number, span) ⊎ Exists (Ends way.end) (a2 middle.end held)) where
+    from_first : (middle : Way Turns) → Contains (b1 at other) middle → Contains (b2 middle.end middle.held) way → Contains middle.held (number, span) → Contains other (number, span) ⊎ Exists (Ends way.end) (chosen_behind l1 a1 l2 a2 at one)
+    from_first middle among later kept = elim (chosen at one other middle within among kept) [
+      | inl before ↦ inl before
+      | inr here ↦ elim ((all_among _ _ middle (first.grown at other within) among).new (number, span) kept) [
+        | inl before ↦ inl before
+        | inr own ↦ inr (exists_left _ (behind a1 l2 at one) (behind l1 a2 at one)
+            (put_behind a1 l2 at middle.end way.end one here (sees middle among later (λ k past below. outside k (inr (let e = own.2 in omega arith))))))
+      ]
+    ]
+
+    from_second : (middle : Way Turns) → Contains (b1 at other) middle → Contains (b2 middle.end middle.held) way → middle.end ≤ span.start → Contains other (number, span) ⊎ Exists (Ends way.end) (chosen_behind l1 a1 l2 a2 at one)
+    from_second middle among later before =
+        let found = exists_among _ (l1 at one) (first.from at one other (λ end. end ≡ middle.end) within
+        (among_exists _ _ middle among (((λ k past below. outside k (inl (omega arith))), fresh marked text same reads number middle.held), refl))) in
+        elim (chooses middle among later found.0.held) [
+          | inl kept ↦ from_first middle among later kept
+          | inr there ↦ inr (exists_right _ (behind a1 l2 at one) (behind l1 a2 at one)
+              (to_flat _ (λ (w : Way Turns). a2 w.end w.held) (l1 at one) (among_exists _ _ found.0 found.1 (subst (λ (n : ℕ). Exists (Ends way.end) (a2 n found.0.held)) (sym found.2) there))))
+        ]
+
+    from_parts : Contains (behind b1 b2 at other) way → Contains way.held (number, span) → Contains other (number, span) ⊎ Exists (Ends way.end) (chosen_behind l1 a1 l2 a2 at one)
+    from_parts among turn =
+        let parts = split b1 b2 at other way among in
+        elim ((grown parts.middle parts.first parts.second).new (number, span) turn) [
+          | inl kept ↦ from_first parts.middle parts.first parts.second kept
+          | inr own ↦ from_second parts.middle parts.first parts.second own.0
+        ]
+
+  sees_end : (l b : Ways Turns) → All l b → (middle way : Way Turns) → middle.end ≤ length text → Contains (b middle.end middle.held) way → SeenOutside marked text same reads number middle.end way.end → (held : Turns) → Exists (Ends way.end) (l middle.end held)
+  sees_end l b all middle way within among seen_on held = all.from middle.end held middle.held (λ end. end ≡ way.end) within (among_exists _ _ way among ((seen_on, fresh marked text same reads number way.held), refl))
+
+  from_behind : (l1 a1 l2 a2 b1 b2 : Ways Turns) → All l1 b1 → FromChosen a1 b1 → All l2 b2 → FromChosen a2 b2 → FromChosen (chosen_behind l1 a1 l2 a2) (behind b1 b2)
+  from_behind l1 a1 l2 a2 b1 b2 first chosen second later at one other way within among turn =
+      let in_text = λ (middle : Way Turns) (here : Contains (b1 at other) middle). let w : middle.end ≤ length text = (all_among _ _ middle (first.grown at other within) here).within in w in
+      from_parts l1 a1 l2 a2 b1 b2 first chosen at one other way within
+      (λ middle here there. all_among _ _ way (second.grown middle.end middle.held (in_text middle here)) there)
+      (λ middle here there. sees_end l2 b2 second middle way (in_text middle here) there)
+      (λ middle here there held. later middle.end held middle.held way (in_text middle here) there turn)
+      among turn
+
+  from_up_to : (greedy : Bool) (l a b : Ways Turns) (most : ℕ) → All l b → FromChosen a b → FromChosen (chosen_up_to greedy l a most) (turns_up_to greedy b most)
+  from_up_to greedy l a b zero first chosen = from_none stop (λ at other way among. stops_held true at other way among)
+  from_up_to greedy l a b (suc most) first chosen = λ at one other way within among turn.
+      elim (from_turn greedy (behind b (turns_up_to greedy b most)) at other way among) [
+        | inl held ↦ inl (subst (λ (h : Turns). Contains h (number, span)) held turn)
+        | inr turned ↦ from_behind l a _ _ b _ first chosen (sees_up_to Outside marked text same (reads Outside) greedy l b most first) (from_up_to greedy l a b most first chosen) at one other way within turned turn
+      ]
+
+  from_then : (l a b : Ways Turns) (least : ℕ) (rest chosen_rest others : Ways Turns) → All l b → FromChosen a b → All rest others → FromChosen chosen_rest others
+      → FromChosen (chosen_then l a least rest chosen_rest) (turns_then b least others)
+  from_then l a b zero rest chosen_rest others first chosen later last = last
+  from_then l a b (suc least) rest chosen_rest others first chosen later last =
+      from_behind l a _ _ b _ first chosen (sees_then Outside marked text same (reads Outside) l b least rest others first later) (from_then l a b least rest chosen_rest others first chosen later last)
+
+  -- ---- any number of turns
+
+  moved_past : (b : Ways Turns) (at : ℕ) (other : Turns) (way : Way Turns) → Contains (moving b at other) way → Contains (b at other) way × (at < way.end)
+  moved_past b at other way among =
+      let found = exists_among _ (b at other) (from_filtered (λ (w : Way Turns). w ≡ way) (λ w. nat_lt at w.end) (b at other) (among_exists (λ (w : Way Turns). w ≡ way) (moving b at other) way among refl)) in
+      (subst (λ (w : Way Turns). Contains (b at other) w) found.2.0 found.1, subst (λ (w : Way Turns). at < w.end) found.2.0 (ltb-true at found.0.end found.2.1))
+
+  from_moving : (a b : Ways Turns) → FromChosen a b → FromChosen (moving a) (moving b)
+  from_moving a b chosen at one other way within among turn =
+      let moved = moved_past b at other way among in
+      elim (chosen at one other way within moved.0 turn) [
+        | inl before ↦ inl before
+        | inr here ↦ inr (to_filtered _ (λ w. nat_lt at w.end) (a at one)
+            (exists_as _ _ (a at one) (λ w e. (e, subst (λ (n : ℕ). nat_lt at n ≡ true) (sym e) (lt-ltb at way.end moved.1))) here))
+      ]
+
+  module _ (greedy : Bool) (l a b : Ways Turns) (first : All l b) (chosen : FromChosen a b) (bounded_marked : Bounded (length marked) l) where
+    abbrev rest : Ways Turns
+    rest = any_turns greedy l (length marked)
+
+    abbrev result : Ways Turns
+    result = behind rest (behind (moving a) rest)
+
+    rest_is : rest ≡ preferred greedy (behind (moving l) rest)
+    rest_is = any_turns_is marked greedy l bounded_marked
+
+    stop_in : (P : Way Turns → Type 0) (g : Bool) (turn : Ways Turns) (at : ℕ) (held : Turns) → P (record { end = at; held = held }) → Exists P (preferred g turn at held)
+    stop_in P true turn at held here = exists_right P (turn at held) (stop at held) (inl here)
+    stop_in P false turn at held here = inl here
+
+    to_result : (at end : ℕ) (one : Turns) → Exists (Ends end) (chosen_behind (moving l) (moving a) rest result at one) → Exists (Ends end) (result at one)
+    to_result at end one some = elim (exists_cases _ (behind (moving a) rest at one) (behind (moving l) result at one) some) [
+      | inl own ↦ to_flat _ (λ (w : Way Turns). behind (moving a) rest w.end w.held) (rest at one)
+          (subst (λ (w : Ways Turns). Exists (λ (way : Way Turns). Exists (Ends end) (behind (moving a) rest way.end way.held)) (w at one)) (sym rest_is) (stop_in _ greedy (behind (moving l) rest) at one own))
+      | inr turned ↦
+          subst (λ (w : Ways Turns). Exists (Ends end) (behind w (behind (moving a) rest) at one)) (sym rest_is)
+          (subst (λ (w : Ways Turns). Exists (Ends end) (w at one)) (sym (behind-preferred greedy (behind (moving l) rest) (behind (moving a) rest)))
+          (by_greed greedy (subst (λ (w : Ways Turns). Exists (Ends end) (w at one)) (sym (behind-behind (moving l) rest (behind (moving a) rest))) turned)))
+    ]
+      where
+        by_greed : (g : Bool) → Exists (Ends end) (behind (behind (moving l) rest) (behind (moving a) rest) at one) → Exists (Ends end) (turn_or_next g (behind (behind (moving l) rest) (behind (moving a) rest)) (behind (moving a) rest) at one)
+        by_greed true here = exists_left _ (behind (behind (moving l) rest) (behind (moving a) rest) at one) (behind (moving a) rest at one) here
+        by_greed false here = exists_right _ (behind (moving a) rest at one) (behind (behind (moving l) rest) (behind (moving a) rest) at one) here
+
+    from_any_by : (k at : ℕ) (one other : Turns) (way : Way Turns) → at ≤ length text → length text ≤ at + k → Contains (any_turns greedy b k at other) way → Contains way.held (number, span) → Contains other (number, span) ⊎ Exists (Ends way.end) (result at one)
+    from_any_by zero at one other way within enough among turn = inl (subst (λ (h : Turns). Contains h (number, span)) (stops_held true at other way among) turn)
+    from_any_by (suc k) at one other way within enough among turn = elim (from_turn greedy (behind (moving b) (any_turns greedy b k)) at other way among) [
+      | inl held ↦ inl (subst (λ (h : Turns). Contains h (number, span)) held turn)
+      | inr turned ↦
+          let moved = sees_moving Outside marked text same (reads Outside) l b first in
+          let in_text = λ (middle : Way Turns) (here : Contains (moving b at other) middle). let w : middle.end ≤ length text = (all_among _ _ middle (moved.grown at other within) here).within in w in
+          let fewer = sees_any Outside marked text same (reads Outside) greedy l b k first in
+          elim (from_parts (moving l) (moving a) rest result (moving b) (any_turns greedy b k) moved (from_moving a b chosen) at one other way within
+          (λ middle here there. all_among _ _ way (fewer.grown middle.end middle.held (in_text middle here)) there)
+          (λ middle here there seen_on held.
+          subst (λ (ws : List (Way Turns)). Exists (Ends way.end) ws) (enough_turns (length marked) greedy l bounded_marked k middle.end held (let p = (moved_past b at other middle here).1 in omega arith))
+          (sees_end (any_turns greedy l k) (any_turns greedy b k) fewer middle way (in_text middle here) there seen_on held))
+          (λ middle here there held. from_any_by k middle.end held middle.held way (in_text middle here) (let p = (moved_past b at other middle here).1 in omega arith) there turn)
+          turned turn) [
+            | inl before ↦ inl before
+            | inr here ↦ inr (to_result at way.end one here)
+          ]
+    ]
+
+    from_any : FromChosen (chosen_any greedy l a (length marked)) (any_turns greedy b (length text))
+    from_any at one other way within among turn = from_any_by (length text) at one other way within (omega arith) among turn
+
+  from_if : (v : Bool) (a b : Ways Turns) → FromChosen a b → FromChosen (if v then none else a) (if v then none else b)
+  from_if true a b chosen = from_none none (λ at other way among. absurd (let w = among.1 in omega arith))
+  from_if false a b chosen = chosen
+
+  from_group : (own : ℕ) (body : Pattern) → FromChosen (chosen_ways number marked body) (all_ways text body)
+      → FromChosen (chosen_ways number marked (group own body)) (grouped with_turn own (all_ways text body))
+  from_group own body chosen at one other way within among turn =
+      let found = exists_among _ (all_ways text body at other) (from_mapped (λ (w : Way Turns). w ≡ way) (closed with_turn own at) (all_ways text body at other)
+      (among_exists (λ (w : Way Turns). w ≡ way) (grouped with_turn own (all_ways text body) at other) way among refl)) in
+      let own_span : Span = record { start = at; end = found.0.end } in
+      let kept : Contains (found.0.held ++ (own, own_span) ∷ []) (number, span) = subst (λ (w : Way Turns). Contains w.held (number, span)) (sym found.2) turn in
+      let ends : found.0.end ≡ way.end = ap (λ (w : Way Turns). w.end) found.2 in
+      elim (Contains-push_cases found.0.held (own, own_span) (number, span) kept) [
+        | inl before ↦ elim (chosen at one other found.0 within found.1 before) [
+          | inl old ↦ inl old
+          | inr here ↦ inr (subst (λ (n : ℕ). Exists (Ends n) (chosen_ways number marked (group own body) at one)) ends (by_test found.0.end (nat_eq own number) (inr here)))
+        ]
+        | inr is ↦
+            let same_number : own ≡ number = ap (λ (t : ℕ × Span). t.0) is in
+            let begins : at ≡ span.start = ap (λ (t : ℕ × Span). t.1.start) is in
+            let runs : found.0.end ≡ span.end = ap (λ (t : ℕ × Span). t.1.end) is in
+            inr (subst (λ (n : ℕ). Exists (Ends n) (chosen_ways number marked (group own body) at one)) ends
+            (by_test found.0.end (nat_eq own number) (inl (
+              eq-eqb own number same_number,
+              (sees_part Inside marked text same (reads Inside) body).from at one other (λ end. end ≡ found.0.end) within
+                  (among_exists _ _ found.0 found.1 (((λ k past below. inside k (omega arith) (omega arith)), (λ x also. refl)), refl)),
+            ))))
+      ]
+    where
+      by_test : (end : ℕ) (v : Bool) → ((v ≡ true) × Exists (Ends end) (part_ways Inside marked body at one)) ⊎ Exists (Ends end) (chosen_ways number marked body at one)
+          → Exists (Ends end) ((if v then either (part_ways Inside marked body) (chosen_ways number marked body) else chosen_ways number marked body) at one)
+      by_test end true (inl whole) = exists_left _ (part_ways Inside marked body at one) (chosen_ways number marked body at one) whole.1
+      by_test end true (inr inner) = exists_right _ (part_ways Inside marked body at one) (chosen_ways number marked body at one) inner
+      by_test end false (inl whole) = absurd (let f = whole.0 in cc)
+      by_test end false (inr inner) = inner
+
+  pub from_chosen : (pattern : Pattern) → FromChosen (chosen_ways number marked pattern) (all_ways text pattern)
+  from_chosen empty = from_none stop (λ at other way among. stops_held true at other way among)
+  from_chosen (byte b) = from_none _ (λ at other way among. stops_held (meets (λ c. nat_eq c b) (slice_get text at)) (at + 1) other way among)
+  from_chosen (class set) = from_none _ (λ at other way among. stops_held (meets (has_byte set) (slice_get text at)) (at + 1) other way among)
+  from_chosen start = from_none _ (λ at other way among. stops_held (nat_eq at 0) at other way among)
+  from_chosen finish = from_none _ (λ at other way among. stops_held (nat_eq at (length text)) at other way among)
+  from_chosen (cat first second) = from_behind _ _ _ _ _ _ (sees_all marked text same reads number first) (from_chosen first) (sees_all marked text same reads number second) (from_chosen second)
+  from_chosen (alt first second) = λ at one other way within among turn.
+      elim (exists_cases _ (all_ways text first at other) (all_ways text second at other) (among_exists (λ (w : Way Turns). w ≡ way) (all_ways text first at other ++ all_ways text second at other) way among refl)) [
+        | inl here ↦
+            let found = exists_among _ _ here in
+            elim (from_chosen first at one other way within (subst (λ (w : Way Turns). Contains (all_ways text first at other) w) found.2 found.1) turn) [
+              | inl before ↦ inl before
+              | inr some ↦ inr (exists_left _ (chosen_ways number marked first at one) (chosen_ways number marked second at one) some)
+            ]
+        | inr here ↦
+            let found = exists_among _ _ here in
+            elim (from_chosen second at one other way within (subst (λ (w : Way Turns). Contains (all_ways text second at other) w) found.2 found.1) turn) [
+              | inl before ↦ inl before
+              | inr some ↦ inr (exists_right _ (chosen_ways number marked first at one) (chosen_ways number marked second at one) some)
+            ]
+      ]
+  from_chosen (group own body) = from_group own body (from_chosen body)
+  from_chosen (repeat body least None greedy) =
+      from_then _ _ _ least _ _ _ (sees_all marked text same reads number body) (from_chosen body) (sees_rest marked text same reads number greedy _ (chosen_ways number marked body) _ (sees_all marked text same reads number body) (bounded with_turn text body))
+      (from_any greedy _ _ _ (sees_all marked text same reads number body) (from_chosen body) (bounded_part Outside marked body))
+  from_chosen (repeat body least (Some most) greedy) =
+      from_if (nat_lt most least) _ _
+      (from_then _ _ _ least _ _ _ (sees_all marked text same reads number body) (from_chosen body) (sees_up_to Outside marked text same (reads Outside) greedy _ _ (most - least) (sees_all marked text same reads number body))
+      (from_up_to greedy _ _ _ (most - least) (sees_all marked text same reads number body) (from_chosen body)))

@@ -1,0 +1,11 @@
+use Rattle.hc_dfa.specs.Machines.{IsSilent}
+use Rattle.hc_pat_lang.specs.Walked.{Grew, Sound}
+use Rattle.hc_pat_lang.proofs.Walking.{Covers}
+use Rattle.hc_pat_lang.proofs.walk.Walk.add_passes.Given as goal
+
+abbrev pub invariant-loop-byte : goal.invariant-loop-byte
+invariant-loop-byte l = record {
+  sound : Sound l._nodes.list.items l.set l.self.places.keys l.self.machine;
+  grew : Grew l.initial.self.places.keys l.self.places.keys l.initial.self.machine l.self.machine;
+  covers : Covers l.set l.self.places.keys (λ b j. IsSilent l.self.machine l.number j) l.bytes l.place.1 l.to l.byte l.next;
+}
