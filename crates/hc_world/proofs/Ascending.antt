@@ -14,7 +14,7 @@ use Rattle.hc_world.specs.declared.entries.Entry.{Entry}
 use Rattle.hc_world.specs.Entries.{entry_of, world_of}
 use Rattle.hc_world.proofs.Lookups.{same_world}
 
-abbrev Entries : Type 0
+abbrev pub Entries : Type 0
 Entries = List (Vec ℕ Global × Entry)
 
 both : (a b : Bool) → T a → T b → T (a && b)

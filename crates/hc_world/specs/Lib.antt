@@ -1,3 +1,4 @@
 pub mod Edits
 pub mod Entries
+pub mod Places
 pub mod Slashes

@@ -1,12 +1,14 @@
-ghost use Rattle.std.specs.Prelude.{◌≡◌, IfOk};
+ghost use Rattle.std.specs.Prelude.{◌≡◌, [], ◌∷◌, ◌++◌, IfNone, IfOk, IfSome, OnOk};
 ghost use Rattle.std.specs.FinMap.{keys};
 ghost use Rattle.std.specs.List.{filter_map, list_any};
 ghost use Rattle.std.specs.Option.{option_map};
 ghost use Rattle.hc_base.specs.Paths.{is_slash};
-ghost use Rattle.hc_model.specs.World.{as_name, name_behind_slash, name_in, names_in};
+ghost use Rattle.hc_model.specs.World.{as_name, name_in, names_in};
 ghost use Rattle.hc_world.specs.Entries.{world_of};
+ghost use Rattle.hc_world.specs.Places.{GoesOn, IsFirstFrom, front_of, keys_from, name_behind};
 
 use crate::entries::{Entry, kind_at};
+use crate::path::next_slash;
 use hc_base::paths::ends_with_slash;
 use hc_base::{List, NoMemory, Text};
 use hc_model::Kind;
@@ -34,36 +36,89 @@ fn names_below(
 ) -> Result<List<Text>, NoMemory>
     ensures { IfOk result (λ names. names ≡ filter_map (name_in directory.now) (keys (world_of entries.now.entries))) }
 {
+    let front = front_of(alloc, directory)?;
     let mut names = List::new(alloc);
-    for (path, _) in entries.iter() {
-        if let Some(name) = name_in(directory, path) {
-            names.push(Text::copy_of(alloc, name)?)?;
+    let mut place = Vec::new(alloc);
+    while let Some(path) = first_from(entries, &place) {
+        push_name(alloc, &mut names, &front, path)?;
+        match place_behind(alloc, &front, path)? {
+            Some(next) => place = next,
+            None => return Ok(names),
         }
     }
     Ok(names)
 }
 
-// The name that a path has in a directory.
-fn name_in<'p>(directory: &[u8], path: &'p [u8]) -> Option<&'p [u8]>
-    ensures { option_map (λ name. name.now) result ≡ name_in directory.now path.now }
+// What each path in a directory begins with.
+fn front_of(alloc: Global, directory: &[u8]) -> Result<Vec<u8>, NoMemory>
+    ensures { IfOk result (λ front. front.items ≡ front_of directory.now) }
 {
-    if !path.starts_with(directory) {
-        return None;
-    }
-    let rest = &path[directory.len()..];
     if ends_with_slash(directory) {
-        as_name(rest)
+        Ok(directory.to_vec(alloc)?)
     } else {
-        name_behind_slash(rest)
+        with_byte(alloc, directory, b'/')
     }
 }
 
-fn name_behind_slash(rest: &[u8]) -> Option<&[u8]>
-    ensures { option_map (λ name. name.now) result ≡ name_behind_slash rest.now }
+// The first path that is at this place or behind it.
+fn first_from<'e>(entries: &'e BTreeMap<Vec<u8>, Entry>, place: &Vec<u8>) -> Option<&'e [u8]>
+    ensures none { IfNone result (keys_from place.now.items (world_of entries.now.entries) ≡ []) }
+    ensures some { IfSome result (λ path. IsFirstFrom place.now.items path.now (world_of entries.now.entries)) }
 {
-    match rest {
-        [b'/', name @ ..] => as_name(name),
-        _ => None,
+    match entries.range(place..).next() {
+        Some((path, _)) => Some(path.as_slice()),
+        None => None,
+    }
+}
+
+fn push_name(
+    alloc: Global,
+    names: &mut List<Text>,
+    front: &[u8],
+    path: &[u8],
+) -> Result<(), NoMemory>
+    ensures { OnOk result (names.new ≡ names.old ++ filter_map (name_behind front.now) (path.now ∷ [])) }
+{
+    match name_behind(front, path) {
+        Some(name) => names.push(Text::copy_of(alloc, name)?),
+        None => Ok(()),
+    }
+}
+
+// The place at which the search for names goes on behind a path: none of the paths between them
+// has a name there. None where no path behind this one has.
+fn place_behind(alloc: Global, front: &[u8], path: &[u8]) -> Result<Option<Vec<u8>>, NoMemory>
+    ensures { IfOk result (λ place. GoesOn front.now path.now (option_map (λ p. p.items) place)) }
+{
+    if path < front {
+        return Ok(Some(front.to_vec(alloc)?));
+    }
+    if !path.starts_with(front) {
+        return Ok(None);
+    }
+    match next_slash(path, front.len()) {
+        None => Ok(Some(with_byte(alloc, path, 0)?)),
+        // behind all that lies below this child
+        Some(slash) => Ok(Some(with_byte(alloc, &path[..slash], b'/' + 1)?)),
+    }
+}
+
+fn with_byte(alloc: Global, bytes: &[u8], byte: u8) -> Result<Vec<u8>, NoMemory>
+    ensures { IfOk result (λ all. all.items ≡ bytes.now ++ byte ∷ []) }
+{
+    let mut all = bytes.to_vec(alloc)?;
+    all.push(byte)?;
+    Ok(all)
+}
+
+// The name of a path that begins with this.
+fn name_behind<'p>(front: &[u8], path: &'p [u8]) -> Option<&'p [u8]>
+    ensures { option_map (λ name. name.now) result ≡ name_behind front.now path.now }
+{
+    if path.starts_with(front) {
+        as_name(&path[front.len()..])
+    } else {
+        None
     }
 }
 

@@ -1,11 +1,15 @@
-use Rattle.std.proofs.Common.{◌≡◌, ◌++◌, map}
+use Rattle.std.proofs.Common.{◌≡◌, ◌++◌, length}
+use Rattle.std.specs.FinMap.{keys}
 use Rattle.std.specs.List.{filter_map}
-use Rattle.hc_model.specs.World.{name_in}
-use Rattle.hc_world.specs.Entries.{entry_of}
+use Rattle.hc_world.specs.Entries.{world_of}
+use Rattle.hc_world.specs.Places.{keys_from, name_behind}
 use Rattle.hc_world.proofs.names.names_below.Given as goal
 
--- the names so far, and those of the entries that are left
+-- the names so far, and those of the paths at the place or behind it
 abbrev pub invariant-loop-path : goal.invariant-loop-path
 invariant-loop-path l =
-    l.names ++ filter_map (name_in l.directory) (map (λ e. e.0) (map entry_of l.path-iterator))
-    ≡ filter_map (name_in l.directory) (map (λ e. e.0) (map entry_of l.entries.entries))
+    l.names ++ filter_map (name_behind l.front.items) (keys_from l.place.items (world_of l.entries.entries))
+    ≡ filter_map (name_behind l.front.items) (keys (world_of l.entries.entries))
+
+abbrev pub decreases-loop-path : goal.decreases-loop-path
+decreases-loop-path l = length (keys_from l.place.items (world_of l.entries.entries))

@@ -1,0 +1,20 @@
+use Rattle.std.proofs.Common.{sym, ◌∙◌, subst}
+use Rattle.hc_world.specs.Entries.{world_of}
+use Rattle.hc_world.specs.Places.{IsFirstFrom}
+use Rattle.hc_world.proofs.Places.{first_in_world, none_in_world}
+use Rattle.hc_world.proofs.names.first_from.Goals as goal
+
+pub returns-in-Some-clause-some : goal.returns-in-Some-clause-some
+returns-in-Some-clause-some c =
+    let place = c.args.place.now in
+    let entries = c.args.entries.now.entries in
+    let world = world_of entries in
+    let first = sym (c.range.ensures.between tt) ∙ c.in-Some.ensures.steps in
+    subst (λ path. IsFirstFrom place.items path world) (sym c.as_slice.ensures.value)
+    (first_in_world place entries c.next.new.self (c.in-Some.path.now, c.in-Some.field-0-1.now)
+    c.range.ensures.ordered first)
+
+pub returns-in-None-clause-none : goal.returns-in-None-clause-none
+returns-in-None-clause-none c =
+    none_in_world c.args.place.now c.args.entries.now.entries c.range.ensures.ordered
+    (sym (c.range.ensures.between tt) ∙ c.in-None.ensures.steps.0)
