@@ -1,0 +1,6 @@
+pub mod Escaping
+pub mod Normal
+pub mod Placing
+pub mod Queries
+pub mod ReadBack
+pub mod Walking

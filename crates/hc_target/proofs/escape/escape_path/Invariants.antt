@@ -1,0 +1,6 @@
+use Rattle.std.proofs.Common.{◌≡◌, ◌++◌, drop}
+use Rattle.hc_target.specs.Escapes.{escaped}
+use Rattle.hc_target.proofs.escape.escape_path.Given as goal
+
+abbrev pub invariant-loop-byte : goal.invariant-loop-byte
+invariant-loop-byte l = l.out.items ++ escaped (drop l.byte-index l.text) ≡ escaped l.text

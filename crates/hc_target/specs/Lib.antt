@@ -1,0 +1,3 @@
+pub mod Escapes
+pub mod Segments
+pub mod Targets

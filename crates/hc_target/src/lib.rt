@@ -1,0 +1,12 @@
+//! Request targets: read into a normal path and a query, and paths escaped.
+//! Apache manual, core, AllowEncodedSlashes (off: an escaped slash is refused); what isn't said there
+//! is our own choice.
+#![tactic(auto)]
+
+mod escape;
+pub mod laws;
+mod segments;
+mod target;
+
+pub use escape::escape_path;
+pub use target::{TargetRead, read_target};
