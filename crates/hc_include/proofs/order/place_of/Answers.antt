@@ -1,0 +1,10 @@
+use Rattle.std.proofs.Common.{rules, of_calls}
+use Rattle.std.proofs.lemmas.Fn.{always_returns_same}
+use Rattle.hc_include.specs.Named.{comes_first}
+use Rattle.hc_include.proofs.Rising.{place_is, paths_chain}
+use Rattle.hc_include.proofs.order.place_of.Goals as goal
+
+pub returns-clause-value : goal.returns-clause-value
+returns-clause-value c =
+    place_is comes_first paths_chain c.args.path.now c.args.paths.now c.partition_point.result c.requires c.partition_point.ensures.bound
+    (c.partition_point.ensures.partitioned (λ other. comes_first other c.args.path.now) (always_returns_same _ _ _ (λ a r f k. search (rules, of_calls))))

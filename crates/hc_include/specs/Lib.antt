@@ -1,0 +1,14 @@
+pub mod Variables
+pub mod VariablesView
+pub mod Rising
+pub mod Named
+pub mod Earlier
+pub mod EarlierView
+pub mod Flat
+pub mod WildcardView
+pub mod StandingView
+pub mod NextView
+pub mod SectionView
+pub mod LevelsView
+pub mod Reads
+pub mod Flattened
