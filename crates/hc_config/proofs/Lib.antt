@@ -1,1 +1,3 @@
-mod Reading
+pub mod Judged
+pub mod Gathering
+pub mod Runs

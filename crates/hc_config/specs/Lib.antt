@@ -1,2 +1,7 @@
+pub mod Statuses
+pub mod Targets
+pub mod TargetViews
+pub mod Directives
+pub mod Rules
 pub mod Configuration
-pub mod Reading
+pub mod Judging

@@ -1,7 +1,11 @@
-//! The configuration that a main file gives, or the first rule that it breaks.
+//! The configuration that a flat list of entries gives, or the first rule that it breaks.
 #![tactic(auto)]
 
 mod config;
 mod effect;
+mod redirect;
+mod rules;
+mod status;
+mod targets;
 
-pub use config::{BuildFault, read_config};
+pub use config::{BuildFault, build};
