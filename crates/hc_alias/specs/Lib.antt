@@ -1,0 +1,6 @@
+pub mod Tests
+pub mod FoundView
+pub mod Filled
+pub mod Locations
+pub mod Mapping
+pub mod ServersView

@@ -1,0 +1,65 @@
+-- Where a redirect sends a request.
+-- Apache manual, mod_alias, Redirect; what it leaves open is our own choice.
+use Rattle.std.specs.Prelude.{ℕ, ◌==◌, List, [], ◌∷◌, ◌++◌, Bool, ◌&&◌, ◌||◌, length, nat_le, nat_lt, codes, decimal, if◌then◌else◌}
+use Rattle.std.specs.List.{list_any}
+use Rattle.hc_base.specs.Bytes.{colon, question}
+use Rattle.hc_base.specs.Paths.{begins_with_slash}
+use Rattle.hc_target.specs.Escapes.{escaped}
+use Rattle.hc_model.specs.declared.mapping.Redirect.{Redirect}
+use Rattle.hc_model.specs.declared.outcome.Outcome.{Outcome}
+use Rattle.hc_model.specs.declared.outcome.Outcome.TheVariants as outcome
+use Rattle.hc_model.specs.declared.request.Caller.{Caller}
+use Rattle.hc_model.specs.declared.request.Scheme.{Scheme}
+use Rattle.hc_model.specs.declared.request.Scheme.TheVariants.{Http, Https}
+use Rattle.hc_alias.specs.Filled.{filled}
+use Rattle.hc_alias.specs.Tests.{Found}
+
+-- ---- the server's own name
+
+abbrev pub scheme_name : Scheme → List ℕ
+scheme_name Http = codes "http"
+scheme_name Https = codes "https"
+
+abbrev pub default_port : Scheme → ℕ
+default_port Http = 80
+default_port Https = 443
+
+-- The scheme's default port is left out.
+abbrev pub port_part : Scheme → ℕ → List ℕ
+port_part scheme port = if port == default_port scheme then [] else colon ∷ decimal port
+
+abbrev pub origin : Caller → List ℕ
+origin caller =
+    scheme_name caller.request.scheme ++ codes "://" ++ caller.name
+    ++ port_part caller.request.scheme caller.request.port
+
+-- ---- the location
+
+abbrev pub is_question : ℕ → Bool
+is_question b = b == question
+
+-- A target that begins with a slash is one of the server's own.
+abbrev pub absolute : Caller → List ℕ → List ℕ
+absolute caller target = if begins_with_slash target then origin caller ++ target else target
+
+-- The query follows, unless it is empty or the target has one.
+abbrev pub with_query : List ℕ → List ℕ → List ℕ
+with_query query target =
+    if (length query == 0) || list_any is_question target then target else target ++ question ∷ query
+
+-- The target with its groups, what follows the prefix, escaped, and the query.
+abbrev pub location : Caller → Redirect → Found → List ℕ → List ℕ
+location caller redirect found query =
+    with_query query (absolute caller (filled found.groups redirect.to) ++ escaped found.rest)
+
+-- ---- the answer
+
+abbrev pub is_redirection : ℕ → Bool
+is_redirection status = nat_le 300 status && nat_lt status 400
+
+-- Another status is answered as it is.
+abbrev pub sent_to : ℕ → List ℕ → Outcome
+sent_to status location = if is_redirection status then outcome.Redirect status location else outcome.Status status
+
+abbrev pub sent_by : Caller → Redirect → Found → List ℕ → Outcome
+sent_by caller redirect found query = sent_to redirect.status (location caller redirect found query)

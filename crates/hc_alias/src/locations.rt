@@ -1,0 +1,134 @@
+ghost use Rattle.std.specs.Prelude.{◌≡◌, ◌∷◌, ◌++◌, ◌≤◌, IfOk, OnOk, codes, decimal};
+ghost use Rattle.std.specs.String.{string_bytes};
+ghost use Rattle.hc_base.specs.Bytes.{colon};
+ghost use Rattle.hc_alias.specs.FoundView.{found_of};
+ghost use Rattle.hc_alias.specs.Locations as definition;
+ghost use Rattle.hc_alias.specs.Locations.{default_port, is_redirection, origin, port_part, scheme_name, with_query};
+
+use crate::filled::filled;
+use crate::tests::Found;
+use hc_base::paths::begins_with_slash;
+use hc_base::{NoMemory, Text};
+use hc_model::{Caller, Outcome, Redirect, Scheme};
+use hc_target::escape_path;
+use std::alloc::Global;
+
+fn scheme_name(scheme: Scheme) -> &'static [u8]
+    ensures { result.now ≡ scheme_name scheme }
+{
+    match scheme {
+        Scheme::Http => b"http",
+        Scheme::Https => b"https",
+    }
+}
+
+/// The port that is left out of a location.
+fn default_port(scheme: Scheme) -> u16
+    ensures { result ≡ default_port scheme }
+{
+    match scheme {
+        Scheme::Http => 80,
+        Scheme::Https => 443,
+    }
+}
+
+/// A colon and the port in decimal.
+fn written_port(alloc: Global, port: u16) -> Result<String, NoMemory>
+    ensures { IfOk result (λ text. string_bytes text ≡ colon ∷ decimal port) }
+{
+    format!(in alloc; ":{port}")
+}
+
+/// The scheme's default port is left out.
+fn push_port(alloc: Global, out: &mut Vec<u8>, scheme: Scheme, port: u16) -> Result<(), NoMemory>
+    ensures { OnOk result (out.new.items ≡ out.old.items ++ port_part scheme port) }
+{
+    if port == default_port(scheme) {
+        return Ok(());
+    }
+    let text = written_port(alloc, port)?;
+    out.extend_from_slice(text.as_bytes())
+}
+
+/// The server's own name, with its scheme.
+fn origin(alloc: Global, caller: &Caller) -> Result<Vec<u8>, NoMemory>
+    ensures { IfOk result (λ text. text.items ≡ origin caller.now) }
+{
+    let scheme = caller.request.scheme;
+    let mut text = scheme_name(scheme).to_vec(alloc)?;
+    text.extend_from_slice(b"://")?;
+    text.extend_from_slice(caller.name.as_bytes())?;
+    push_port(alloc, &mut text, scheme, caller.request.port)?;
+    Ok(text)
+}
+
+/// A target that begins with a slash is one of the server's own.
+fn absolute(alloc: Global, caller: &Caller, target: Vec<u8>) -> Result<Vec<u8>, NoMemory>
+    ensures { IfOk result (λ text. text.items ≡ definition.absolute caller.now target.items) }
+{
+    if !begins_with_slash(&target) {
+        return Ok(target);
+    }
+    let mut text = origin(alloc, caller)?;
+    text.extend_from_slice(&target)?;
+    Ok(text)
+}
+
+/// The query follows, unless it is empty or the target has one.
+fn with_query(query: &[u8], target: Vec<u8>) -> Result<Vec<u8>, NoMemory>
+    ensures { IfOk result (λ text. text.items ≡ with_query query.now target.items) }
+{
+    if query.is_empty() || target.contains(&b'?') {
+        return Ok(target);
+    }
+    let mut text = target;
+    text.push(b'?')?;
+    text.extend_from_slice(query)?;
+    Ok(text)
+}
+
+/// The target with its groups, what follows the prefix, escaped, and the query.
+fn location(
+    alloc: Global,
+    caller: &Caller,
+    redirect: &Redirect,
+    found: &Found<'_>,
+    query: &[u8],
+) -> Result<Text, NoMemory>
+    ensures { IfOk result (λ text.
+        text ≡ definition.location caller.now redirect.now (found_of found.now) query.now) }
+{
+    let target = filled(alloc, redirect.to.as_slice(), found)?;
+    let mut text = absolute(alloc, caller, target)?;
+    let rest = escape_path(alloc, found.rest())?;
+    text.extend_from_slice(rest.as_bytes())?;
+    Ok(Text::from(with_query(query, text)?))
+}
+
+/// The status is one of a redirect.
+fn is_redirection(status: u16) -> bool
+    ensures { result ≡ is_redirection status }
+{
+    (300..400).contains(&status)
+}
+
+/// Where a redirect sends a request. A status outside 300 to 399 is answered as it is.
+pub(crate) fn sent_by(
+    alloc: Global,
+    caller: &Caller,
+    redirect: &Redirect,
+    found: &Found<'_>,
+    query: &[u8],
+) -> Result<Outcome, NoMemory>
+    ensures { IfOk result (λ sent.
+        sent ≡ definition.sent_by caller.now redirect.now (found_of found.now) query.now) }
+{
+    let status = redirect.status;
+    if !is_redirection(status) {
+        return Ok(Outcome::Status(status));
+    }
+    Ok(Outcome::Redirect {
+        status,
+        location: location(alloc, caller, redirect, found, query)?,
+    })
+}
