@@ -33,33 +33,39 @@ fn command_line(rt: &(impl Env + AllocGlobal)) -> Result<Vec<String>, Status> {
     Ok(words)
 }
 
-// A run with a counter of bytes that begins at 0.
-fn run_counted<S: Source, K: Sink, B: Ledger>(
+// A run with a counter of evaluations and one of bytes, which begin at 0.
+fn run_counted<S: Source, K: Sink, E: Ledger, B: Ledger>(
     alloc: Global,
     words: &[String],
     source: &mut S,
     sink: &mut K,
-    blank: Blank,
+    for_evals: Blank,
+    for_bytes: Blank,
 ) -> Status
     requires source_counts { S.faults source.old < 2 ^ 64 - 1 }
     requires sink_counts { K.faults sink.old < 2 ^ 64 - 1 }
-    requires name { blank.name ≡ B.name }
-    requires parts { blank.parts ≡ B.parts }
-    requires whole { 0 < blank.parts }
+    requires evals_name { for_evals.name ≡ E.name }
+    requires evals_parts { for_evals.parts ≡ E.parts }
+    requires evals_whole { 0 < for_evals.parts }
+    requires bytes_name { for_bytes.name ≡ B.name }
+    requires bytes_parts { for_bytes.parts ≡ B.parts }
+    requires bytes_whole { 0 < for_bytes.parts }
 {
-    let mut bytes = Steps::<B>::new(blank);
-    run(alloc, words, source, sink, &mut bytes)
+    let mut evals = Steps::<E>::new(for_evals);
+    let mut bytes = Steps::<B>::new(for_bytes);
+    run(alloc, words, source, sink, &mut evals, &mut bytes)
 }
 
 fn main(rt: HostRuntime) -> ExitCode {
     let mut source = StdSource::new(rt.stdin());
     let mut sink = StdSink::new(rt.stdout());
     let status = match command_line(&rt) {
-        Ok(words) => run_counted::<_, _, Brand>(
+        Ok(words) => run_counted::<_, _, Brand, Brand>(
             rt.alloc(),
             &words,
             &mut source,
             &mut sink,
+            Blank::new(1),
             Blank::new(1),
         ),
         Err(status) => status,

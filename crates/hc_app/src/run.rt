@@ -7,12 +7,14 @@ use std::alloc::Global;
 use std::sync::ledger::Ledger;
 
 /// All that the program does: it answers each line of the source by a line to the sink, until the
-/// source ends. `bytes` rises by the bytes of the configuration texts that are read.
-pub fn run<S: Source, K: Sink, B: Ledger>(
+/// source ends. `evals` rises by one for each request that is evaluated, and `bytes` by the bytes of
+/// the configuration texts that are read.
+pub fn run<S: Source, K: Sink, E: Ledger, B: Ledger>(
     alloc: Global,
     words: &[String],
     source: &mut S,
     sink: &mut K,
+    evals: &mut Steps<E>,
     bytes: &mut Steps<B>,
 ) -> Status
     requires source_counts { S.faults source.old < 2 ^ 64 - 1 }
@@ -34,7 +36,7 @@ pub fn run<S: Source, K: Sink, B: Ledger>(
     ensures untouched { (result ≡ Status.Words) ⊎ (result ≡ Status.NoMemory) → (source.new ≡ source.old) × (sink.new ≡ sink.old) }
 {
     if words.is_empty() {
-        serve_session(alloc, source, sink, bytes)
+        serve_session(alloc, source, sink, evals, bytes)
     } else {
         Status::Words
     }

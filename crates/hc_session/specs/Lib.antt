@@ -4,5 +4,7 @@ pub mod Conversation
 pub mod Reply
 pub mod ReplyView
 pub mod Sending
+pub mod Asked
 pub mod Session
+pub mod Configured
 pub mod Status

@@ -15,6 +15,9 @@ use Rattle.hc_model.specs.declared.outcome.Reason.TheVariants.{PathByte, LongTex
 
 pub data Reply : Type 0 where
   done_put : Reply
+  done_list : Reply
+  -- a configuration, with how many virtual hosts it has
+  configured : ℕ → Reply
   outcome : Outcome → Reply
   refused : Refusal → Reply
   no_memory : Reply
@@ -79,6 +82,8 @@ outcome_data (Outside reason) = only (codes "outside") (string (reason_name reas
 
 abbrev pub reply_data : Reply → Data
 reply_data done_put = only (codes "done") (string (codes "put"))
+reply_data done_list = only (codes "done") (string (codes "list"))
+reply_data (configured hosts) = only (codes "config") (only (codes "hosts") (number (unsigned hosts)))
 reply_data (outcome o) = only (codes "outcome") (outcome_data o)
 reply_data (refused r) = only (codes "refused") (refusal_data r)
 reply_data no_memory = only (codes "no_memory") (boolean true)

@@ -1,25 +1,28 @@
 -- The session: what each line of a script is answered, and the world that it leaves. Our own choice.
-use Rattle.std.specs.Prelude.{◌≡◌, ◌⊎◌, ℕ, List, [], ◌∷◌, if◌then◌else◌, unwrap_or, Result, Ok, Err, codes}
-use Rattle.std.specs.FinMap.{get}
-use Rattle.hc_base.specs.Target.{is_target}
+use Rattle.std.specs.Prelude.{◌≡◌, ◌⊎◌, ◌+◌, ◌≤◌, ℕ, List, [], ◌∷◌, length, if◌then◌else◌, Result, Ok, Err, codes}
 use Rattle.hc_base.specs.declared.codes.TheConstants.{BAD_COMMAND}
 use Rattle.hc_base.specs.declared.place.Refusal.{Refusal}
-use Rattle.hc_model.specs.Node.{text_of}
 use Rattle.hc_model.specs.World.{World, put as put_in}
-use Rattle.hc_config.specs.Configuration.{config_of}
-use Rattle.hc_model.specs.Mapping.{outcome_of}
+use Rattle.hc_config.specs.Configuration.{built}
+use Rattle.hc_include.specs.Flat.{Standing, read_from}
+use Rattle.hc_world.specs.Edits.{listed}
+use Rattle.hc_serve.specs.Meaning.{received}
 use Rattle.hc_model.specs.declared.config.Config.{Config}
-use Rattle.hc_session.specs.Command.{Command, put, ask, command_of}
+use Rattle.hc_session.specs.Asked.{asked, is_target}
+use Rattle.hc_session.specs.Command.{Command, put, list, check, ask, command_of}
 use Rattle.std.specs.declared.alloc.AllocError.{AllocError as NoMemory}
-use Rattle.hc_session.specs.Reply.{Reply, done_put, outcome, refused, no_memory, reply_line}
+use Rattle.hc_session.specs.Reply.{Reply, done_put, done_list, configured, outcome, refused, no_memory, reply_line}
 
 -- The path of the main file.
 abbrev pub main_file : List ℕ
 main_file = codes "/etc/httpd/conf/httpd.conf"
 
--- Its text; a main file that is missing is read as an empty text.
-abbrev pub main_text : World → List ℕ
-main_text world = unwrap_or (text_of (get world main_file)) []
+-- The configuration that the present files give, or its first refusal, without what was looked at
+-- for it.
+unfoldable pub configuration : World → Result Config Refusal
+configuration world =
+    let standing : Standing = read_from world main_file in
+    built (record { file = main_file; entries = standing.entries; stop = standing.stop; reads = [] })
 
 -- A refused command, with the field that is wrong. Its place is no file.
 abbrev pub bad_command : List ℕ → Refusal
@@ -30,28 +33,62 @@ pub record Turn : Type 0 where
   pub reply : Reply
   pub world : World
 
-abbrev pub put_turn : World → Result World ℕ → Turn
-put_turn world (Ok edited) = record { reply = done_put; world = edited }
-put_turn world (Err code) = record { reply = refused (bad_command (codes "path")); world = world }
+-- A refused edit, by the rule that it breaks.
+abbrev pub bad_edit : ℕ → Refusal
+bad_edit code = record { place = record { file = []; line = 0 }; code = code; at = 0; field = [] }
+
+abbrev pub edit_turn : Reply → World → Result World ℕ → Turn
+edit_turn done world (Ok edited) = record { reply = done; world = edited }
+edit_turn done world (Err code) = record { reply = refused (bad_edit code); world = world }
+
+abbrev pub check_reply : Result Config Refusal → Reply
+check_reply (Ok found) = configured (length found.hosts)
+check_reply (Err refusal) = refused refusal
 
 abbrev pub reply_under : World → List ℕ → Result Config Refusal → Reply
-reply_under world target (Ok config) = outcome (outcome_of world config.main target)
+reply_under world target (Ok config) = outcome (received world config (asked target))
 reply_under world target (Err refusal) = refused refusal
 
 -- The target is looked at before the configuration.
 abbrev pub ask_reply : World → List ℕ → Reply
 ask_reply world target =
-    if is_target target then reply_under world target (config_of main_file (main_text world))
+    if is_target target then reply_under world target (configuration world)
     else refused (bad_command (codes "target"))
 
 abbrev pub turn_of : World → Result Command (List ℕ) → Turn
-turn_of world (Ok (put path text)) = put_turn world (put_in world path text)
+turn_of world (Ok (put path text)) = edit_turn done_put world (put_in world path text)
+turn_of world (Ok (list path kind)) = edit_turn done_list world (listed world path kind)
+turn_of world (Ok check) = record { reply = check_reply (configuration world); world = world }
 turn_of world (Ok (ask target)) = record { reply = ask_reply world target; world = world }
 turn_of world (Err field) = record { reply = refused (bad_command field); world = world }
 
 -- The one reply to a line in a world, and the world after it.
 abbrev pub turn : World → List ℕ → Turn
 turn world line = turn_of world (command_of line)
+
+-- ---- how often a request is evaluated
+
+abbrev pub evaluations_under : Result Config Refusal → ℕ
+evaluations_under (Ok config) = 1
+evaluations_under (Err refusal) = 0
+
+-- Once for each target that is asked about under a configuration.
+abbrev pub evaluations_of : World → Result Command (List ℕ) → ℕ
+evaluations_of world (Ok (ask target)) = if is_target target then evaluations_under (configuration world) else 0
+evaluations_of world (Ok (put path text)) = 0
+evaluations_of world (Ok (list path kind)) = 0
+evaluations_of world (Ok check) = 0
+evaluations_of world (Err field) = 0
+
+abbrev pub evaluations : World → List ℕ → ℕ
+evaluations world line = evaluations_of world (command_of line)
+
+-- The counter has risen by just that; at most by that where no memory was found.
+abbrev pub Counts : {A : Type 0} → Result A NoMemory → ℕ → ℕ → ℕ → Type 0
+Counts (Ok made) count before after = after ≡ before + count
+Counts (Err _) count before after = (before ≤ after) × (after ≤ before + count)
+
+-- ---- replies
 
 -- A line may be answered `no_memory`, with all as before; else it has its one reply.
 abbrev pub Turns : World → List ℕ → Reply → World → Type 0

@@ -1,12 +1,13 @@
-ghost use Rattle.std.specs.Prelude.{◌≡◌, ℕ, List, IfOk, None, map};
+ghost use Rattle.std.specs.Prelude.{◌≡◌, ℕ, List, IfOk, None, Ok, map};
 ghost use Rattle.std.specs.List.{list_any};
 ghost use Rattle.std.specs.Option.{option_map};
 ghost use Rattle.std.specs.Str.{bytes_eq};
 ghost use Rattle.serde_json.specs.View.{view, members_view};
-ghost use Rattle.hc_session.specs.Command.{json_of, required, unless_unknown, unknown_field, unknown_member, put_fields, ask_fields, put_in, ask_in, command_in};
-ghost use Rattle.hc_session.specs.CommandView.{read_view, field_view};
+ghost use Rattle.hc_session.specs.Command.{json_of, required, unless_unknown, unknown_field, unknown_member, put_fields, list_fields, check_fields, ask_fields, put_in, list_in, list_kind, check, ask_in, command_in};
+ghost use Rattle.hc_session.specs.CommandView.{read_view, field_view, kind_view};
 
 use hc_base::NoMemory;
+use hc_world::ListKind;
 use serde_json::{Map, Value};
 use std::alloc::Global;
 
@@ -15,12 +16,16 @@ use std::alloc::Global;
 pub enum Command<'v> {
     /// Makes or replaces a file with a text.
     Put { path: &'v str, text: &'v str },
+    /// Lists a path as a directory or as a file without a text.
+    ListPath { path: &'v str, kind: ListKind },
+    /// Reads the configuration.
+    Check,
     /// Asks what a request for a target receives.
     Ask { target: &'v str },
 }
 
 /// The first wrong field of a value that is no command: `do` where it is missing or unknown; else
-/// the least unknown field; else the first field of the command that is missing or no text.
+/// the least unknown field; else the first field of the command that is missing or ill-formed.
 #[derive(Clone, Copy, Debug)]
 pub struct BadField<'v>(pub &'v str);
 
@@ -45,6 +50,8 @@ pub fn read_command(value: &Value) -> Result<Command<'_>, BadField<'_>>
 {
     match required(value, "do")? {
         "put" => read_put(value),
+        "list" => read_list(value),
+        "check" => read_check(value),
         "ask" => read_ask(value),
         _ => Err(BadField("do")),
     }
@@ -59,6 +66,36 @@ fn read_put(value: &Value) -> Result<Command<'_>, BadField<'_>>
     let path = required(value, "path")?;
     let text = required(value, "text")?;
     Ok(Command::Put { path, text })
+}
+
+fn read_list(value: &Value) -> Result<Command<'_>, BadField<'_>>
+    ensures { read_view result ≡ unless_unknown (unknown_field list_fields (view value.now)) (list_in (view value.now)) }
+{
+    if let Some(field) = unknown_field(value, &["do", "path", "kind"]) {
+        return Err(BadField(field));
+    }
+    let path = required(value, "path")?;
+    let kind = list_kind(required(value, "kind")?)?;
+    Ok(Command::ListPath { path, kind })
+}
+
+fn list_kind(name: &str) -> Result<ListKind, BadField<'static>>
+    ensures { kind_view result ≡ list_kind name.now }
+{
+    match name {
+        "file" => Ok(ListKind::File),
+        "dir" => Ok(ListKind::Dir),
+        _ => Err(BadField("kind")),
+    }
+}
+
+fn read_check(value: &Value) -> Result<Command<'_>, BadField<'_>>
+    ensures { read_view result ≡ unless_unknown (unknown_field check_fields (view value.now)) (Ok check) }
+{
+    match unknown_field(value, &["do"]) {
+        Some(field) => Err(BadField(field)),
+        None => Ok(Command::Check),
+    }
 }
 
 fn read_ask(value: &Value) -> Result<Command<'_>, BadField<'_>>

@@ -15,11 +15,13 @@ use std::sync::ledger::Ledger;
 
 /// Serves a source: answers each of its lines by a line to the sink, until the source ends. All
 /// that takes memory first (a line buffer of 16 MiB) is taken before the first byte is read.
-/// `bytes` rises by the bytes of the configuration texts that are read.
-pub fn serve_session<S: Source, K: Sink, B: Ledger>(
+/// `evals` rises by one for each request that is evaluated, and `bytes` by the bytes of the
+/// configuration texts that are read.
+pub fn serve_session<S: Source, K: Sink, E: Ledger, B: Ledger>(
     alloc: Global,
     source: &mut S,
     sink: &mut K,
+    evals: &mut Steps<E>,
     bytes: &mut Steps<B>,
 ) -> Status
     requires source_counts { S.faults source.old < 2 ^ 64 - 1 }
@@ -41,7 +43,7 @@ pub fn serve_session<S: Source, K: Sink, B: Ledger>(
     ensures untouched { result ≡ Status.NoMemory → (source.new ≡ source.old) × (sink.new ≡ sink.old) }
 {
     match Desk::new(alloc) {
-        Ok(desk) => serve(desk, source, sink, bytes),
+        Ok(desk) => serve(desk, source, sink, evals, bytes),
         Err(NoMemory) => Status::NoMemory,
     }
 }
@@ -65,10 +67,11 @@ impl Desk {
     }
 }
 
-fn serve<S: Source, K: Sink, B: Ledger>(
+fn serve<S: Source, K: Sink, E: Ledger, B: Ledger>(
     desk: Desk,
     source: &mut S,
     sink: &mut K,
+    evals: &mut Steps<E>,
     bytes: &mut Steps<B>,
 ) -> Status
     requires session { desk.session ≡ new_world }
@@ -94,7 +97,7 @@ fn serve<S: Source, K: Sink, B: Ledger>(
             return end_of_input(&line);
         }
         taken += piece.len();
-        let Ok(()) = answer_lines(&mut session, &mut line, piece, sink, bytes) else {
+        let Ok(()) = answer_lines(&mut session, &mut line, piece, sink, evals, bytes) else {
             return Status::WriteFault;
         };
     }

@@ -2,12 +2,11 @@
 //! serves a source of lines.
 #![tactic(auto)]
 
+mod asked;
 mod command;
 mod conversation;
 mod limits;
 mod line_buffer;
-mod mapping;
-mod path;
 mod reply;
 mod serve;
 mod session;

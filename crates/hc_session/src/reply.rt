@@ -14,6 +14,10 @@ use std::alloc::Global;
 pub enum Reply {
     /// A put was done.
     DonePut,
+    /// A path was listed.
+    DoneList,
+    /// A configuration, with how many virtual hosts it has.
+    Config(usize),
     /// What a request receives.
     Outcome(Outcome),
     /// Why the line is not answered.
@@ -34,6 +38,8 @@ fn reply_value(alloc: Global, reply: &Reply) -> Result<Value, NoMemory>
 {
     match reply {
         Reply::DonePut => json!(in alloc; {"done": "put"}),
+        Reply::DoneList => json!(in alloc; {"done": "list"}),
+        Reply::Config(hosts) => json!(in alloc; {"config": {"hosts": *hosts}}),
         Reply::Outcome(outcome) => {
             let outcome = outcome_value(alloc, outcome)?;
             json!(in alloc; {"outcome": outcome})

@@ -28,17 +28,18 @@ fn send<K: Sink>(sink: &mut K, piece: &[u8]) -> Result<(), Failed>
 }
 
 // Answers one line.
-fn answer_line<K: Sink, L: Ledger>(
+fn answer_line<K: Sink, E: Ledger, L: Ledger>(
     session: &mut Session,
     line: &[u8],
     sink: &mut K,
+    evals: &mut Steps<E>,
     bytes: &mut Steps<L>,
 ) -> Result<(), Failed>
     ensures ok { OnOk result (AnswersLine session.old session.new line.now (K.written sink.old) (K.written sink.new)) }
     ensures err { OnErr result (AnswersInPart session.old session.new line.now (K.written sink.old) (K.written sink.new)) }
     ensures cause { HasCause (K.faults sink.old) (K.faults sink.new) result }
 {
-    match session.step(line, bytes) {
+    match session.step(line, evals, bytes) {
         Ok(printed) => send(sink, printed.as_bytes()),
         Err(NoMemory) => send(sink, NO_MEMORY_LINE),
     }
@@ -46,11 +47,12 @@ fn answer_line<K: Sink, L: Ledger>(
 
 // Answers each line that these bytes end. `line` has the bytes of a line that has not ended, and
 // has those of the next one afterwards.
-pub(crate) fn answer_lines<K: Sink, L: Ledger>(
+pub(crate) fn answer_lines<K: Sink, E: Ledger, L: Ledger>(
     session: &mut Session,
     line: &mut LineBuffer,
     piece: &[u8],
     sink: &mut K,
+    evals: &mut Steps<E>,
     bytes: &mut Steps<L>,
 ) -> Result<(), Failed>
     requires unended { rest_of line.old ≡ line.old }
@@ -64,7 +66,7 @@ pub(crate) fn answer_lines<K: Sink, L: Ledger>(
     while let Some(end) = memchr(b'\n', rest) {
         let (front, behind) = rest.split_at(end);
         line.extend(front);
-        answer_line(session, line.as_slice(), sink, bytes)?;
+        answer_line(session, line.as_slice(), sink, evals, bytes)?;
         line.clear();
         rest = behind.split_at(1).1;
     }

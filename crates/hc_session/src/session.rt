@@ -1,31 +1,34 @@
-ghost use Rattle.std.specs.Prelude.{◌≡◌, IfOk};
+ghost use Rattle.std.specs.Prelude.{◌≡◌, true, Ok, IfOk};
 ghost use Rattle.std.specs.Option.{option_map};
 ghost use Rattle.serde_json.specs.View.{view};
 ghost use Rattle.hc_model.specs.World.{new_world, put as put_in};
-ghost use Rattle.hc_model.specs.Mapping.{outcome_of};
-ghost use Rattle.hc_session.specs.Command.{command_of_json};
+ghost use Rattle.hc_base.specs.Paths.{begins_with_slash};
+ghost use Rattle.hc_serve.specs.Meaning.{received};
+ghost use Rattle.hc_session.specs.Asked.{asked};
+ghost use Rattle.hc_session.specs.Command.{ask, command_of_json};
 ghost use Rattle.hc_session.specs.CommandView.{read_view};
-ghost use Rattle.hc_session.specs.Reply.{refused, reply_line};
+ghost use Rattle.hc_session.specs.Reply.{done_list, done_put, refused, reply_line};
 ghost use Rattle.hc_session.specs.ReplyView.{reply_view};
-ghost use Rattle.hc_session.specs.Session.{Turned, TurnedInto, put_turn, main_file, main_text, ask_reply, bad_command};
-ghost use Rattle.hc_base.specs.Gives.{Gives};
-ghost use Rattle.hc_config.specs.Configuration.{config_of};
+ghost use Rattle.hc_session.specs.Configured.{GivesBare, bare};
+ghost use Rattle.hc_session.specs.Session.{Counts, Turned, TurnedInto, ask_reply, bad_command, bad_edit, check_reply, configuration, edit_turn, evaluations, evaluations_of};
+ghost use Rattle.hc_world.specs.Edits.{listed};
 
+use crate::asked::{asked, is_target};
 use crate::command::{BadField, Command, parse, read_command};
-use crate::mapping::name_of;
-use crate::path::is_target;
 use crate::reply::{Reply, print_reply};
 use hc_base::codes::BAD_COMMAND;
 use hc_base::{Fault, NoMemory, Place, Refusal, Steps, Text};
-use hc_config::{BuildFault, read_config};
-use hc_model::{Config, Kind, Outcome, Server};
-use hc_world::World;
+use hc_config::{BuildFault, build};
+use hc_include::flatten;
+use hc_model::{Config, Outcome};
+use hc_serve::evaluate;
+use hc_world::{ListKind, World};
 use serde_json::Value;
 use std::alloc::Global;
 use std::marker::Model;
 use std::sync::ledger::Ledger;
 
-/// The path of the main file. A main file that is missing is read as an empty text.
+/// The path of the main file.
 pub const MAIN_FILE: &str = "/etc/httpd/conf/httpd.conf";
 
 /// An open session: a world of files, which lines edit and ask about.
@@ -56,15 +59,24 @@ impl Session {
         })
     }
 
-    /// Answers a line with the line of its reply. Want of memory leaves all as before. `bytes` rises
-    /// by the bytes of the configuration texts that are read.
-    pub fn step<L: Ledger>(&mut self, line: &[u8], bytes: &mut Steps<L>) -> Result<Text, NoMemory>
-        ensures { Turned result self.old line.now self.new }
+    /// Answers a line with the line of its reply. Want of memory leaves all as before. `evals` rises
+    /// by one where a request is evaluated, and `bytes` by the bytes of the configuration texts that
+    /// are read.
+    pub fn step<E: Ledger, L: Ledger>(
+        &mut self,
+        line: &[u8],
+        evals: &mut Steps<E>,
+        bytes: &mut Steps<L>,
+    ) -> Result<Text, NoMemory>
+        ensures turned { Turned result self.old line.now self.new }
+        ensures evals { Counts result (evaluations self.old line.now) evals.old evals.new }
     {
         let value = parse(self.alloc, line)?;
         match command_in(&value) {
             Ok(Command::Put { path, text }) => self.put(path, text),
-            Ok(Command::Ask { target }) => self.ask(target, bytes),
+            Ok(Command::ListPath { path, kind }) => self.list(path, kind),
+            Ok(Command::Check) => self.check(bytes),
+            Ok(Command::Ask { target }) => self.ask(target, evals, bytes),
             Err(BadField(field)) => refuse(self.alloc, field),
         }
     }
@@ -72,7 +84,7 @@ impl Session {
     // Puts a file. The reply is printed first, so that nothing has changed where it finds no memory.
     // A world that has counted its last edit is no longer edited: this is answered as no memory is.
     fn put(&mut self, path: &str, text: &str) -> Result<Text, NoMemory>
-        ensures { TurnedInto result self.old (put_turn self.old (put_in self.old path.now text.now)) self.new }
+        ensures { TurnedInto result self.old (edit_turn done_put self.old (put_in self.old path.now text.now)) self.new }
     {
         if self.world.edits() == u64::MAX {
             return Err(NoMemory);
@@ -80,62 +92,94 @@ impl Session {
         let done = print_reply(self.alloc, &Reply::DonePut)?;
         match self.world.put(path.as_bytes(), text) {
             Ok(()) => Ok(done),
-            Err(Fault::Refused(_)) => refuse(self.alloc, "path"),
+            Err(Fault::Refused(code)) => refuse_edit(self.alloc, code),
             Err(Fault::NoMemory) => Err(NoMemory),
         }
     }
 
-    fn ask<L: Ledger>(&self, target: &str, bytes: &mut Steps<L>) -> Result<Text, NoMemory>
-        ensures { IfOk result (λ line. line ≡ reply_line (ask_reply self.now target.now)) }
+    // Lists a path, as `put` puts a file.
+    fn list(&mut self, path: &str, kind: ListKind) -> Result<Text, NoMemory>
+        ensures { TurnedInto result self.old (edit_turn done_list self.old (listed self.old path.now kind)) self.new }
     {
-        let reply = self.ask_reply(target.as_bytes(), bytes)?;
+        if self.world.edits() == u64::MAX {
+            return Err(NoMemory);
+        }
+        let done = print_reply(self.alloc, &Reply::DoneList)?;
+        match self.world.list(path.as_bytes(), kind) {
+            Ok(()) => Ok(done),
+            Err(Fault::Refused(code)) => refuse_edit(self.alloc, code),
+            Err(Fault::NoMemory) => Err(NoMemory),
+        }
+    }
+
+    fn check<L: Ledger>(&self, bytes: &mut Steps<L>) -> Result<Text, NoMemory>
+        ensures { IfOk result (λ line. line ≡ reply_line (check_reply (configuration self.now))) }
+    {
+        let reply = match self.config(bytes) {
+            Ok(config) => Reply::Config(config.hosts.as_slice().len()),
+            Err(Fault::Refused(refusal)) => Reply::Refused(refusal),
+            Err(Fault::NoMemory) => return Err(NoMemory),
+        };
+        print_reply(self.alloc, &reply)
+    }
+
+    fn ask<E: Ledger, L: Ledger>(
+        &self,
+        target: &str,
+        evals: &mut Steps<E>,
+        bytes: &mut Steps<L>,
+    ) -> Result<Text, NoMemory>
+        ensures line { IfOk result (λ line. line ≡ reply_line (ask_reply self.now target.now)) }
+        ensures evals { Counts result (evaluations_of self.now (Ok (ask target.now))) evals.old evals.new }
+    {
+        let reply = self.ask_reply(target.as_bytes(), evals, bytes)?;
         print_reply(self.alloc, &reply)
     }
 
     // The target is looked at before the configuration.
-    fn ask_reply<L: Ledger>(&self, target: &[u8], bytes: &mut Steps<L>) -> Result<Reply, NoMemory>
-        ensures { IfOk result (λ reply. reply_view reply ≡ ask_reply self.now target.now) }
+    fn ask_reply<E: Ledger, L: Ledger>(
+        &self,
+        target: &[u8],
+        evals: &mut Steps<E>,
+        bytes: &mut Steps<L>,
+    ) -> Result<Reply, NoMemory>
+        ensures reply { IfOk result (λ reply. reply_view reply ≡ ask_reply self.now target.now) }
+        ensures evals { Counts result (evaluations_of self.now (Ok (ask target.now))) evals.old evals.new }
     {
         if !is_target(target) {
             return Ok(Reply::Refused(bad_command(self.alloc, "target")?));
         }
         match self.config(bytes) {
-            Ok(config) => Ok(Reply::Outcome(self.outcome(&config.main, target)?)),
+            Ok(config) => Ok(Reply::Outcome(self.outcome(&config, target, evals)?)),
             Err(Fault::Refused(refusal)) => Ok(Reply::Refused(refusal)),
             Err(Fault::NoMemory) => Err(NoMemory),
         }
     }
 
+    // What a request for a target receives.
+    fn outcome<E: Ledger>(
+        &self,
+        config: &Config,
+        target: &[u8],
+        evals: &mut Steps<E>,
+    ) -> Result<Outcome, NoMemory>
+        requires { begins_with_slash target.now ≡ true }
+        ensures outcome { IfOk result (λ outcome. outcome ≡ received self.now (bare config.now) (asked target.now)) }
+        ensures evals { Counts result 1 evals.old evals.new }
+    {
+        let request = asked(self.alloc, target)?;
+        Ok(evaluate(self.alloc, config, &self.world, &request, evals)?.outcome)
+    }
+
     // The configuration, read anew.
+    #[tactic(auto, using(crate::proofs::Configured::gives_configuration))]
     fn config<L: Ledger>(&self, bytes: &mut Steps<L>) -> Result<Config, BuildFault>
-        ensures { Gives result (config_of main_file (main_text self.now)) }
+        ensures { GivesBare result (configuration self.now) }
     {
-        read_config(self.alloc, MAIN_FILE.as_bytes(), self.main_text(), bytes)
-    }
-
-    // The text of the main file, which is empty where there is no such file.
-    fn main_text(&self) -> &str
-        ensures { result.now ≡ main_text self.now }
-    {
-        self.world.text(MAIN_FILE.as_bytes()).unwrap_or("")
-    }
-
-    // What a request for a URL path receives.
-    fn outcome(&self, server: &Server, path: &[u8]) -> Result<Outcome, NoMemory>
-        ensures { IfOk result (λ outcome. outcome ≡ outcome_of self.now server.now path.now) }
-    {
-        let Some(name) = name_of(self.alloc, server, path)? else {
-            return Ok(Outcome::NotFound);
-        };
-        let walk = self.world.walk(name.as_bytes())?;
-        Ok(match walk.kind {
-            Kind::Absent => Outcome::NotFound,
-            Kind::Dir => Outcome::Directory { path: walk.name },
-            Kind::File => Outcome::File {
-                path: walk.name,
-                info: walk.info,
-            },
-        })
+        match flatten(self.alloc, &self.world, MAIN_FILE.as_bytes(), bytes) {
+            Ok(flat) => build(self.alloc, &flat),
+            Err(NoMemory) => Err(Fault::NoMemory),
+        }
     }
 }
 
@@ -154,6 +198,22 @@ fn refuse(alloc: Global, field: &str) -> Result<Text, NoMemory>
     ensures { IfOk result (λ line. line ≡ reply_line (refused (bad_command field.now))) }
 {
     print_reply(alloc, &Reply::Refused(bad_command(alloc, field)?))
+}
+
+// The line that refuses an edit for the rule that it breaks.
+fn refuse_edit(alloc: Global, code: u8) -> Result<Text, NoMemory>
+    ensures { IfOk result (λ line. line ≡ reply_line (refused (bad_edit code))) }
+{
+    let refusal = Refusal {
+        place: Place {
+            file: Text::from(Vec::new(alloc)),
+            line: 0,
+        },
+        code,
+        at: 0,
+        field: Text::from(Vec::new(alloc)),
+    };
+    print_reply(alloc, &Reply::Refused(refusal))
 }
 
 fn bad_command(alloc: Global, field: &str) -> Result<Refusal, NoMemory>
