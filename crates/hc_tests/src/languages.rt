@@ -1,40 +1,15 @@
 use hc_base::NoMemory;
 use hc_dfa::{
-    Dfa, Inclusion, Machine, ReadingStep, byte_image, complement, first_members, included, least,
-    reduce,
+    Dfa, Inclusion, Keep, byte_image, complement, first_members, included, least, product, reduce,
+    single,
 };
 use hc_pat_lang::{concat, matched, merge_slashes, prefix_quotient, suffix_quotient};
 use hc_pattern::{Pat, parse_pattern};
 use std::alloc::Global;
 use std::process::Abort;
 
-/// The set of one text.
-fn only(alloc: Global, text: &str) -> Result<Dfa, NoMemory> {
-    let Ok(count) = u32::try_from(text.len()) else {
-        return Err(NoMemory);
-    };
-    let mut machine = Machine::new(alloc, 1);
-    machine.add_start(0)?;
-    for at in 0..count {
-        let to = machine.add_state()?;
-        let byte = text.as_bytes()[at as usize];
-        if at < machine.states() && to < machine.states() {
-            machine.add_step(ReadingStep {
-                from: at,
-                low: byte,
-                high: byte,
-                to,
-            })?;
-        }
-    }
-    if count < machine.states() {
-        machine.add_final(count)?;
-    }
-    machine.determinize(alloc)
-}
-
 /// The set of the texts that a pattern is found in.
-fn found_in(rt: &impl Abort, alloc: Global, pattern: &str) -> Result<Dfa, NoMemory> {
+pub(crate) fn found_in(rt: &impl Abort, alloc: Global, pattern: &str) -> Result<Dfa, NoMemory> {
     let Ok(pat) = parse_pattern(alloc, pattern.as_bytes(), false) else {
         panic!(rt; "{pattern} is no pattern");
     };
@@ -104,16 +79,32 @@ fn the_first_texts_of_a_pattern(rt: HostRuntime) -> Result<(), NoMemory> {
     Ok(())
 }
 
+// That this is the least text that the first set has more, or that it has none.
+fn check_more(
+    rt: &impl Abort,
+    alloc: Global,
+    a: &Dfa,
+    b: &Dfa,
+    more: Option<&[u8]>,
+) -> Result<(), NoMemory> {
+    match included(alloc, a, b)? {
+        Inclusion::Yes => assert!(rt; more.is_none()),
+        Inclusion::No(text) => assert_eq!(rt; Some(text.as_bytes()), more),
+    }
+    Ok(())
+}
+
 #[test]
 fn an_anchor_leaves_texts_out(rt: HostRuntime) -> Result<(), NoMemory> {
-    let alloc = rt.alloc();
-    let anywhere = found_in(&rt, alloc, "a")?;
-    let alone = found_in(&rt, alloc, "^a$")?;
-    let Inclusion::No(text) = included(alloc, &anywhere, &alone)? else {
-        panic!(rt; "there are more texts with an a");
-    };
-    assert_eq!(rt; text.as_bytes(), b"\x00a".as_slice());
-    assert!(rt; matches!(included(alloc, &alone, &anywhere)?, Inclusion::Yes));
+    static ROWS: &[(&str, &str, Option<&[u8]>)] = &[
+        ("a", "^a$", Some(b"\x00a")),
+        ("^a$", "a", None),
+    ];
+    for &(first, second, more) in ROWS {
+        let a = found_in(&rt, rt.alloc(), first)?;
+        let b = found_in(&rt, rt.alloc(), second)?;
+        check_more(&rt, rt.alloc(), &a, &b, more)?;
+    }
     Ok(())
 }
 
@@ -126,37 +117,116 @@ fn an_empty_pattern_is_found_everywhere(rt: HostRuntime) -> Result<(), NoMemory>
     Ok(())
 }
 
-/// Whether a text is the only one of the set.
-fn is_only(alloc: Global, set: &Dfa, text: &str) -> Result<bool, NoMemory> {
-    let one = only(alloc, text)?;
-    let inside = matches!(included(alloc, set, &one)?, Inclusion::Yes);
-    let outside = matches!(included(alloc, &one, set)?, Inclusion::Yes);
-    Ok(inside && outside)
+fn is_within(alloc: Global, a: &Dfa, b: &Dfa) -> Result<bool, NoMemory> {
+    Ok(matches!(included(alloc, a, b)?, Inclusion::Yes))
+}
+
+// That a text is the only one of the set.
+fn check_only(rt: &impl Abort, alloc: Global, set: &Dfa, text: &str) -> Result<(), NoMemory> {
+    let one = single(alloc, text.as_bytes())?;
+    assert!(rt; is_within(alloc, set, &one)?, "more than {text}");
+    assert!(rt; is_within(alloc, &one, set)?, "{text} is no member");
+    Ok(())
+}
+
+// How a set is made of two.
+enum Cut {
+    Front,
+    Back,
+    Joined,
+}
+
+fn made_of(alloc: Global, cut: &Cut, a: &Dfa, b: &Dfa) -> Result<Dfa, NoMemory> {
+    match cut {
+        Cut::Front => prefix_quotient(alloc, a, b),
+        Cut::Back => suffix_quotient(alloc, a, b),
+        Cut::Joined => concat(alloc, a, b),
+    }
 }
 
 #[test]
-fn sets_are_cut_joined_and_merged(rt: HostRuntime) -> Result<(), NoMemory> {
-    let alloc = rt.alloc();
-    let abc = only(alloc, "abc")?;
-    let rest = prefix_quotient(alloc, &abc, &only(alloc, "a")?)?;
-    assert!(rt; is_only(alloc, &rest, "bc")?);
-    let front = suffix_quotient(alloc, &abc, &only(alloc, "c")?)?;
-    assert!(rt; is_only(alloc, &front, "ab")?);
-    let joined = concat(alloc, &only(alloc, "a")?, &only(alloc, "b")?)?;
-    assert!(rt; is_only(alloc, &joined, "ab")?);
-    let merged = merge_slashes(alloc, &only(alloc, "/a//b")?)?;
-    assert!(rt; is_only(alloc, &merged, "/a/b")?);
-    let merged = merge_slashes(alloc, &only(alloc, "///a////")?)?;
-    assert!(rt; is_only(alloc, &merged, "/a/")?);
+fn sets_are_cut_and_joined(rt: HostRuntime) -> Result<(), NoMemory> {
+    static ROWS: &[(Cut, &str, &str, &str)] = &[
+        (Cut::Front, "abc", "a", "bc"),
+        (Cut::Back, "abc", "c", "ab"),
+        (Cut::Joined, "a", "b", "ab"),
+    ];
+    for (cut, first, second, text) in ROWS {
+        let a = single(rt.alloc(), first.as_bytes())?;
+        let b = single(rt.alloc(), second.as_bytes())?;
+        let made = made_of(rt.alloc(), cut, &a, &b)?;
+        check_only(&rt, rt.alloc(), &made, text)?;
+    }
+    Ok(())
+}
+
+#[test]
+fn slashes_are_merged(rt: HostRuntime) -> Result<(), NoMemory> {
+    for (text, merged) in [("/a//b", "/a/b"), ("///a////", "/a/")] {
+        let set = single(rt.alloc(), text.as_bytes())?;
+        let made = merge_slashes(rt.alloc(), &set)?;
+        check_only(&rt, rt.alloc(), &made, merged)?;
+    }
+    Ok(())
+}
+
+#[test]
+fn bytes_are_replaced(rt: HostRuntime) -> Result<(), NoMemory> {
     let mut table = [0u8; 256];
     for (byte, entry) in table.iter_mut().enumerate() {
-        *entry = if byte == b'a' as usize {
-            b'A'
-        } else {
-            byte as u8
-        };
+        *entry = byte as u8;
     }
-    let image = byte_image(alloc, &only(alloc, "ab")?, &table)?;
-    assert!(rt; is_only(alloc, &image, "Ab")?);
+    table[b'a' as usize] = b'A';
+    let set = single(rt.alloc(), b"ab")?;
+    let image = byte_image(rt.alloc(), &set, &table)?;
+    check_only(&rt, rt.alloc(), &image, "Ab")
+}
+
+static USUAL: &[&str] = &[
+    r"^/index\.php$",
+    "^/(wp-admin|wp-includes|wp-content)/",
+    r"\.(css|js|png|jpg|gif|ico|svg|woff2)$",
+    "^/([a-z0-9_-]+)/([0-9]{4})/([0-9]{2})(/.*)?$",
+    "^/.*secret",
+    r"^/(.*/)?\.ht[^/]*$",
+    "^/(a|b|ab|ba)*c(d|e){1,12}",
+];
+
+// Whether two sets have nothing of what is kept of them.
+fn is_nothing(alloc: Global, a: &Dfa, b: &Dfa, keep: Keep) -> Result<bool, NoMemory> {
+    let made = product(alloc, a, b, keep)?;
+    Ok(least(alloc, &made)?.is_none())
+}
+
+// Compares what is told of two sets: their inclusion, the first without the second, and both.
+fn compare(rt: &impl Abort, alloc: Global, a: &Dfa, b: &Dfa) -> Result<(), NoMemory> {
+    let is_within = is_within(alloc, a, b)?;
+    assert_eq!(rt; is_within, is_nothing(alloc, a, b, Keep::FirstOnly)?);
+    let is_apart = is_nothing(alloc, a, b, Keep::Both)?;
+    assert!(rt; !is_within || !is_apart);
+    Ok(())
+}
+
+// Both are compiled anew.
+fn compare_patterns(
+    rt: &impl Abort,
+    alloc: Global,
+    first: &str,
+    second: &str,
+) -> Result<(), NoMemory> {
+    let a = found_in(rt, alloc, first)?;
+    let b = found_in(rt, alloc, second)?;
+    compare(rt, alloc, &a, &b)
+}
+
+#[test]
+fn usual_patterns_are_compared_a_hundred_times(rt: HostRuntime) -> Result<(), NoMemory> {
+    for _ in 0..100 {
+        for first in USUAL {
+            for second in USUAL {
+                compare_patterns(&rt, rt.alloc(), first, second)?;
+            }
+        }
+    }
     Ok(())
 }

@@ -9,6 +9,10 @@ mod base;
 #[cfg(test)]
 mod dfa;
 #[cfg(test)]
+mod groups;
+#[cfg(test)]
+mod include;
+#[cfg(test)]
 mod languages;
 #[cfg(test)]
 mod lines;
@@ -21,11 +25,17 @@ mod nodes;
 #[cfg(test)]
 mod patterns;
 #[cfg(test)]
+mod regset;
+#[cfg(test)]
+mod serve;
+#[cfg(test)]
 mod session;
 #[cfg(test)]
 mod show;
 #[cfg(test)]
 mod table;
+#[cfg(test)]
+mod target;
 #[cfg(test)]
 mod words;
 #[cfg(test)]

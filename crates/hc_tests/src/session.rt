@@ -5,34 +5,41 @@ use hc_base::{NoMemory, Sink, Source, Steps, VecSink, VecSource};
 use hc_session::{Status, serve_session};
 use std::alloc::Global;
 use std::marker::Brand;
+use std::process::Abort;
 use std::sync::ledger::{Blank, Ledger};
 use std::test::Fail;
 
 // A session over memory: how it ended, and what was written.
 #[derive(Drop)]
-struct Finished {
-    status: Status,
-    written: Vec<u8>,
+pub struct Finished {
+    pub status: Status,
+    pub written: Vec<u8>,
 }
 
-fn served<S: Source, K: Sink, B: Ledger>(
+fn served<S: Source, K: Sink, E: Ledger, B: Ledger>(
     alloc: Global,
     source: &mut S,
     sink: &mut K,
-    blank: Blank,
+    for_evals: Blank,
+    for_bytes: Blank,
 ) -> Status
     requires source_counts { S.faults source.old < 2 ^ 64 - 1 }
     requires sink_counts { K.faults sink.old < 2 ^ 64 - 1 }
-    requires name { blank.name ≡ B.name }
-    requires parts { blank.parts ≡ B.parts }
-    requires whole { 0 < blank.parts }
+    requires evals_name { for_evals.name ≡ E.name }
+    requires evals_parts { for_evals.parts ≡ E.parts }
+    requires evals_whole { 0 < for_evals.parts }
+    requires bytes_name { for_bytes.name ≡ B.name }
+    requires bytes_parts { for_bytes.parts ≡ B.parts }
+    requires bytes_whole { 0 < for_bytes.parts }
 {
-    serve_session(alloc, source, sink, &mut Steps::<B>::new(blank))
+    let mut evals = Steps::<E>::new(for_evals);
+    let mut bytes = Steps::<B>::new(for_bytes);
+    serve_session(alloc, source, sink, &mut evals, &mut bytes)
 }
 
 // A session over this input. The calls of `read` and `write` with these numbers fail, and a call of
 // `write` takes at most so many bytes.
-fn session_over(
+pub fn session_over(
     alloc: Global,
     input: &[u8],
     reads: &[u64],
@@ -43,11 +50,37 @@ fn session_over(
 {
     let mut source = VecSource::new(alloc, input, reads)?;
     let mut sink = VecSink::new(alloc, writes, most, 4096)?;
-    let status = served::<_, _, Brand>(alloc, &mut source, &mut sink, Blank::new(1));
+    let status = served::<_, _, Brand, Brand>(
+        alloc,
+        &mut source,
+        &mut sink,
+        Blank::new(1),
+        Blank::new(1),
+    );
     Ok(Finished {
         status,
         written: sink.written().to_vec(alloc)?,
     })
+}
+
+// Holds a dialogue in a session of its own: lines of commands (`{"do"..`), and behind each the reply that
+// is wanted.
+pub fn hold(rt: &impl Abort, alloc: Global, dialogue: &str) -> Result<(), NoMemory> {
+    let mut input = String::new(alloc);
+    let mut wanted = String::new(alloc);
+    for line in dialogue.lines() {
+        if line.starts_with("{\"do\"") {
+            input.push_str(line)?;
+            input.push_str("\n")?;
+        } else {
+            wanted.push_str(line)?;
+            wanted.push_str("\n")?;
+        }
+    }
+    let end = session_over(alloc, input.as_bytes(), &[], &[], 4096)?;
+    assert_eq!(rt; end.status, Status::Done, "{dialogue}");
+    assert_eq!(rt; end.written.as_slice(), wanted.as_bytes(), "{dialogue}");
+    Ok(())
 }
 
 const SCRIPT: &[u8] =
@@ -181,12 +214,16 @@ fn wrong_lines_name_their_field(rt: HostRuntime) -> Result<(), Fail> {
         ),
         (br#"{"do":"put"}"#, "path"),
         (br#"{"do":"put","path":"/a"}"#, "text"),
-        (br#"{"do":"put","path":"a","text":""}"#, "path"),
-        (br#"{"do":"put","path":"/a/../b","text":""}"#, "path"),
-        (br#"{"do":"put","path":"/","text":""}"#, "path"),
+        (br#"{"do":"list","path":"/a"}"#, "kind"),
+        (br#"{"do":"list","path":"/a","kind":"link"}"#, "kind"),
+        (
+            br#"{"do":"list","path":"/a","kind":"dir","text":""}"#,
+            "text",
+        ),
+        (br#"{"do":"check","path":"/a"}"#, "path"),
         (br#"{"do":"ask","target":"a"}"#, "target"),
-        (br#"{"do":"ask","target":"/a%20b"}"#, "target"),
-        (br#"{"do":"ask","target":"/a//b"}"#, "target"),
+        (br#"{"do":"ask","target":"/a b"}"#, "target"),
+        (br#"{"do":"ask","target":"/a#b"}"#, "target"),
     ];
     for &(line, field) in ROWS {
         let mut input = line.to_vec(alloc)?;
@@ -217,13 +254,13 @@ fn a_session_goes_on_after_a_refusal(rt: HostRuntime) -> Result<(), Fail> {
 {"do":"ask","target":"/"}
 "##;
     let wanted =
-        br#"{"refused":{"at":0,"code":27,"field":"","file":"/etc/httpd/conf/httpd.conf","line":0,"name":"NoDocumentRoot"}}
+        br#"{"refused":{"at":0,"code":8,"field":"","file":"/etc/httpd/conf/httpd.conf","line":0,"name":"IncludeMissing"}}
 {"done":"put"}
 {"refused":{"at":0,"code":1,"field":"","file":"/etc/httpd/conf/httpd.conf","line":3,"name":"UnsupportedDirective"}}
 {"done":"put"}
 {"done":"put"}
-{"refused":{"at":0,"code":46,"field":"path","file":"","line":0,"name":"BadCommand"}}
-{"refused":{"at":0,"code":46,"field":"path","file":"","line":0,"name":"BadCommand"}}
+{"refused":{"at":0,"code":42,"field":"","file":"","line":0,"name":"UnderFile"}}
+{"refused":{"at":0,"code":47,"field":"","file":"","line":0,"name":"IsDirectory"}}
 {"refused":{"at":0,"code":46,"field":"\\xc3\\xa9\\\\","file":"","line":0,"name":"BadCommand"}}
 {"outcome":{"file":{"info":"/more","path":"/srv/f"}}}
 {"outcome":{"file":{"info":"","path":"/srv/f"}}}
@@ -272,7 +309,11 @@ fn main_files_are_refused(rt: HostRuntime) -> Result<(), Fail> {
         ("", 27, 0),
         (r#"# DocumentRoot /srv\n"#, 27, 0),
         (r#"DocumentRoot /srv\nNonsense\n"#, 1, 2),
-        (r#"ServerRoot /srv\n"#, 1, 1),
+        (r#"ServerRoot /srv\n"#, 27, 0),
+        (r#"ServerRoot srv\n"#, 3, 1),
+        (r#"Define\n"#, 3, 1),
+        (r#"<IfDefine a b>\n</IfDefine>\n"#, 3, 1),
+        (r#"<IfModule 'x>\n</IfModule>\n"#, 6, 1),
         (r#"\"Alias\" /a /b\n"#, 1, 1),
         (r#"Directory /x\n"#, 1, 1),
         (r#"<Listen 80>\n</Listen>\n"#, 1, 1),

@@ -169,10 +169,19 @@ static LISTS: &[(ListKind, &str, u8, u64, Kind)] = &[
     (ListKind::File, "/new/deep/x", 0, 9, Kind::File),
     (ListKind::File, "/new/deep.d", 0, 10, Kind::File),
     (ListKind::Dir, "/new/\u{e9}", 0, 11, Kind::Dir),
+    (ListKind::File, "/d/a/x/y", 0, 12, Kind::File),
+    (ListKind::File, "/d/a-b", 0, 13, Kind::File),
+    (ListKind::File, "/d/a.b/c", 0, 14, Kind::File),
+    (ListKind::File, "/d/a0", 0, 15, Kind::File),
+    (ListKind::File, "/d-/x", 0, 16, Kind::File),
+    (ListKind::File, "/d0/x", 0, 17, Kind::File),
 ];
 
 static NAMES: &[(&str, &str)] = &[
-    ("/", "b:new:site:"),
+    ("/", "b:d:d-:d0:new:site:"),
+    ("/d", "a:a-b:a.b:a0:"),
+    ("/d/a", "x:"),
+    ("/d-", "x:"),
     ("/new", "Z:deep:deep.d:f:\u{e9}:"),
     ("/new/deep", "x:"),
     ("/site", "a.txt:"),
