@@ -12,7 +12,7 @@ import json
 import os
 import sys
 
-from measure import best_of, judge
+from measure import judge, measured
 
 FOLDERS = 1_000
 SIZES = (10_000, 100_000)
@@ -63,20 +63,10 @@ def faults_of(replies, lines):
     return None if reply.endswith("\n") else "the last reply has no end of line"
 
 
-def measure(program, room, lines):
-    size, seconds, peak = best_of(program, room, lines, write_input, faults_of)
-    print(
-        f"{lines:>7} lines  {size:>9} bytes  {seconds:8.3f} s"
-        f"  {lines / seconds:>10.0f} lines/s  {peak:>8} KiB"
-    )
-    return size, seconds, peak
+def rate(lines, size, seconds):
+    return f"{lines / seconds:.0f} lines/s"
 
 
-def main():
-    program, room = sys.argv[1:]
-    found = {lines: measure(program, room, lines) for lines in SIZES}
-    judge(found, GROWTH, MEMORY_PER_BYTE, MEMORY_KIB)
-
-
-main()
+found = measured(*sys.argv[1:], SIZES, write_input, faults_of, rate)
+judge(found, GROWTH, MEMORY_PER_BYTE, MEMORY_KIB)
 PYTHON

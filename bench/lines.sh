@@ -12,7 +12,7 @@ python3 - "$program" "$room" << 'PYTHON'
 import json
 import sys
 
-from measure import best_of, judge
+from measure import differs, judge, measured
 
 ASKS = 3
 SIZES = (10_000, 1_000_000)
@@ -53,24 +53,13 @@ def write_input(path, lines):
 
 def faults_of(replies, _):
     wanted = '{"done":"put"}\n' + '{"outcome":{"not_found":true}}\n' * ASKS
-    with open(replies, encoding="utf-8") as given:
-        return None if given.read() == wanted else "another reply"
+    return differs(replies, wanted)
 
 
-def measure(program, room, lines):
-    size, seconds, peak = best_of(program, room, lines, write_input, faults_of)
-    print(
-        f"{lines:>7} lines  {size:>9} bytes  {seconds:8.3f} s"
-        f"  {ASKS * size / seconds / 1e6:>7.1f} MB/s read  {peak:>8} KiB"
-    )
-    return size, seconds, peak
+def rate(lines, size, seconds):
+    return f"{ASKS * size / seconds / 1e6:.1f} MB/s read"
 
 
-def main():
-    program, room = sys.argv[1:]
-    found = {lines: measure(program, room, lines) for lines in SIZES}
-    judge(found, GROWTH, MEMORY_PER_BYTE, MEMORY_KIB)
-
-
-main()
+found = measured(*sys.argv[1:], SIZES, write_input, faults_of, rate)
+judge(found, GROWTH, MEMORY_PER_BYTE, MEMORY_KIB)
 PYTHON

@@ -46,6 +46,23 @@ def best_of(program, room, lines, write_input, faults_of):
     return size, min(run[0] for run in runs), min(run[1] for run in runs)
 
 
+def differs(replies, wanted):
+    """What is wrong with replies that should be these."""
+    with open(replies, encoding="utf-8") as given:
+        return None if given.read() == wanted else "another reply"
+
+
+def measured(program, room, sizes, write_input, faults_of, rate):
+    """Measures each number of lines, prints a row with what `rate` says of it, and gives what `judge` takes."""
+    found = {}
+    for lines in sizes:
+        size, seconds, peak = best_of(program, room, lines, write_input, faults_of)
+        told = rate(lines, size, seconds)
+        print(f"{lines:>7} lines  {size:>9} bytes  {seconds:8.3f} s  {told:>16}  {peak:>8} KiB")
+        found[lines] = (size, seconds, peak)
+    return found
+
+
 def judge(found, growth, memory_per_byte, memory_kib):
     """Prints whether time and memory stay within their limits, and ends with status 0 where they do.
 
