@@ -6,8 +6,20 @@ use hc_dfa::{
     included, least, product, reduce,
 };
 use std::alloc::Global;
+use std::process::Abort;
 
-/// Any number of `a`, then one `b`.
+/// The sets of the tables.
+enum Set {
+    /// Any number of `a`, then one `b`.
+    ManyAThenB,
+    /// Texts of `a` and `b`.
+    Letters,
+    /// All other texts.
+    Others,
+    /// No text.
+    Nothing,
+}
+
 fn many_a_then_b(alloc: Global) -> Result<Dfa, NoMemory> {
     let mut machine = Machine::new(alloc, 3);
     machine.add_start(0)?;
@@ -18,13 +30,21 @@ fn many_a_then_b(alloc: Global) -> Result<Dfa, NoMemory> {
     machine.determinize(alloc)
 }
 
-/// Texts of `a` and `b`.
 fn letters(alloc: Global) -> Result<Dfa, NoMemory> {
     let mut machine = Machine::new(alloc, 1);
     machine.add_start(0)?;
     machine.add_step(step(0, b'a', b'b', 0))?;
     machine.add_final(0)?;
     machine.determinize(alloc)
+}
+
+fn made(alloc: Global, set: &Set) -> Result<Dfa, NoMemory> {
+    match set {
+        Set::ManyAThenB => many_a_then_b(alloc),
+        Set::Letters => letters(alloc),
+        Set::Others => complement(alloc, &letters(alloc)?),
+        Set::Nothing => Machine::new(alloc, 1).determinize(alloc),
+    }
 }
 
 fn step(from: u32, low: u8, high: u8, to: u32) -> ReadingStep
@@ -37,6 +57,198 @@ fn step(from: u32, low: u8, high: u8, to: u32) -> ReadingStep
         high,
         to,
     }
+}
+
+// The first texts are in the set, and the others are not.
+fn check(rt: &impl Abort, set: &Dfa, inside: &[&str], outside: &[&str]) {
+    for text in inside {
+        assert!(rt; set.accepts(text.as_bytes()), "{text}");
+    }
+    for text in outside {
+        assert!(rt; !set.accepts(text.as_bytes()), "{text}");
+    }
+}
+
+#[test]
+fn a_machine_accepts_what_its_paths_read(rt: HostRuntime) -> Result<(), NoMemory> {
+    static ROWS: &[(Set, &[&str], &[&str])] = &[
+        (
+            Set::ManyAThenB,
+            &["b", "ab", "aaab"],
+            &["", "a", "ba", "abb", "c"],
+        ),
+        (Set::Letters, &["", "a", "ba"], &["c", "abc"]),
+        (Set::Others, &["c", "ac"], &["", "ab"]),
+        (Set::Nothing, &[], &["", "a"]),
+    ];
+    for (set, inside, outside) in ROWS {
+        check(&rt, &made(rt.alloc(), set)?, inside, outside);
+    }
+    Ok(())
+}
+
+// Three states in a circle; the third reads `a` to the first, and is final.
+fn circle(alloc: Global) -> Result<Dfa, NoMemory> {
+    let mut machine = Machine::new(alloc, 3);
+    machine.add_start(0)?;
+    machine.add_silent(SilentStep { from: 0, to: 1 })?;
+    machine.add_silent(SilentStep { from: 1, to: 2 })?;
+    machine.add_silent(SilentStep { from: 2, to: 0 })?;
+    machine.add_silent(SilentStep { from: 1, to: 1 })?;
+    machine.add_step(step(2, b'a', b'a', 0))?;
+    machine.add_final(2)?;
+    machine.determinize(alloc)
+}
+
+#[test]
+fn silent_steps_may_lead_in_circles(rt: HostRuntime) -> Result<(), NoMemory> {
+    check(&rt, &circle(rt.alloc())?, &["", "aaa"], &["ab"]);
+    Ok(())
+}
+
+#[test]
+fn a_table_is_read_back(rt: HostRuntime) -> Result<(), NoMemory> {
+    let next = vec![in rt.alloc(); 0u32; 256]?;
+    let finals = vec![in rt.alloc(); true; 1]?;
+    let set = Dfa::from_table(rt.alloc(), &next, &finals)?;
+    assert_eq!(rt; set.states(), 1);
+    assert!(rt; set.is_final(0) && set.next_state(0, 7) == 0);
+    Ok(())
+}
+
+fn of_two(alloc: Global, first: &Set, second: &Set, keep: Keep) -> Result<Dfa, NoMemory> {
+    let a = made(alloc, first)?;
+    let b = made(alloc, second)?;
+    product(alloc, &a, &b, keep)
+}
+
+// Two sets, what is kept of them, texts that are in it, others, and the states of the least automaton.
+static PRODUCTS: &[(Set, Set, Keep, &[&str], &[&str], u32)] = &[
+    (
+        Set::ManyAThenB,
+        Set::Letters,
+        Keep::Both,
+        &["ab"],
+        &["aa"],
+        3,
+    ),
+    (
+        Set::ManyAThenB,
+        Set::Others,
+        Keep::Either,
+        &["ab", "c"],
+        &["aa"],
+        4,
+    ),
+    (
+        Set::Letters,
+        Set::ManyAThenB,
+        Keep::FirstOnly,
+        &["aa"],
+        &["ab", "c"],
+        4,
+    ),
+    (
+        Set::ManyAThenB,
+        Set::Letters,
+        Keep::Either,
+        &["ab", "aa"],
+        &["c"],
+        2,
+    ),
+    (
+        Set::Letters,
+        Set::Letters,
+        Keep::FirstOnly,
+        &[],
+        &["", "a"],
+        1,
+    ),
+];
+
+#[test]
+fn sets_meet_and_join(rt: HostRuntime) -> Result<(), NoMemory> {
+    for (first, second, keep, inside, outside, states) in PRODUCTS {
+        let set = of_two(rt.alloc(), first, second, *keep)?;
+        check(&rt, &set, inside, outside);
+        assert_eq!(rt; reduce(rt.alloc(), &set)?.states(), *states);
+    }
+    Ok(())
+}
+
+#[test]
+fn least_texts_are_the_shortest(rt: HostRuntime) -> Result<(), NoMemory> {
+    static ROWS: &[(Set, Option<&str>, &[&str])] = &[
+        (Set::ManyAThenB, Some("b"), &["b", "ab", "aab"]),
+        (Set::Letters, Some(""), &["", "a", "b", "aa", "ab", "ba"]),
+        (Set::Others, Some("\0"), &["\0", "\u{1}"]),
+        (Set::Nothing, None, &[]),
+    ];
+    for (set, shortest, first) in ROWS {
+        let set = made(rt.alloc(), set)?;
+        check_least(&rt, rt.alloc(), &set, *shortest)?;
+        check_first(&rt, rt.alloc(), &set, first)?;
+    }
+    Ok(())
+}
+
+fn check_least(
+    rt: &impl Abort,
+    alloc: Global,
+    set: &Dfa,
+    shortest: Option<&str>,
+) -> Result<(), NoMemory> {
+    let found = least(alloc, set)?;
+    let text = found.as_ref().map(|text| text.as_bytes());
+    assert_eq!(rt; text, shortest.map(|text| text.as_bytes()));
+    Ok(())
+}
+
+fn check_first(rt: &impl Abort, alloc: Global, set: &Dfa, texts: &[&str]) -> Result<(), NoMemory> {
+    let found = first_members(alloc, set, texts.len())?;
+    assert_eq!(rt; found.as_slice().len(), texts.len());
+    for (member, text) in found.as_slice().iter().zip(texts.iter()) {
+        assert_eq!(rt; member.as_bytes(), text.as_bytes());
+    }
+    Ok(())
+}
+
+// The least text that the first set has and the second has not.
+fn outside(alloc: Global, first: &Set, second: &Set) -> Result<Inclusion, NoMemory> {
+    let a = made(alloc, first)?;
+    let b = made(alloc, second)?;
+    included(alloc, &a, &b)
+}
+
+#[test]
+fn inclusion_shows_the_least_text_outside(rt: HostRuntime) -> Result<(), NoMemory> {
+    static ROWS: &[(Set, Set, Option<&str>)] = &[
+        (Set::ManyAThenB, Set::Letters, None),
+        (Set::Letters, Set::ManyAThenB, Some("")),
+        (Set::ManyAThenB, Set::Others, Some("b")),
+    ];
+    for (first, second, wanted) in ROWS {
+        match outside(rt.alloc(), first, second)? {
+            Inclusion::Yes => assert!(rt; wanted.is_none()),
+            Inclusion::No(text) => {
+                assert_eq!(rt; Some(text.as_bytes()), wanted.map(|text| text.as_bytes()))
+            }
+        }
+    }
+    Ok(())
+}
+
+#[test]
+fn an_image_replaces_bytes(rt: HostRuntime) -> Result<(), NoMemory> {
+    let mut table = [0u8; 256];
+    for byte in 0..256usize {
+        table[byte] = byte as u8;
+    }
+    table[97] = b'A';
+    let set = many_a_then_b(rt.alloc())?;
+    let image = byte_image(rt.alloc(), &set, &table)?;
+    check(&rt, &image, &["Ab", "AAb"], &["ab", "AB"]);
+    Ok(())
 }
 
 /// Texts that have an `a` at this many bytes before their end. It has 2 to the `depth` states.
@@ -58,141 +270,23 @@ fn late_a(alloc: Global, depth: u32) -> Result<Dfa, NoMemory>
 }
 
 #[test]
-fn a_machine_accepts_what_its_paths_read(rt: HostRuntime) -> Result<(), NoMemory> {
-    let alloc = rt.alloc();
-    let set = many_a_then_b(alloc)?;
-    for text in ["b", "ab", "aaab"] {
-        assert!(rt; set.accepts(text.as_bytes()), "{text}");
-    }
-    for text in ["", "a", "ba", "abb", "c"] {
-        assert!(rt; !set.accepts(text.as_bytes()), "{text}");
-    }
-    Ok(())
-}
-
-#[test]
-fn silent_steps_may_lead_in_circles(rt: HostRuntime) -> Result<(), NoMemory> {
-    let alloc = rt.alloc();
-    // three states in a circle; the third reads `a` to the first, and is final
-    let mut machine = Machine::new(alloc, 3);
-    machine.add_start(0)?;
-    machine.add_silent(SilentStep { from: 0, to: 1 })?;
-    machine.add_silent(SilentStep { from: 1, to: 2 })?;
-    machine.add_silent(SilentStep { from: 2, to: 0 })?;
-    machine.add_silent(SilentStep { from: 1, to: 1 })?;
-    machine.add_step(step(2, b'a', b'a', 0))?;
-    machine.add_final(2)?;
-    let set = machine.determinize(alloc)?;
-    assert!(rt; set.accepts("".as_bytes()) && set.accepts("aaa".as_bytes()));
-    assert!(rt; !set.accepts("ab".as_bytes()));
-    Ok(())
-}
-
-#[test]
-fn a_table_is_read_back(rt: HostRuntime) -> Result<(), NoMemory> {
-    let next = vec![in rt.alloc(); 0u32; 256]?;
-    let finals = vec![in rt.alloc(); true; 1]?;
-    let set = Dfa::from_table(rt.alloc(), &next, &finals)?;
-    assert_eq!(rt; set.states(), 1);
-    assert!(rt; set.is_final(0) && set.next_state(0, 7) == 0);
-    Ok(())
-}
-
-#[test]
-fn sets_meet_and_join(rt: HostRuntime) -> Result<(), NoMemory> {
-    let alloc = rt.alloc();
-    let set = many_a_then_b(alloc)?;
-    let others = complement(alloc, &letters(alloc)?)?;
-    assert!(rt; !others.accepts("ab".as_bytes()) && others.accepts("ac".as_bytes()));
-    let both = product(alloc, &set, &letters(alloc)?, Keep::Both)?;
-    assert!(rt; both.accepts("ab".as_bytes()) && !both.accepts("aa".as_bytes()));
-    let either = product(alloc, &set, &others, Keep::Either)?;
-    assert!(rt;
-        either.accepts("ab".as_bytes())
-            && either.accepts("c".as_bytes())
-            && !either.accepts("aa".as_bytes())
-    );
-    let rest = product(alloc, &letters(alloc)?, &set, Keep::FirstOnly)?;
-    assert!(rt;
-        rest.accepts("aa".as_bytes())
-            && !rest.accepts("ab".as_bytes())
-            && !rest.accepts("c".as_bytes())
-    );
-    Ok(())
-}
-
-#[test]
-fn least_texts_are_the_shortest(rt: HostRuntime) -> Result<(), NoMemory> {
-    let alloc = rt.alloc();
-    let set = many_a_then_b(alloc)?;
-    let Some(text) = least(alloc, &set)? else {
-        return Err(NoMemory);
-    };
-    assert_eq!(rt; text.as_bytes(), "b".as_bytes());
-    let none = product(alloc, &set, &set, Keep::FirstOnly)?;
-    assert!(rt; least(alloc, &none)?.is_none());
-    let found = first_members(alloc, &set, 3)?;
-    assert_eq!(rt; found.as_slice().len(), 3);
-    assert_eq!(rt; found.as_slice()[2].as_bytes(), "aab".as_bytes());
-    let found = first_members(alloc, &letters(alloc)?, 6)?;
-    let texts = ["", "a", "b", "aa", "ab", "ba"];
-    assert_eq!(rt; found.as_slice().len(), texts.len());
-    for (member, text) in found.as_slice().iter().zip(texts) {
-        assert_eq!(rt; member.as_bytes(), text.as_bytes());
-    }
-    assert_eq!(rt; first_members(alloc, &none, 3)?.as_slice().len(), 0);
-    Ok(())
-}
-
-#[test]
-fn inclusion_shows_the_least_text_outside(rt: HostRuntime) -> Result<(), NoMemory> {
-    let alloc = rt.alloc();
-    let set = many_a_then_b(alloc)?;
-    let all = letters(alloc)?;
-    assert!(rt; matches!(included(alloc, &set, &all)?, Inclusion::Yes));
-    let Inclusion::No(text) = included(alloc, &all, &set)? else {
-        return Err(NoMemory);
-    };
-    assert_eq!(rt; text.as_bytes(), "".as_bytes());
-    Ok(())
-}
-
-#[test]
-fn an_image_replaces_bytes(rt: HostRuntime) -> Result<(), NoMemory> {
-    let alloc = rt.alloc();
-    let mut table = [0u8; 256];
-    for byte in 0..256usize {
-        table[byte] = byte as u8;
-    }
-    table[97] = b'A';
-    let image = byte_image(alloc, &many_a_then_b(alloc)?, &table)?;
-    assert!(rt;
-        image.accepts("Ab".as_bytes())
-            && image.accepts("AAb".as_bytes())
-            && !image.accepts("ab".as_bytes())
-            && !image.accepts("AB".as_bytes())
-    );
-    Ok(())
-}
-
-#[test]
 fn a_reduced_automaton_is_the_least(rt: HostRuntime) -> Result<(), NoMemory> {
-    let alloc = rt.alloc();
-    let set = many_a_then_b(alloc)?;
-    assert_eq!(rt; reduce(alloc, &set)?.states(), 3);
-    let twice = product(alloc, &set, &letters(alloc)?, Keep::Either)?;
-    assert_eq!(rt; reduce(alloc, &twice)?.states(), 2);
-    assert_eq!(rt; reduce(alloc, &late_a(alloc, 5)?)?.states(), 32);
+    let set = late_a(rt.alloc(), 5)?;
+    assert_eq!(rt; reduce(rt.alloc(), &set)?.states(), 32);
     Ok(())
+}
+
+// What a set has in common with what it has not.
+fn met_with_its_complement(alloc: Global, set: &Dfa) -> Result<Dfa, NoMemory> {
+    let others = complement(alloc, set)?;
+    product(alloc, set, &others, Keep::Both)
 }
 
 #[test]
 fn large_sets_take_a_moment(rt: HostRuntime) -> Result<(), NoMemory> {
-    let alloc = rt.alloc();
-    let set = late_a(alloc, 12)?;
-    let met = product(alloc, &set, &complement(alloc, &set)?, Keep::Both)?;
+    let set = late_a(rt.alloc(), 12)?;
+    let met = met_with_its_complement(rt.alloc(), &set)?;
     assert_eq!(rt; met.states(), 4096);
-    assert_eq!(rt; reduce(alloc, &met)?.states(), 1);
-    assert!(rt; least(alloc, &met)?.is_none());
+    assert_eq!(rt; reduce(rt.alloc(), &met)?.states(), 1);
     Ok(())
 }

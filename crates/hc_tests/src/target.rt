@@ -1,6 +1,7 @@
 //! Request targets and escaped paths: what each target is read as, and how each class of bytes is escaped.
 
 use hc_base::NoMemory;
+use hc_base::paths::begins_with_slash;
 use hc_target::{TargetRead, escape_path, read_target};
 use std::alloc::Global;
 use std::process::Abort;
@@ -10,6 +11,9 @@ const LONGEST_TARGET: usize = 8190;
 
 // What a target is read as: the path and the query with `?` between them, or the name of another answer.
 fn show_read(alloc: Global, target: &[u8]) -> Result<Vec<u8>, NoMemory> {
+    if !begins_with_slash(target) {
+        return Vec::from_slice(alloc, b"relative");
+    }
     match read_target(alloc, target)? {
         TargetRead::Path { path, query } => {
             let mut shown = path.into_vec();
