@@ -1,11 +1,15 @@
 -- Lines have a tree exactly where they break no rule, and then one alone.
-use Rattle.std.proofs.Common.{◌≡◌, ℕ, ◌+◌, ◌-◌, ◌<◌, ◌≤◌, List, [], ◌∷◌, ◌++◌, length, drop, Bool, true, false, refl, sym, ap, ◌∙◌, append_assoc, append-nil, drop-drop, Option, Some, None, inl, inr, subst, arith}
+use Rattle.std.proofs.Common.{◌≡◌, ℕ, ◌+◌, ◌-◌, ◌<◌, ◌≤◌, List, [], ◌∷◌, ◌++◌, length, take, drop, Bool, true, false, refl, sym, ap, ◌∙◌, append_assoc, append-nil, drop-drop, Option, Some, None, inl, inr, subst, arith}
+use Rattle.std.proofs.lemmas.List.{take-append-drop}
 use Rattle.std.proofs.lemmas.Bool.{cases_Bool, cond_both, and_from, not_from_false}
 use Rattle.hc_base.specs.Bytes.{begins_with, less}
 use Rattle.hc_base.specs.declared.fault.AtLine.{AtLine}
 use Rattle.hc_lines.specs.declared.line.Line.{Line}
+use Rattle.hc_nodes.specs.NodeView.{nodes_view}
+use Rattle.hc_nodes.specs.Parts.{IsPart, tree_of}
 use Rattle.hc_nodes.specs.Sections.{followed}
 use Rattle.hc_nodes.specs.Tree.{is_close, is_opening, is_complete, closes, Nodes, none, directive, block, directive_at, block_at, Reads, open_behind, broken_by, closes_innermost, most_open, refusals, with_broken, first_of_all, or_earlier, comes_first, refusal_of, unless_refused, nodes_of, next_of, with_line, levels_of, IsOnlyTree}
+use Rattle.hc_nodes.specs.declared.part.Part.{Part}
 use Rattle.hc_nodes.proofs.Building.{followed-none}
 use Rattle.hc_nodes.proofs.Steps.{close_open, close_broken, close_with, is_close-closes, directive_open, directive_broken, directive_with, opening_parts, opening_open, opening_broken, opening_with, close_unbroken, opening_unbroken}
 
@@ -129,3 +133,26 @@ only_tree lines (Some refusal) is = λ other reads.
 pub lines_have_one_tree : (lines : List Line) → IsOnlyTree (nodes_of lines) lines
 unfolding nodes_of
 lines_have_one_tree lines = only_tree lines _ refl
+
+-- ---- parts
+
+first_reads : (front : List Line) → refusal_of front ≡ None → Reads most_open (tree_of front) front
+first_reads front free = (only_tree front None free).0
+
+front_tree : (front behind : List Line) → refusal_of front ≡ None → tree_of (front ++ behind) ≡ followed (tree_of front) (tree_of behind)
+front_tree front behind free = ap next_of (levels_read (tree_of front) most_open front behind (first_reads front free))
+
+behind_free : (front behind : List Line) → refusal_of front ≡ None → refusal_of (front ++ behind) ≡ None → refusal_of behind ≡ None
+behind_free front behind free all =
+    sym (ap first_of_all (refusals_read (tree_of front) most_open front behind [] (first_reads front free) (omega arith))) ∙ all
+
+pub is_part : (lines : List Line) (part : Part) → refusal_of lines ≡ None → refusal_of (take part.lines lines) ≡ None → part.lines ≤ length lines
+    → (0 < length lines → 0 < part.lines) → nodes_view part.nodes.items ≡ tree_of (take part.lines lines) → IsPart lines part
+is_part lines part free front within some nodes =
+    let whole : take part.lines lines ++ drop part.lines lines ≡ lines = take-append-drop part.lines lines in
+    record {
+      tree = rw nodes (sym (ap tree_of whole) ∙ front_tree (take part.lines lines) (drop part.lines lines) front);
+      free = behind_free (take part.lines lines) (drop part.lines lines) front (ap refusal_of whole ∙ free);
+      within = within;
+      some = some;
+    }

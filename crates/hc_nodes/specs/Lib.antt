@@ -2,4 +2,5 @@ pub mod Closes
 pub mod NodeView
 pub mod Openings
 pub mod Sections
+pub mod Parts
 pub mod Tree

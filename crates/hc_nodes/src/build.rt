@@ -37,9 +37,12 @@ pub fn read_nodes<'l, 't>(
     }
 }
 
-// The nodes of lines that break no rule. Those are nested at most 64 deep, so the nodes are too,
-// and to drop them recurses no deeper.
-fn build_nodes<'l, 't>(alloc: Global, lines: &'l [Line<'t>]) -> Result<Vec<Node<'l, 't>>, NoMemory>
+/// The nodes of lines that break no rule. Those are nested at most 64 deep, so the nodes are too,
+/// and to drop them recurses no deeper.
+pub(crate) fn build_nodes<'l, 't>(
+    alloc: Global,
+    lines: &'l [Line<'t>],
+) -> Result<Vec<Node<'l, 't>>, NoMemory>
     requires { refusal_of lines.now ≡ None }
     ensures { IfOk result (λ nodes. nodes_view nodes.items ≡ next_of (levels_of lines.now)) }
 {
