@@ -2,7 +2,9 @@ pub mod Includes
 pub mod Indexes
 pub mod Levels
 pub mod Counting
+pub mod Parts
 pub mod Replacing
 pub mod Rising
+pub mod Rows
 pub mod Steps
 pub mod Wild

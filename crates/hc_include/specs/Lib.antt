@@ -4,6 +4,7 @@ pub mod Rising
 pub mod Named
 pub mod Earlier
 pub mod EarlierView
+pub mod EntriesView
 pub mod Flat
 pub mod WildcardView
 pub mod StandingView

@@ -1,9 +1,10 @@
-ghost use Rattle.std.specs.Prelude.{◌≡◌, ◌+◌, ◌≤◌, ◌++◌, ◌∷◌, [], IfOk, length};
+ghost use Rattle.std.specs.Prelude.{◌≡◌, ◌+◌, ◌≤◌, ◌++◌, ◌∷◌, [], None, IfOk, length};
 ghost use Rattle.hc_model.specs.World as model;
 ghost use Rattle.hc_lines.specs.Logical.{lines_of};
 ghost use Rattle.hc_lines.specs.declared.line.FileKind.TheVariants.{Config};
 ghost use Rattle.hc_nodes.specs.NodeView.{nodes_view};
-ghost use Rattle.hc_nodes.specs.Tree.{nodes_of};
+ghost use Rattle.hc_nodes.specs.Parts.{tree_of};
+ghost use Rattle.hc_nodes.specs.Tree.{nodes_of, refusal_of};
 ghost use Rattle.hc_include.specs.Flat as flat_list;
 ghost use Rattle.hc_include.specs.Flat.{Reader, file_read, files_read, lines_read, missing_rule, nodes_read, read_from, rule, tree_read};
 ghost use Rattle.hc_include.specs.Flattened.{IsFlat};
@@ -22,7 +23,7 @@ use hc_base::codes::{CONTENT_MISSING, INCLUDE_MISSING};
 use hc_base::{Fault, List, NoMemory, Steps, Text};
 use hc_lines::{FileKind, Line, logical_lines};
 use hc_model::Read;
-use hc_nodes::{Node, read_nodes};
+use hc_nodes::{Node, first_refusal, read_part};
 use hc_world::World;
 use std::alloc::Global;
 use std::sync::ledger::Ledger;
@@ -143,11 +144,34 @@ fn read_tree<L: Ledger>(
     ensures read { IfOk result (λ later. seen later bytes.new ≡ tree_read world.now.files around.now (files_read world.now.files around.now.room around.now.chain) within.now (nodes_of lines.now) (seen standing bytes.old)) }
     ensures rise { bytes.old ≤ bytes.new }
 {
-    match read_nodes(alloc, lines) {
-        Ok(nodes) => read_body(alloc, world, around, &nodes, within, standing, bytes),
-        Err(Fault::Refused(broken)) => stopped_at(around, broken.line, broken.code, standing),
-        Err(Fault::NoMemory) => Err(NoMemory),
+    match first_refusal(alloc, lines)? {
+        Some(broken) => stopped_at(around, broken.line, broken.code, standing),
+        None => read_parts(alloc, world, around, lines, within, standing, bytes),
     }
+}
+
+// Reads lines that break no rule of sections, part by part.
+#[cycle(files)]
+fn read_parts<L: Ledger>(
+    alloc: Global,
+    world: &World,
+    around: &Around,
+    lines: &[Line],
+    within: &List<u32>,
+    mut standing: Standing,
+    bytes: &mut Steps<L>,
+) -> Result<Standing, NoMemory>
+    requires { refusal_of lines.now ≡ None }
+    ensures read { IfOk result (λ later. seen later bytes.new ≡ nodes_read world.now.files around.now (files_read world.now.files around.now.room around.now.chain) (tree_of lines.now) within.now (seen standing bytes.old)) }
+    ensures rise { bytes.old ≤ bytes.new }
+{
+    let mut at = 0usize;
+    while at < lines.len() {
+        let part = read_part(alloc, lines.split_at(at).1)?;
+        standing = read_body(alloc, world, around, &part.nodes, within, standing, bytes)?;
+        at += part.lines;
+    }
+    Ok(standing)
 }
 
 #[cycle(files)]

@@ -2,6 +2,7 @@ ghost use Rattle.std.specs.Prelude.{◌≡◌, ◌++◌, codes, map, IfOk, OnOk}
 ghost use Rattle.hc_include.specs.Earlier.{built_in, define_of, defines, first_word, loaded, words_under};
 
 use crate::earlier::BUILT_IN;
+use crate::entries::Rest;
 use crate::words::words_under;
 use hc_base::{CowStr, List, NoMemory, Text};
 use hc_model::{Define, Entry};
@@ -11,14 +12,17 @@ use std::alloc::Global;
 ///
 /// An entry whose words are not UTF-8, which no text of a world gives, is answered as if memory were
 /// refused, here and in `modules` (our own choice).
-pub fn defines(alloc: Global, entries: &[Entry]) -> Result<List<Define>, NoMemory>
-    ensures { IfOk result (λ found. found ≡ defines entries.now) }
+pub fn defines(alloc: Global, entries: Rest) -> Result<List<Define>, NoMemory>
+    ensures { IfOk result (λ found. found ≡ defines entries.entry) }
 {
     let mut found = List::new(alloc);
-    for entry in entries {
-        if let Some(define) = define_in(alloc, entry)? {
-            found.push(define)?;
-        }
+    let mut left = entries;
+    'entries: while let Some((entry, behind)) = left.split_first(alloc)? {
+        left = behind;
+        let Some(define) = define_in(alloc, &entry)? else {
+            continue;
+        };
+        found.push(define)?;
     }
     Ok(found)
 }
@@ -57,15 +61,18 @@ fn text_of(alloc: Global, word: &CowStr) -> Result<Text, NoMemory>
 
 /// The modules that are present behind a flat list: those that always are, and the loaded ones
 /// (Apache manual, mod_so).
-pub fn modules(alloc: Global, entries: &[Entry]) -> Result<List<Text>, NoMemory>
-    ensures { IfOk result (λ found. found ≡ built_in ++ loaded entries.now) }
+pub fn modules(alloc: Global, entries: Rest) -> Result<List<Text>, NoMemory>
+    ensures { IfOk result (λ found. found ≡ built_in ++ loaded entries.entry) }
 {
     let mut found = List::new(alloc);
     push_names(alloc, &mut found, &BUILT_IN)?;
-    for entry in entries {
-        if let Some(module) = module_in(alloc, entry)? {
-            found.push(module)?;
-        }
+    let mut left = entries;
+    'entries: while let Some((entry, behind)) = left.split_first(alloc)? {
+        left = behind;
+        let Some(module) = module_in(alloc, &entry)? else {
+            continue;
+        };
+        found.push(module)?;
     }
     Ok(found)
 }

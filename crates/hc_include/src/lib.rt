@@ -4,6 +4,7 @@
 mod around;
 mod directive;
 mod earlier;
+mod entries;
 mod entry;
 mod files;
 mod flat;
@@ -20,6 +21,7 @@ mod walk;
 mod wildcard;
 mod words;
 
+pub use entries::{Entries, Rest};
 pub use files::flatten;
 pub use flat::Flat;
 pub use gathered::{defines, modules};

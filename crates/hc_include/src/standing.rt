@@ -5,6 +5,7 @@ ghost use Rattle.hc_include.specs.StandingView.{seen};
 ghost use Rattle.hc_include.specs.Variables.{replaced};
 
 use crate::earlier::Earlier;
+use crate::entries::Entries;
 use crate::kept::Standing;
 use crate::variables::replaced;
 use hc_base::{AtByte, List, NoMemory, Place, Refusal, Text};
@@ -18,7 +19,7 @@ impl Standing {
     {
         Standing {
             alloc,
-            entries: List::new(alloc),
+            entries: Entries::new(alloc),
             stop: None,
             looked,
             earlier: Earlier::new(alloc),
@@ -35,7 +36,7 @@ impl Standing {
     pub(crate) fn len(&self) -> usize
         ensures { result ≡ length self.now.entries }
     {
-        self.entries.as_slice().len()
+        self.entries.len()
     }
 
     /// A text with its variables replaced.
@@ -70,13 +71,13 @@ impl Standing {
     {
         let Standing {
             alloc,
-            mut entries,
+            entries,
             stop,
             looked,
             earlier,
         } = self;
         let earlier = earlier.with_entry(&entry, rest)?;
-        entries.push(entry)?;
+        let entries = entries.with(&entry)?;
         Ok(Standing {
             alloc,
             entries,
@@ -93,12 +94,12 @@ impl Standing {
     {
         let Standing {
             alloc,
-            mut entries,
+            entries,
             stop,
             looked,
             earlier,
         } = self;
-        entries.push(entry)?;
+        let entries = entries.with(&entry)?;
         Ok(Standing {
             alloc,
             entries,

@@ -11,6 +11,7 @@ ghost use Rattle.hc_include.specs.StandingView.{seen};
 
 use crate::around::Around;
 use crate::directive::{Next, read_directive};
+use crate::entries::counted;
 use crate::entry::entry_of;
 use crate::kept::Standing;
 use crate::section::{keeps_body, read_opening};
@@ -174,13 +175,9 @@ fn if_kept<'n, 'l, 't>(keeps: bool, body: &'n [Node<'l, 't>]) -> &'n [Node<'l, '
     if keeps { body } else { &[] }
 }
 
-// The place of the next entry. More entries than a `u32` counts find no memory.
+// The place of the next entry.
 fn place_of(standing: &Standing) -> Result<u32, NoMemory>
     ensures { IfOk result (λ place. place ≡ length standing.now.entries) }
 {
-    let place = standing.len();
-    if place > u32::MAX as usize {
-        return Err(NoMemory);
-    }
-    Ok(place as u32)
+    counted(standing.len())
 }
