@@ -8,7 +8,7 @@ use crate::effect::Effect;
 use crate::rules::judge;
 use hc_base::codes::NO_DOCUMENT_ROOT;
 use hc_base::{AtByte, Fault, List, NoMemory, Place, Refusal, Text};
-use hc_include::{Flat, defines, modules};
+use hc_include::{Flat, Rest, defines, modules};
 use hc_model::{Alias, Body, Config, Entry, Inherit, Merging, Redirect, Server};
 use hc_table::directives;
 use std::alloc::Global;
@@ -26,7 +26,7 @@ pub type BuildFault = Fault<Refusal>;
 pub fn build(alloc: Global, flat: &Flat) -> Result<Config, BuildFault>
     ensures { Gives result (built flat.now) }
 {
-    match gather(alloc, flat.entries.as_slice()) {
+    match gather(alloc, flat.entries.all()) {
         Ok(gathered) => finish(alloc, flat, gathered),
         Err(fault) => Err(fault),
     }
@@ -66,8 +66,8 @@ pub(crate) struct Gathered {
     maps: List<Alias>,
 }
 
-fn gather(alloc: Global, entries: &[Entry]) -> Result<Gathered, BuildFault>
-    ensures { Gives result (gathered_from nothing_gathered entries.now) }
+fn gather(alloc: Global, entries: Rest) -> Result<Gathered, BuildFault>
+    ensures { Gives result (gathered_from nothing_gathered entries.entry) }
 {
     let names = directives();
     let mut gathered = Gathered {
@@ -75,12 +75,14 @@ fn gather(alloc: Global, entries: &[Entry]) -> Result<Gathered, BuildFault>
         redirects: List::new(alloc),
         maps: List::new(alloc),
     };
-    for entry in entries {
-        match judge(alloc, &names.rows, entry) {
+    let mut left = entries;
+    'entries: while let Some((entry, behind)) = left.split_first(alloc)? {
+        match judge(alloc, &names.rows, &entry) {
             Ok(effect) => perform(&mut gathered, effect)?,
-            Err(Fault::Refused(broken)) => return Err(refused(alloc, entry, broken)),
+            Err(Fault::Refused(broken)) => return Err(refused(alloc, &entry, broken)),
             Err(Fault::NoMemory) => return Err(Fault::NoMemory),
         }
+        left = behind;
     }
     Ok(gathered)
 }
@@ -140,8 +142,8 @@ fn config_with(alloc: Global, flat: &Flat, gathered: Gathered) -> Result<Config,
     Ok(Config {
         main: server_of(alloc, gathered),
         hosts: List::new(alloc),
-        defines: defines(alloc, flat.entries.as_slice())?,
-        modules: modules(alloc, flat.entries.as_slice())?,
+        defines: defines(alloc, flat.entries.all())?,
+        modules: modules(alloc, flat.entries.all())?,
         reads: flat.reads.copy()?,
     })
 }

@@ -3,11 +3,11 @@ ghost use Rattle.hc_base.specs.Paths.{begins_with_slash};
 ghost use Rattle.hc_base.specs.Gives.{Gives};
 ghost use Rattle.hc_config.specs.Directives.{alias, alias_match, alias_of, document_root, only, one_or_two_words, one_word, server_root};
 
-use crate::targets::{own_group_target, search_test};
+use crate::targets::{own_group_target, search_test, text_alone};
 use hc_base::codes::WRONG_ARGUMENTS;
 use hc_base::paths::begins_with_slash;
-use hc_base::{AtByte, CowStr, Fault, List, NoMemory, Text};
-use hc_model::{Alias, PathTest, Piece, Redirect, Spot};
+use hc_base::{AtByte, CowStr, Fault, NoMemory, Text};
+use hc_model::{Alias, PathTest, Redirect, Spot};
 use std::alloc::Global;
 
 /// What an entry does to the main server.
@@ -105,13 +105,11 @@ pub(crate) fn alias(alloc: Global, spot: &Spot, words: &[CowStr]) -> Result<Effe
 fn alias_of(alloc: Global, spot: &Spot, from: Text, to: Text) -> Result<Alias, NoMemory>
     ensures { IfOk result (λ alias. alias ≡ alias_of spot.now from to) }
 {
-    let mut target = List::new(alloc);
-    target.push(Piece::Bytes(to))?;
     Ok(Alias {
         place: spot.place.clone()?,
         span: spot.span,
         from: PathTest::Prefix(from),
-        to: target,
+        to: text_alone(alloc, to)?,
     })
 }
 

@@ -1,6 +1,7 @@
-ghost use Rattle.std.specs.Prelude.{◌≡◌, ◌<◌, ◌++◌, [], length, IfOk, OnOk};
+ghost use Rattle.std.specs.Prelude.{◌≡◌, ◌<◌, [], ◌∷◌, ◌++◌, length, IfOk, OnOk};
 ghost use Rattle.std.specs.List.{list_any};
 ghost use Rattle.hc_base.specs.Gives.{Gives};
+ghost use Rattle.hc_model.specs.declared.template.Piece.TheVariants.{Bytes};
 ghost use Rattle.hc_config.specs.Targets.{group_target, is_other_sign, own_group_target, plain_target, prefix_test, search_test, template_of};
 ghost use Rattle.hc_config.specs.TargetViews.{behind, template_by, with_run};
 
@@ -37,9 +38,18 @@ pub(crate) fn search_test(alloc: Global, word: &CowStr) -> Result<PathTest, Effe
 pub(crate) fn plain_target(alloc: Global, word: &CowStr) -> Result<Template, EffectFault>
     ensures { Gives result (plain_target word.now) }
 {
+    let text = Text::copy_of(alloc, word.as_str().as_bytes())?;
+    Ok(text_alone(alloc, text)?)
+}
+
+/// A target that is this text.
+pub(crate) fn text_alone(alloc: Global, text: Text) -> Result<Template, NoMemory>
+    ensures { IfOk result (λ target. target ≡ Bytes text ∷ []) }
+{
     let mut target = List::new(alloc);
-    target.push(Piece::Bytes(Text::copy_of(alloc, word.as_str().as_bytes())?))?;
-    Ok(target)
+    target.push(Piece::Bytes(text))?;
+    // A list that grows has room for four; its copy has no room to spare.
+    target.copy()
 }
 
 /// A target in which `$0` to `$9` stand for groups.

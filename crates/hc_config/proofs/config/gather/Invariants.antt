@@ -1,6 +1,9 @@
-use Rattle.std.proofs.Common.{◌≡◌, drop}
+use Rattle.std.proofs.Common.{◌≡◌, length}
 use Rattle.hc_config.specs.Judging.{gathered_from, nothing_gathered}
 use Rattle.hc_config.proofs.config.gather.Given as goal
 
-abbrev pub invariant-loop-entry : goal.invariant-loop-entry
-invariant-loop-entry l = gathered_from l.gathered (drop l.entry-index l.entries) ≡ gathered_from nothing_gathered l.entries
+abbrev pub invariant-entries : goal.invariant-entries
+invariant-entries l = gathered_from l.gathered l.left ≡ gathered_from nothing_gathered l.fn.entries
+
+abbrev pub decreases-entries : goal.decreases-entries
+decreases-entries l = length l.left
