@@ -1,7 +1,7 @@
 use crate::show::{Source, lines_of, show_fault, text_of};
-use hc_base::NoMemory;
+use hc_base::{Fault, NoMemory};
 use hc_lines::FileKind;
-use hc_nodes::{Node, read_nodes};
+use hc_nodes::{Node, first_refusal, read_nodes, read_part};
 use std::alloc::Global;
 use std::fmt::Write as _;
 use std::process::Abort;
@@ -163,4 +163,54 @@ fn texts_of_many_nodes_are_read(rt: HostRuntime) -> Result<(), Fail> {
         (&[("</a>\n", 100_000)], "!5@1"),
     ];
     check_many(&rt, rt.alloc(), ROWS)
+}
+
+// How many lines the first part of a text has, a colon, and how many nodes; or that a rule is broken.
+fn show_part(alloc: Global, text: &str) -> Result<String, NoMemory> {
+    let file = FileKind::Config;
+    let lines = match lines_of(alloc, Source { text, file }) {
+        Ok(lines) => lines,
+        Err(fault) => return show_fault(alloc, fault),
+    };
+    if let Some(broken) = first_refusal(alloc, &lines)? {
+        return show_fault(alloc, Fault::Refused(broken));
+    }
+    let part = read_part(alloc, &lines)?;
+    let nodes = part.nodes.len();
+    let count = part.lines;
+    format!(in alloc; "{count}:{nodes}")
+}
+
+#[test]
+fn long_texts_are_read_in_parts(rt: HostRuntime) -> Result<(), Fail> {
+    static ROWS: Rows = &[
+        (&[("x\n", 3)], "3:3"),
+        (&[("x\n", 3_000)], "1025:1025"),
+        (
+            &[
+                ("x\n", 1_000),
+                ("<a>\n", 1),
+                ("x\n", 1_000),
+                ("</a>\nx\n", 9),
+            ],
+            "!5@2004",
+        ),
+        (
+            &[
+                ("x\n", 1_000),
+                ("<a>\n", 1),
+                ("x\n", 1_000),
+                ("</a>\n", 1),
+                ("x\n", 9),
+            ],
+            "2002:1001",
+        ),
+        (&[("<a>\n", 1), ("x\n", 3_000), ("</a>\n", 1)], "3002:1"),
+    ];
+    for (pieces, wanted) in ROWS {
+        let text = text_of(rt.alloc(), pieces)?;
+        let shown = show_part(rt.alloc(), &text)?;
+        assert_eq!(rt; shown.as_str(), *wanted, "{pieces:?}");
+    }
+    Ok(())
 }
