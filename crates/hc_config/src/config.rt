@@ -8,7 +8,7 @@ use crate::effect::Effect;
 use crate::rules::judge;
 use hc_base::codes::NO_DOCUMENT_ROOT;
 use hc_base::{AtByte, Fault, List, NoMemory, Place, Refusal, Text};
-use hc_include::{Flat, Rest, defines, modules};
+use hc_include::{EntriesFrom, Flat, defines, modules};
 use hc_model::{Alias, Body, Config, Entry, Inherit, Merging, Redirect, Server};
 use hc_table::directives;
 use std::alloc::Global;
@@ -66,7 +66,7 @@ pub(crate) struct Gathered {
     maps: List<Alias>,
 }
 
-fn gather(alloc: Global, entries: Rest) -> Result<Gathered, BuildFault>
+fn gather(alloc: Global, entries: EntriesFrom) -> Result<Gathered, BuildFault>
     ensures { Gives result (gathered_from nothing_gathered entries.entry) }
 {
     let names = directives();

@@ -1,8 +1,12 @@
 -- One row more.
-use Rattle.std.proofs.Common.{◌≡◌, ℕ, suc, ◌+◌, ◌-◌, ◌<◌, ◌≤◌, List, [], ◌∷◌, ◌++◌, length, drop, get_or, refl, ap, ◌∙◌, sym, arith}
+use Rattle.std.proofs.Common.{◌≡◌, ℕ, suc, ◌+◌, ◌-◌, ◌<◌, ◌≤◌, List, [], ◌∷◌, ◌++◌, length, drop, drop-cons, get_or, Bool, true, false, refl, ap, ◌∙◌, sym, arith}
+use Rattle.std.specs.List.{list_any}
+use Rattle.std.specs.Prelude.{◌||◌}
+use Rattle.std.specs.Str.{bytes_eq}
+use Rattle.std.proofs.lemmas.Slice.Eq.{bytes_eq-Decides}
 use Rattle.std.proofs.lemmas.List.{append_assoc, append-nil, drop-append-le, drop_all, get_or_append_left, get_or_push, length-append, length-drop, take-append-le, take_all}
 use Rattle.hc_model.specs.declared.entry.Entry.{Entry}
-use Rattle.hc_include.specs.EntriesView.{EndsWith, Fit, IsRowOf, entry_seen, rows_seen}
+use Rattle.hc_include.specs.EntriesView.{EndsWith, Fit, IsRowOf, entry_seen, is_last, rows_seen}
 use Rattle.hc_include.specs.declared.entries.Row.{Row}
 
 -- The first row takes what it took before.
@@ -87,8 +91,21 @@ counts files (row ∷ rows) bytes places = ap suc (counts files rows (drop row.r
 
 -- ---- files
 
-pub same_files : (file : List ℕ) (files : List (List ℕ)) → 0 < length files → get_or files (length files - 1) [] ≡ file → EndsWith file files files
-same_files file files some last = record { more = []; longer = sym (append-nil files); some = some; last = last }
+or_false : (v : Bool) → (v || false) ≡ true → v ≡ true
+or_false true e = refl
+or_false false e = e
+
+last_alone : (file : List ℕ) (files : List (List ℕ)) (n : ℕ) → length files ≡ n + 1 → list_any (bytes_eq file) (drop n files) ≡ true → get_or files n [] ≡ file
+last_alone file files n count is =
+    let one : drop n files ≡ get_or files n [] ∷ [] =
+    drop-cons files n [] (omega arith) ∙ ap (λ rest. get_or files n [] ∷ rest) (drop_all (suc n) files (omega arith)) in
+    let same : bytes_eq file (get_or files n []) || false ≡ true = sym (ap (list_any (bytes_eq file)) one) ∙ is in
+    sym ((bytes_eq-Decides file (get_or files n [])).0 (or_false (bytes_eq file (get_or files n [])) same))
+
+pub same_files : (file : List ℕ) (files : List (List ℕ)) → is_last files file ≡ true → EndsWith file files files
+same_files file [] is = cc
+same_files file (first ∷ files) is =
+    record { more = []; longer = sym (append-nil (first ∷ files)); some = omega arith; last = last_alone file (first ∷ files) (length (first ∷ files) - 1) (omega arith) is }
 
 pub one_more_file : (file : List ℕ) (files : List (List ℕ)) → EndsWith file files (files ++ file ∷ [])
 one_more_file file files =

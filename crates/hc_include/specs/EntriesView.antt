@@ -1,6 +1,8 @@
 -- What the rows of entries are seen as. The texts of all rows stand one behind another, and so do the
 -- places of the openings around them.
-use Rattle.std.specs.Prelude.{◌≡◌, ℕ, ◌+◌, ◌-◌, ◌<◌, ◌≤◌, List, [], ◌∷◌, ◌++◌, length, take, drop, get_or}
+use Rattle.std.specs.Prelude.{◌≡◌, ℕ, ◌+◌, ◌-◌, ◌<◌, ◌≤◌, List, [], ◌∷◌, ◌++◌, length, take, drop, get_or, Bool}
+use Rattle.std.specs.List.{list_any}
+use Rattle.std.specs.Str.{bytes_eq}
 use Rattle.hc_model.specs.declared.entry.Entry.{Entry}
 use Rattle.hc_include.specs.declared.entries.Row.{Row}
 
@@ -25,6 +27,10 @@ Fit files [] bytes places = (bytes ≡ []) × (places ≡ [])
 Fit files (row ∷ rows) bytes places =
     (row.file < length files) × (row.name + row.rest ≤ length bytes) × (row.depth ≤ length places)
     × Fit files rows (drop row.rest (drop row.name bytes)) (drop row.depth places)
+
+-- The file is the last of these.
+abbrev pub is_last : List (List ℕ) → List ℕ → Bool
+is_last files file = list_any (bytes_eq file) (drop (length files - 1) files)
 
 -- These are files from which later ones were made, of which this one is the last.
 pub record EndsWith (file : List ℕ) (files later : List (List ℕ)) : Type 0 where

@@ -1,5 +1,7 @@
-ghost use Rattle.std.specs.Prelude.{◌≡◌, ◌∷◌, ◌++◌, [], ◌-◌, ◌<◌, length, get_or, IfOk, IsTrue, MatchOption};
-ghost use Rattle.hc_include.specs.EntriesView.{EndsWith, IsRowOf};
+ghost use Rattle.std.specs.Prelude.{◌≡◌, ◌∷◌, ◌++◌, [], ◌<◌, length, get_or, IfOk, MatchOption};
+ghost use Rattle.std.specs.List.{list_any};
+ghost use Rattle.std.specs.Str.{bytes_eq};
+ghost use Rattle.hc_include.specs.EntriesView.{EndsWith, IsRowOf, is_last};
 
 use hc_base::{List, NoMemory, Place, Span, Text};
 use hc_model::{Entry, EntryForm, Spot};
@@ -34,7 +36,7 @@ pub(crate) struct Row {
 
 /// The entries from one on.
 #[derive(Drop)]
-pub struct Rest<'e> {
+pub struct EntriesFrom<'e> {
     files: &'e [Text],
     rows: &'e [Row],
     bytes: &'e [u8],
@@ -53,7 +55,7 @@ impl Model for Entries {
     ghost invariant = { λ e. Fit e.files e.rows.items e.bytes.items e.places.items };
 }
 
-impl<'e> Model for Rest<'e> {
+impl<'e> Model for EntriesFrom<'e> {
     ghost use Rattle.std.specs.Prelude.{List};
     ghost use Rattle.hc_include.specs.EntriesView.{Fit, rows_seen};
     ghost use Rattle.hc_model.specs.declared.entry.Entry as model;
@@ -86,10 +88,10 @@ impl Entries {
     }
 
     /// All entries.
-    pub fn all(&self) -> Rest<'_>
+    pub fn all(&self) -> EntriesFrom<'_>
         ensures { result ≡ self.now }
     {
-        Rest {
+        EntriesFrom {
             files: self.files.as_slice(),
             rows: &self.rows,
             bytes: &self.bytes,
@@ -153,13 +155,16 @@ fn with_file(mut files: List<Text>, file: &Text) -> Result<List<Text>, NoMemory>
 }
 
 fn is_last(files: &[Text], file: &[u8]) -> bool
-    ensures some { IsTrue result → 0 < length files.now }
-    ensures last { IsTrue result → get_or files.now (length files.now - 1) [] ≡ file.now }
+    ensures { result ≡ is_last files.now file.now }
 {
-    match files.last() {
-        Some(last) => last.as_bytes() == file,
-        None => false,
-    }
+    let (_, last) = files.split_at(files.len().saturating_sub(1));
+    is_one_of(last, file)
+}
+
+fn is_one_of(files: &[Text], file: &[u8]) -> bool
+    ensures { result ≡ list_any (bytes_eq file.now) files.now }
+{
+    files.iter().any(|other| file == other.as_bytes())
 }
 
 // The row of an entry of the last file.
@@ -188,9 +193,9 @@ pub(crate) fn counted(count: usize) -> Result<u32, NoMemory>
     Ok(count as u32)
 }
 
-impl<'e> Rest<'e> {
+impl<'e> EntriesFrom<'e> {
     /// The first entry, and those behind it.
-    pub fn split_first(self, alloc: Global) -> Result<Option<(Entry, Rest<'e>)>, NoMemory>
+    pub fn split_first(self, alloc: Global) -> Result<Option<(Entry, EntriesFrom<'e>)>, NoMemory>
         ensures { IfOk result (λ split. MatchOption split (self.entry ≡ []) (λ both. self.entry ≡ both.0 ∷ both.1)) }
     {
         let Some((row, rows)) = self.rows.split_first() else {
@@ -206,7 +211,7 @@ impl<'e> Rest<'e> {
             rest: Text::copy_of(alloc, rest)?,
             within: list_of(alloc, within)?,
         };
-        let behind = Rest {
+        let behind = EntriesFrom {
             files: self.files,
             rows,
             bytes,

@@ -2,7 +2,7 @@ ghost use Rattle.std.specs.Prelude.{◌≡◌, ◌++◌, codes, map, IfOk, OnOk}
 ghost use Rattle.hc_include.specs.Earlier.{built_in, define_of, defines, first_word, loaded, words_under};
 
 use crate::earlier::BUILT_IN;
-use crate::entries::Rest;
+use crate::entries::EntriesFrom;
 use crate::words::words_under;
 use hc_base::{CowStr, List, NoMemory, Text};
 use hc_model::{Define, Entry};
@@ -12,7 +12,7 @@ use std::alloc::Global;
 ///
 /// An entry whose words are not UTF-8, which no text of a world gives, is answered as if memory were
 /// refused, here and in `modules` (our own choice).
-pub fn defines(alloc: Global, entries: Rest) -> Result<List<Define>, NoMemory>
+pub fn defines(alloc: Global, entries: EntriesFrom) -> Result<List<Define>, NoMemory>
     ensures { IfOk result (λ found. found ≡ defines entries.entry) }
 {
     let mut found = List::new(alloc);
@@ -61,7 +61,7 @@ fn text_of(alloc: Global, word: &CowStr) -> Result<Text, NoMemory>
 
 /// The modules that are present behind a flat list: those that always are, and the loaded ones
 /// (Apache manual, mod_so).
-pub fn modules(alloc: Global, entries: Rest) -> Result<List<Text>, NoMemory>
+pub fn modules(alloc: Global, entries: EntriesFrom) -> Result<List<Text>, NoMemory>
     ensures { IfOk result (λ found. found ≡ built_in ++ loaded entries.entry) }
 {
     let mut found = List::new(alloc);

@@ -21,7 +21,7 @@ mod walk;
 mod wildcard;
 mod words;
 
-pub use entries::{Entries, Rest};
+pub use entries::{Entries, EntriesFrom};
 pub use files::flatten;
 pub use flat::Flat;
 pub use gathered::{defines, modules};
