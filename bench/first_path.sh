@@ -4,7 +4,7 @@
 #     bench/first_path.sh [PROGRAM]
 #
 # Each input puts a main file, then small files in 1,000 folders, and asks of each of those. It runs
-# on 10,000 and on 100,000 lines, three times each, and the best run counts. Nothing is built here.
+# on 10,000 and on 100,000 lines, five times each in turn, and the median counts. Nothing is built here.
 source "$(dirname -- "$(readlink -f -- "$0")")/program.sh"
 
 python3 - "$program" "$room" << 'PYTHON'

@@ -4,8 +4,8 @@
 #     bench/include.sh [PROGRAM]
 #
 # The main file includes `sites/*.conf`: 1,000 and then 10,000 files of twenty lines each, among them
-# a variable, a condition and `Alias` lines. They are put once and checked ten times. Three runs
-# each, and the best counts. Nothing is built here.
+# a variable, a condition and `Alias` lines. They are put once and checked ten times. Five runs
+# each in turn, and the median counts. Nothing is built here.
 source "$(dirname -- "$(readlink -f -- "$0")")/program.sh"
 
 python3 - "$program" "$room" << 'PYTHON'

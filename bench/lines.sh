@@ -5,7 +5,8 @@
 #
 # The main file has 10,000 and 1,000,000 physical lines: a third are comments, a third inert
 # directives with quoted words, some of them joined, and the rest are `Alias` lines. It is put once
-# and read at each of three asks. Three runs each, and the best counts. Nothing is built here.
+# and read at each of three asks. Five runs each in turn, and the median
+# counts. Nothing is built here.
 source "$(dirname -- "$(readlink -f -- "$0")")/program.sh"
 
 python3 - "$program" "$room" << 'PYTHON'

@@ -2,12 +2,13 @@
 
 import os
 import shutil
+import statistics
 import subprocess
 import sys
 import time
 
 TIME = shutil.which("time")
-RUNS = 3
+RUNS = 5
 
 
 def run_once(program, source, replies):
@@ -29,34 +30,38 @@ def run_once(program, source, replies):
     return seconds, peak, child.returncode
 
 
-def best_of(program, room, lines, write_input, faults_of):
-    """The best of the runs: the bytes that `write_input` says, the seconds and the peak memory in KiB.
-
-    A run fails where its status isn't 0, or `faults_of` says what is wrong with its replies.
-    """
-    source, replies = f"{room}/{lines}.jsonl", f"{room}/{lines}.replies"
-    size = write_input(source, lines)
-    runs = []
-    for _ in range(RUNS):
-        seconds, peak, status = run_once(program, source, replies)
-        fault = f"the program ended with status {status}" if status else faults_of(replies, lines)
-        if fault:
-            sys.exit(f"FAIL  at {lines} lines: {fault}")
-        runs.append((seconds, peak))
-    return size, min(run[0] for run in runs), min(run[1] for run in runs)
-
-
 def differs(replies, wanted):
     """What is wrong with replies that should be these."""
     with open(replies, encoding="utf-8") as given:
         return None if given.read() == wanted else "another reply"
 
 
+def checked_run(program, source, replies, fault_in):
+    """The seconds and the peak memory in KiB of one run, which ends with status 0 and replies without a fault."""
+    seconds, peak, status = run_once(program, source, replies)
+    fault = f"the program ended with status {status}" if status else fault_in(replies)
+    if fault:
+        sys.exit(f"FAIL  {source}: {fault}")
+    return seconds, peak
+
+
 def measured(program, room, sizes, write_input, faults_of, rate):
-    """Measures each number of lines, prints a row with what `rate` says of it, and gives what `judge` takes."""
+    """Measures each number of lines, prints a row with what `rate` says of it, and gives what `judge` takes.
+
+    `write_input` says how many bytes it wrote. The sizes take turns, and of the seconds the median counts, so that
+    neither a fast moment of the machine nor a slow one decides; of the peaks the least does.
+    """
+    sources = {lines: f"{room}/{lines}.jsonl" for lines in sizes}
+    bytes_of = {lines: write_input(sources[lines], lines) for lines in sizes}
+    runs = {lines: [] for lines in sizes}
+    for _ in range(RUNS):
+        for lines in sizes:
+            run = checked_run(program, sources[lines], f"{room}/replies", lambda replies: faults_of(replies, lines))
+            runs[lines].append(run)
     found = {}
     for lines in sizes:
-        size, seconds, peak = best_of(program, room, lines, write_input, faults_of)
+        size = bytes_of[lines]
+        seconds, peak = statistics.median(run[0] for run in runs[lines]), min(run[1] for run in runs[lines])
         told = rate(lines, size, seconds)
         print(f"{lines:>7} lines  {size:>9} bytes  {seconds:8.3f} s  {told:>16}  {peak:>8} KiB")
         found[lines] = (size, seconds, peak)
