@@ -26,6 +26,17 @@ is_stale() {
     [[ -n $(find "${sources[@]}" -newer "$program" -print -quit) ]]
 }
 
+# How many processes prove a crate: one for each processor and 3 GiB of free memory, at most four.
+jobs() {
+    local least
+    least=$({
+        echo 4
+        nproc
+        awk '/^MemAvailable:/ { print int($2 / (3 * 1024 * 1024)) }' /proc/meminfo
+    } 2> /dev/null | sort -n | head -n 1)
+    echo "$((least > 0 ? least : 1))"
+}
+
 # A failed build leaves no program, so that an old one never answers for new sources. The status of
 # `rt run` tells nothing here, since it is the program's own, on an empty input.
 build() {
@@ -34,10 +45,10 @@ build() {
         say "rt, the tool that proves and builds the program, is not on the PATH"
         return 1
     fi
-    say "proving and building the program; this can take some minutes"
+    say "proving and building the program; in a fresh checkout this takes up to an hour"
     rm -f -- "$program"
     touch -- "$start"
-    (cd -- "$app" && exec rt run) < /dev/null > "$log" 2>&1 9>&-
+    (cd -- "$app" && exec rt run --jobs "$(jobs)") < /dev/null > "$log" 2>&1 9>&-
     if [[ ! -x $program ]]; then
         tail -n 40 -- "$log" >&2
         say "the build failed; its log is $log"
