@@ -1,6 +1,8 @@
 -- Whole lines and what follows them, under `++`.
 use Rattle.std.proofs.Common.{◌≡◌, ℕ, zero, suc, ◌<◌, ◌≤◌, List, [], ◌∷◌, ◌++◌, length, take, drop, slice_index, Bool, true, false, ◌||◌, refl, sym, ap, ◌∙◌, append_assoc, true≢false, eqb-true, arith}
 use Rattle.std.specs.List.{flat_map, list_any}
+use Rattle.std.proofs.Math.Bool.{or-true}
+use Rattle.std.proofs.lemmas.Bool.{false_from_ne_true}
 use Rattle.hc_base.specs.Lines.{HasNoLf, IsCutInto, AreLinesOf, is_lf, onto_line, whole_lines, rest_of}
 
 or_left : (a b : Bool) → (a || b) ≡ false → a ≡ false
@@ -11,13 +13,9 @@ or_right : (a b : Bool) → (a || b) ≡ false → b ≡ false
 or_right true b h = absurd (true≢false h)
 or_right false b h = h
 
-or_true : (a : Bool) → (a || true) ≡ true
-or_true true = refl
-or_true false = refl
-
 any_lf : (a b : List ℕ) → list_any is_lf (a ++ 10 ∷ b) ≡ true
 any_lf [] b = refl
-any_lf (x ∷ xs) b = rw (any_lf xs b) (or_true (is_lf x))
+any_lf (x ∷ xs) b = rw (any_lf xs b) (or-true (is_lf x))
 
 -- Without an LF there is no whole line, and all is left.
 pub whole_lines-none : (bytes : List ℕ) → HasNoLf bytes → whole_lines bytes ≡ []
@@ -44,7 +42,7 @@ whole_lines-line (b ∷ bs) more none = rw (or_left (is_lf b) _ none) (ap (onto_
 
 pub rest_of-line : (line more : List ℕ) → rest_of (line ++ 10 ∷ more) ≡ rest_of more
 rest_of-line [] more = refl
-rest_of-line (b ∷ bs) more = rw (any_lf bs more, or_true (is_lf b)) (rest_of-line bs more)
+rest_of-line (b ∷ bs) more = rw (any_lf bs more, or-true (is_lf b)) (rest_of-line bs more)
 
 onto_line-append : (b : ℕ) (ls ms : List (List ℕ)) → 0 < length ls → onto_line b (ls ++ ms) ≡ onto_line b ls ++ ms
 onto_line-append b [] ms some = absurd (omega arith)
@@ -91,16 +89,12 @@ rest_of-append a b = (continues a b).1
 
 -- ---- the first LF, as a search finds it
 
-false_unless : (test : Bool) → (test ≡ true → ⊥) → test ≡ false
-false_unless true isnt = absurd (isnt refl)
-false_unless false isnt = refl
-
 -- No byte before n is LF.
 pub HasNoLf-take : (bytes : List ℕ) (n : ℕ) → ((k : ℕ) → k < n → k < length bytes → is_lf (slice_index bytes k) ≡ true → ⊥) → HasNoLf (take n bytes)
 HasNoLf-take bytes zero none = refl
 HasNoLf-take [] (suc n) none = refl
 HasNoLf-take (b ∷ bs) (suc n) none =
-    rw (false_unless (is_lf b) (none 0 (omega arith) (omega arith)))
+    rw (false_from_ne_true (is_lf b) (none 0 (omega arith) (omega arith)))
     (HasNoLf-take bs n (λ k below within is. none (suc k) (omega arith) (omega arith) is))
 
 pub HasNoLf-append : (a b : List ℕ) → HasNoLf a → HasNoLf b → HasNoLf (a ++ b)

@@ -170,6 +170,9 @@ last_byte = 255
 abbrev pub is_control : ℕ → Bool
 is_control b = nat_lt b space || (b == delete)
 
+abbrev pub is_question : ℕ → Bool
+is_question b = b == question
+
 abbrev pub begins_with : ℕ → List ℕ → Bool
 begins_with byte [] = false
 begins_with byte (b ∷ bs) = b == byte

@@ -5,5 +5,6 @@ pub mod Faults
 pub mod Gives
 pub mod Lines
 pub mod Paths
+pub mod Rules
 pub mod Tape
 pub mod formers

@@ -1,4 +1,4 @@
--- The lines of a text, and the words of a line.
+-- The lines of a text, and what stands between its blanks.
 -- Apache manual, "Configuration Files": a directive stands on one line, and its arguments are
 -- separated by white space. What a last piece without LF counts for is our own choice.
 use Rattle.std.specs.Prelude.{◌≡◌, ℕ, ◌==◌, List, [], ◌∷◌, ◌++◌, length, Bool, false, not, ◌||◌, filter, if◌then◌else◌}
@@ -38,18 +38,19 @@ pub record AreLinesOf (text : List ℕ) : Type 0 where
   pub cut : IsCutInto text (whole_lines text) (rest_of text)
   pub only : (lines : List (List ℕ)) (rest : List ℕ) → IsCutInto text lines rest → (lines ≡ whole_lines text) × (rest ≡ rest_of text)
 
-abbrev pub if_any : List ℕ → List (List ℕ)
-if_any [] = []
-if_any (b ∷ bs) = (b ∷ bs) ∷ []
+abbrev pub onto_piece : ℕ → List (List ℕ) → List (List ℕ)
+onto_piece b [] = (b ∷ []) ∷ []
+onto_piece b (piece ∷ pieces) = (b ∷ piece) ∷ pieces
 
--- The physical lines: those that an LF ends, and what follows the last LF where that isn't empty.
-abbrev pub physical_lines : List ℕ → List (List ℕ)
-physical_lines text = whole_lines text ++ if_any (rest_of text)
+-- The physical lines of a text, each with the LF that ends it; the last one may have none.
+abbrev pub pieces : List ℕ → List (List ℕ)
+pieces [] = []
+pieces (b ∷ bs) = if is_lf b then (b ∷ []) ∷ pieces bs else onto_piece b (pieces bs)
 
 -- Blanks are space and tab.
 abbrev pub is_blank : ℕ → Bool
 is_blank b = (b == space) || (b == tab)
 
--- The words of a line: the pieces between its blanks that aren't empty.
-abbrev pub words_of : List ℕ → List (List ℕ)
-words_of line = filter (λ word. not (length word == 0)) (slice_split is_blank line)
+-- What stands between the blanks of a text and isn't empty.
+abbrev pub between_blanks : List ℕ → List (List ℕ)
+between_blanks line = filter (λ word. not (length word == 0)) (slice_split is_blank line)

@@ -1,5 +1,5 @@
 -- What a source and a sink in memory are seen as.
-use Rattle.std.specs.Prelude.{ℕ, ◌+◌, ◌-◌, ◌^◌, min, List, length, Bool, not, ◌&&◌, ◌||◌, ◌==◌}
+use Rattle.std.specs.Prelude.{ℕ, ◌+◌, ◌-◌, ◌^◌, min, List, [], length, Bool, not, ◌&&◌, ◌||◌, ◌==◌}
 use Rattle.std.specs.List.{list_any}
 
 -- A source: the bytes still to come, the numbers of the calls that are to fail, and how many
@@ -35,3 +35,7 @@ taken_of tape piece = min (length piece) (min tape.most (tape.room - length tape
 -- The sink fails at this piece: the call is to fail, or there is no room for any of the piece.
 abbrev pub is_refused : SinkTape → List ℕ → Bool
 is_refused tape piece = is_due tape.failing tape.calls || (not (length piece == 0) && (taken_of tape piece == 0))
+
+abbrev pub new_sink : ℕ → ℕ → List ℕ → SinkTape
+new_sink most room failing =
+    record { held = []; most = most; room = room; failing = failing; calls = 0; faults = 0 }

@@ -5,7 +5,7 @@ use std::alloc::Global;
 use std::marker::Model;
 
 /// A `Box` that contracts see as its value, so that a tree of such boxes is equal to its copy.
-#[derive(Debug, Drop)]
+#[derive(Drop)]
 pub struct Boxed<T> {
     inner: Box<T>,
 }
@@ -45,6 +45,18 @@ impl<T: Drop> Boxed<T> {
     {
         Ok(Boxed {
             inner: Box::new(alloc, value)?,
+        })
+    }
+}
+
+impl<T: Clone> Boxed<T> {
+    /// A box with a clone of the value, which equals this one where the clone equals the value.
+    pub fn copy(&self) -> Result<Boxed<T>, NoMemory>
+        requires { (x y : T) → T.is_clone x y → y ≡ x }
+        ensures { IfOk result (λ copy. copy ≡ self.now) }
+    {
+        Ok(Boxed {
+            inner: Box::new(self.allocator(), (*self.inner).clone()?)?,
         })
     }
 }

@@ -1,3 +1,6 @@
+ghost use Rattle.std.specs.Prelude.{◌≡◌};
+ghost use Rattle.hc_base.specs.Rules.{rule};
+
 use crate::NoMemory;
 use std::alloc::AllocFailed;
 
@@ -43,4 +46,13 @@ pub struct AtLine {
 pub struct AtByte {
     pub code: u8,
     pub at: u32,
+}
+
+impl AtByte {
+    /// A rule that no byte of a pattern breaks.
+    pub const fn rule(code: u8) -> AtByte
+        ensures { result ≡ rule code }
+    {
+        AtByte { code, at: 0 }
+    }
 }

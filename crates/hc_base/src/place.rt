@@ -1,6 +1,8 @@
 ghost use Rattle.std.specs.Prelude.{◌≡◌};
+ghost use Rattle.hc_base.specs.Rules.{refusal_at};
 
-use crate::{NoMemory, Text};
+use crate::{AtByte, NoMemory, Text};
+use std::alloc::Global;
 
 /// A piece of a text, from the byte `start` up to and without the byte `end`.
 #[derive(Clone, Copy, Debug, PartialEq, Eq)]
@@ -10,7 +12,7 @@ pub struct Span {
 }
 
 /// A line of a file. Lines count from 1; line 0 is the file as a whole.
-#[derive(Debug, Drop)]
+#[derive(Drop)]
 pub struct Place {
     pub file: Text,
     pub line: u32,
@@ -18,7 +20,7 @@ pub struct Place {
 
 /// Why something is not accepted: where it stands, the number of the rule that it breaks (a table
 /// in docs/RULES.md), the byte in a pattern or 0, and the field of a command or the empty text.
-#[derive(Debug, Drop)]
+#[derive(Drop)]
 pub struct Refusal {
     pub place: Place,
     pub code: u8,
@@ -47,5 +49,19 @@ impl Clone for Refusal {
             at: self.at,
             field: self.field.clone()?,
         })
+    }
+}
+
+impl Refusal {
+    /// A rule that is broken at a place. It names no field.
+    pub fn at(alloc: Global, place: Place, broken: AtByte) -> Refusal
+        ensures { result ≡ refusal_at place broken }
+    {
+        Refusal {
+            place,
+            code: broken.code,
+            at: broken.at,
+            field: Text::new(alloc),
+        }
     }
 }

@@ -24,7 +24,12 @@ impl Model for VecSource {
 
     ghost Value = { SourceTape };
 
-    ghost view = { λ s. record { left = drop s.taken s.bytes.items; failing = s.failing.items; calls = s.calls; faults = s.faults } };
+    ghost view = { λ s. record {
+      left = drop s.taken s.bytes.items;
+      failing = s.failing.items;
+      calls = s.calls;
+      faults = s.faults;
+    } };
 
     ghost invariant = { λ s. s.taken ≤ vec_len s.bytes };
 }
@@ -112,13 +117,20 @@ impl Model for VecSink {
 
     ghost Value = { SinkTape };
 
-    ghost view = { λ s. record { held = s.bytes.items; most = s.most; room = s.room; failing = s.failing.items; calls = s.calls; faults = s.faults } };
+    ghost view = { λ s. record {
+      held = s.bytes.items;
+      most = s.most;
+      room = s.room;
+      failing = s.failing.items;
+      calls = s.calls;
+      faults = s.faults;
+    } };
 
     ghost invariant = { λ s. (1 ≤ s.most) × (vec_len s.bytes ≤ s.room) × (s.room ≤ vec_capacity s.bytes) };
 }
 
 impl VecSink {
-    ghost use Rattle.hc_base.specs.Tape.{SinkTape};
+    ghost use Rattle.hc_base.specs.Tape.{new_sink};
 
     /// An empty sink with room for `room` bytes, of which a call takes at most `most`. The calls of
     /// `write` with the numbers in `failing`, counted from 1, fail.
@@ -129,7 +141,7 @@ impl VecSink {
         room: usize,
     ) -> Result<VecSink, NoMemory>
         requires { 1 ≤ most }
-        ensures { IfOk result (λ s. s ≡ record { held = []; most = most; room = room; failing = failing.now; calls = 0; faults = 0 }) }
+        ensures { IfOk result (λ s. s ≡ new_sink most room failing.now) }
     {
         Ok(VecSink {
             bytes: Vec::with_capacity(alloc, room)?,
