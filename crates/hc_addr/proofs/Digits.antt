@@ -1,14 +1,8 @@
 -- A number that is printed is read back.
-use Rattle.std.proofs.Common.{◌≡◌, ℕ, zero, suc, ◌+◌, ◌/◌, ◌%◌, ◌^◌, ◌<◌, ◌≤◌, Bool, true, false, cond, eqb, ltb, leb, List, [], ◌∷◌, length, Some, refl, ap, arith}
-use Rattle.std.specs.Char.{digit_value, is_digit}
+use Rattle.hc_addr.proofs.Common.{◌≡◌, ℕ, zero, suc, ◌+◌, ◌/◌, ◌%◌, ◌^◌, ◌<◌, ◌≤◌, Bool, true, false, cond, eqb, ltb, leb, List, [], ◌∷◌, length, Some, refl, ap, arith, digit_value, is_digit, AllByRecursion, list_all, AllDigits, nat_tests, div-lt_iff_lt-mul, pow-suc, pow-zero, number_of}
 use Rattle.std.specs.Fmt.{digits, digits_onto, digit_glyph}
-use Rattle.std.specs.List.{AllByRecursion, list_all}
-use Rattle.std.specs.Str.Parse.{AllDigits}
 use Rattle.std.proofs.lemmas.Bool.{eqb-false, eqb-true}
-use Rattle.std.proofs.lemmas.Bool.Decides.{nat_tests}
 use Rattle.std.proofs.lemmas.Fmt.{digits_is_IsNumeral}
-use Rattle.std.proofs.Math.Nat.{div-lt_iff_lt-mul, pow-suc, pow-zero}
-use Rattle.hc_addr.specs.Numbers.{number_of}
 use Rattle.hc_addr.proofs.Powers.{below_power}
 
 pub div_below : (base k n : ℕ) → 0 < base → n < base ^ suc k → n / base < base ^ k

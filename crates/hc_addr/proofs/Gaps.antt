@@ -1,7 +1,5 @@
 -- A search for `::`, byte by byte.
-use Rattle.std.proofs.Common.{◌≡◌, ℕ, ◌+◌, ◌<◌, false, List, ◌∷◌, length, get_or, drop, Option, Some, None, refl, ap, arith, add-one, drop-cons}
-use Rattle.std.specs.Option.{option_map}
-use Rattle.hc_addr.specs.Addresses.{begins_with_gap, gap_of}
+use Rattle.hc_addr.proofs.Common.{◌≡◌, ℕ, ◌+◌, ◌<◌, false, List, ◌∷◌, length, get_or, drop, Option, Some, None, refl, ap, arith, add-one, drop-cons, option_map, begins_with_gap, gap_of}
 
 moved : (at : ℕ) (o : Option ℕ) → option_map (λ k. k + at) (option_map (λ k. k + 1) o) ≡ option_map (λ k. k + (at + 1)) o
 moved at None = refl

@@ -1,12 +1,10 @@
 -- Pieces that a separator joins.
-use Rattle.std.proofs.Common.{◌≡◌, ℕ, ◌<◌, Bool, true, false, eqb, ◌||◌, List, [], ◌∷◌, ◌++◌, length, None, refl, ap, ◌∙◌, arith}
-use Rattle.std.specs.List.{AllByRecursion, join_with_byte, list_any, slice_split}
+use Rattle.hc_addr.proofs.Common.{◌≡◌, ℕ, ◌<◌, true, false, eqb, List, [], ◌∷◌, ◌++◌, length, None, refl, ap, ◌∙◌, arith, AllByRecursion, join_with_byte, list_any, slice_split, is_colon, begins_with_gap, gap_of, has_colon}
 use Rattle.std.proofs.lemmas.List.Elements.{All-from_recursion}
 use Rattle.std.proofs.lemmas.List.Folds.{list_any-append}
 use Rattle.std.proofs.lemmas.List.Splits.{slice_split_at, slice_split_none}
+use Rattle.std.proofs.Math.Bool.{or-true}
 use Rattle.hc_base.specs.Bytes.{begins_with, colon}
-use Rattle.hc_addr.specs.Numbers.{is_colon}
-use Rattle.hc_addr.specs.Addresses.{begins_with_gap, gap_of, has_colon}
 
 abbrev pub Lacks : ℕ → List ℕ → Type 0
 Lacks c bytes = AllByRecursion (λ b. eqb b c ≡ false) bytes
@@ -28,12 +26,8 @@ joined_lacks c d e [] h = refl
 joined_lacks c d e (x ∷ []) h = any_lacks c x h.0
 joined_lacks c d e (x ∷ y ∷ xs) h = list_any-append (λ b. eqb b c) x (d ∷ join_with_byte d (y ∷ xs)) ∙ (rw (any_lacks c x h.0, e) (joined_lacks c d e (y ∷ xs) h.1))
 
-or_true : (v : Bool) → (v || true) ≡ true
-or_true true = refl
-or_true false = refl
-
 pub joined_has : (x y : List ℕ) (xs : List (List ℕ)) → has_colon (join_with_byte colon (x ∷ y ∷ xs)) ≡ true
-joined_has x y xs = list_any-append is_colon x (colon ∷ join_with_byte colon (y ∷ xs)) ∙ or_true (list_any is_colon x)
+joined_has x y xs = list_any-append is_colon x (colon ∷ join_with_byte colon (y ∷ xs)) ∙ or-true (list_any is_colon x)
 
 -- A group: it has a digit and no colon.
 pub record IsGroup (group : List ℕ) : Type 0 where

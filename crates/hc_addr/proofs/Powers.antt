@@ -1,11 +1,9 @@
 -- Bounds by powers of a base.
-use Rattle.std.proofs.Common.{◌≡◌, ◌-◌, ℕ, ◌+◌, ◌*◌, ◌^◌, ◌<◌, ◌≤◌, arith, lit<, lit≤}
-use Rattle.std.proofs.Math.Nat.{pow-le-pow_right, mul-le-mul}
+use Rattle.hc_addr.proofs.Common.{◌≡◌, ◌-◌, ℕ, ◌+◌, ◌*◌, ◌^◌, ◌<◌, ◌≤◌, arith, lit<, lit≤, pow-le-pow_right, mul-le-mul, base_of, most_of}
 use Rattle.std.proofs.lemmas.Grind.{pow_more}
 use Rattle.std.proofs.lemmas.Nat.{pow-add}
 use Rattle.hc_addr.specs.declared.numbers.Form.{Form}
 use Rattle.hc_addr.specs.declared.numbers.Form.TheVariants.{Dotted, Coloned}
-use Rattle.hc_addr.specs.Forms.{base_of, most_of}
 
 -- A number of few digits is below the power of more of them.
 pub below_power : (base v i most : ℕ) → 0 < base → v < base ^ i → i ≤ most → v < base ^ most

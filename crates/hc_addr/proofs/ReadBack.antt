@@ -1,19 +1,12 @@
 -- An address as it is printed is read back.
-use Rattle.std.proofs.Common.{◌≡◌, ℕ, zero, suc, ◌+◌, ◌*◌, ◌/◌, ◌%◌, ◌^◌, ◌<◌, ◌≤◌, true, leb, List, [], ◌∷◌, ◌++◌, map, Option, Some, refl, ap, ◌∙◌, arith, lit<, lit≤}
-use Rattle.std.specs.Char.{digit_value}
+use Rattle.hc_addr.proofs.Common.{◌≡◌, ℕ, zero, suc, ◌+◌, ◌*◌, ◌/◌, ◌%◌, ◌^◌, ◌<◌, ◌≤◌, true, leb, List, [], ◌∷◌, ◌++◌, map, Option, Some, refl, ap, ◌∙◌, arith, lit<, lit≤, digit_value, option_map, AllByRecursion, nat_tests, mod-lt, pow-zero, at_most, byte_of, group_of, numbers_of, row_of, v4_of, v6_at, v6_of, whole}
 use Rattle.std.specs.Fmt.{decimal}
-use Rattle.std.specs.Option.{option_map}
 use Rattle.std.specs.Int.Digits.{number_from_digits}
-use Rattle.std.specs.List.{AllByRecursion}
-use Rattle.std.proofs.lemmas.Bool.Decides.{nat_tests}
 use Rattle.std.proofs.lemmas.Int.Digits.{number_push}
 use Rattle.std.proofs.lemmas.Nat.{div-add-mod'}
-use Rattle.std.proofs.Math.Nat.{mod-lt, pow-zero}
 use Rattle.hc_base.specs.Bytes.{colon, dot}
 use Rattle.hc_addr.specs.declared.addr.Addr.{Addr}
 use Rattle.hc_addr.specs.declared.addr.Addr.TheVariants.{V4, V6}
-use Rattle.hc_addr.specs.Numbers.{at_most, byte_of, group_of, numbers_of, row_of}
-use Rattle.hc_addr.specs.Addresses.{v4_of, v6_at, v6_of, whole}
 use Rattle.hc_addr.specs.Printed.{IsReadBack, hexadecimal, last_digits, printed}
 use Rattle.hc_addr.proofs.Digits.{digits_read, div_below, printed_lacks, printed_some}
 use Rattle.hc_addr.proofs.Joined.{IsGroup, Lacks, gap_joined, joined_has, joined_lacks, split_joined}

@@ -3,12 +3,12 @@ use Rattle.std.specs.Prelude.{ℕ, ◌==◌, ◌+◌, ◌-◌, ◌*◌, ◌^◌,
 use Rattle.std.specs.List.{list_any}
 use Rattle.hc_addr.specs.declared.addr.Addr.{Addr}
 use Rattle.hc_addr.specs.declared.addr.Addr.TheVariants.{V4, V6}
-use Rattle.hc_addr.specs.declared.numbers.Row.{Row}
+use Rattle.hc_addr.specs.declared.numbers.NumberRow.{NumberRow}
 use Rattle.hc_addr.specs.declared.sizes.TheConstants.{BYTES, GROUPS, GROUP_VALUES}
 use Rattle.hc_addr.specs.Numbers.{is_colon, dotted_of, coloned_of}
 
 -- The number of a row that has exactly so many numbers.
-abbrev pub whole : ℕ → Option Row → Option ℕ
+abbrev pub whole : ℕ → Option NumberRow → Option ℕ
 whole count None = None
 whole count (Some row) = if row.count == count then Some row.value else None
 
@@ -27,13 +27,13 @@ gap_of [] = None
 gap_of (b ∷ bs) = if begins_with_gap (b ∷ bs) then Some 0 else option_map (λ at. at + 1) (gap_of bs)
 
 -- The groups on a side of `::`, where there may be none.
-abbrev pub side_of : List ℕ → Option Row
+abbrev pub side_of : List ℕ → Option NumberRow
 side_of [] = Some (record { value = 0; count = 0 })
 side_of (b ∷ bs) = coloned_of (b ∷ bs)
 
 -- The groups before `::` stand at the address's front and those after it at its end, and at least
 -- one group of zero is between them.
-abbrev pub around : Option Row → Option Row → Option ℕ
+abbrev pub around : Option NumberRow → Option NumberRow → Option ℕ
 around None after = None
 around (Some before) None = None
 around (Some before) (Some after) =

@@ -4,7 +4,7 @@ use Rattle.std.specs.List.{slice_split}
 use Rattle.hc_base.specs.Bytes.{colon, dot}
 use Rattle.hc_addr.specs.declared.numbers.Form.{Form}
 use Rattle.hc_addr.specs.declared.numbers.Form.TheVariants.{Dotted, Coloned}
-use Rattle.hc_addr.specs.declared.numbers.Row.{Row}
+use Rattle.hc_addr.specs.declared.numbers.NumberRow.{NumberRow}
 use Rattle.hc_addr.specs.declared.sizes.TheConstants.{BYTES, BYTE_VALUES, GROUPS, GROUP_VALUES}
 use Rattle.hc_addr.specs.Numbers.{byte_of, group_of, numbers_of, row_of}
 
@@ -26,10 +26,10 @@ abbrev pub most_of : Form → ℕ
 most_of Dotted = BYTES
 most_of Coloned = GROUPS
 
-abbrev pub row_in : Form → List ℕ → Option Row
+abbrev pub row_in : Form → List ℕ → Option NumberRow
 row_in form text = row_of (base_of form) (most_of form) (numbers_of (number_in form) (slice_split (λ b. b == separator_of form) text))
 
 -- The row with one number more, if there is room.
-abbrev pub row_with : ℕ → ℕ → Row → Option ℕ → Option Row
+abbrev pub row_with : ℕ → ℕ → NumberRow → Option ℕ → Option NumberRow
 row_with base most row None = None
 row_with base most row (Some n) = if nat_lt row.count most then Some (record { value = row.value * base + n; count = row.count + 1 }) else None

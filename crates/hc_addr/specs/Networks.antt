@@ -6,7 +6,7 @@ use Rattle.hc_addr.specs.declared.addr.Addr.{Addr}
 use Rattle.hc_addr.specs.declared.addr.Addr.TheVariants.{V4, V6}
 use Rattle.hc_addr.specs.declared.net.Net.{Net}
 use Rattle.hc_addr.specs.declared.net.BadAddress.{BadAddress}
-use Rattle.hc_addr.specs.declared.numbers.Row.{Row}
+use Rattle.hc_addr.specs.declared.numbers.NumberRow.{NumberRow}
 use Rattle.hc_addr.specs.declared.sizes.TheConstants.{BYTES, BYTE_BITS, BYTE_VALUES, V4_BITS, V6_BITS}
 use Rattle.hc_addr.specs.Numbers.{at_most, decimal_of, dotted_of}
 use Rattle.hc_addr.specs.Addresses.{addr_of, has_colon, v4_of, v6_of}
@@ -20,7 +20,7 @@ abbrev pub single_of : ℕ → Net
 single_of a = record { addr = V6 a; mask = front_mask V6_BITS V6_BITS }
 
 -- The bytes of an IPv4 address, or only the first of them, each with eight bits of the mask.
-abbrev pub leading_of : Row → Net
+abbrev pub leading_of : NumberRow → Net
 leading_of row = record { addr = V4 (row.value * BYTE_VALUES ^ (BYTES - row.count)); mask = front_mask V4_BITS (BYTE_BITS * row.count) }
 
 -- A network with no slash: an address, or the first bytes of an IPv4 address.

@@ -5,7 +5,7 @@ use Rattle.std.specs.Int.Digits.{number_from_digits}
 use Rattle.std.specs.List.{list_all, slice_split}
 use Rattle.std.specs.Str.Parse.{digits_value}
 use Rattle.hc_base.specs.Bytes.{colon, dot}
-use Rattle.hc_addr.specs.declared.numbers.Row.{Row}
+use Rattle.hc_addr.specs.declared.numbers.NumberRow.{NumberRow}
 use Rattle.hc_addr.specs.declared.sizes.TheConstants.{BYTES, BYTE_DIGITS, BYTE_VALUES, DECIMAL, GROUPS, GROUP_DIGITS, GROUP_VALUES, HEXADECIMAL, HIGHEST_BYTE}
 
 abbrev pub is_dot : ℕ → Bool
@@ -54,14 +54,14 @@ numbers_of number [] = Some []
 numbers_of number (piece ∷ pieces) = with_first (number piece) (numbers_of number pieces)
 
 -- At most so many numbers in a row: how many they are, and the number whose digits they are.
-abbrev pub row_of : ℕ → ℕ → Option (List ℕ) → Option Row
+abbrev pub row_of : ℕ → ℕ → Option (List ℕ) → Option NumberRow
 row_of base most None = None
 row_of base most (Some ns) = if nat_le (length ns) most then Some (record { value = number_from_digits base ns; count = length ns }) else None
 
 -- One to four bytes with dots between them.
-abbrev pub dotted_of : List ℕ → Option Row
+abbrev pub dotted_of : List ℕ → Option NumberRow
 dotted_of text = row_of BYTE_VALUES BYTES (numbers_of byte_of (slice_split is_dot text))
 
 -- One to eight groups with colons between them.
-abbrev pub coloned_of : List ℕ → Option Row
+abbrev pub coloned_of : List ℕ → Option NumberRow
 coloned_of text = row_of GROUP_VALUES GROUPS (numbers_of group_of (slice_split is_colon text))

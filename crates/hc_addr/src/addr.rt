@@ -1,12 +1,13 @@
 ghost use Rattle.std.specs.Prelude.{◌≡◌, ◌<◌, ◌≤◌, ◌*◌, ◌^◌, ◌+◌, length, Some, IfSome};
 ghost use Rattle.hc_addr.specs.Numbers.{coloned_of};
-ghost use Rattle.hc_addr.specs.Addresses.{has_colon, v4_of, begins_with_gap, gap_of, side_of, around, whole, v6_at, v6_of, addr_of};
+ghost use Rattle.hc_addr.specs.Addresses.{has_colon, v4_of, begins_with_gap, gap_of, side_of, around, whole, v6_at};
+ghost use Rattle.hc_addr.specs.Addresses.{v6_of, addr_of};
 
-use crate::numbers::{Form, Row, read_row};
+use crate::numbers::{Form, NumberRow, read_row};
 use crate::sizes::{BYTES, GROUP_VALUES, GROUPS};
 
 /// An address as a number, its first byte or group in the highest bits.
-#[derive(Clone, Copy, Debug, PartialEq, Eq)]
+#[derive(Clone, Copy, PartialEq, Eq, Hash)]
 pub enum Addr {
     /// IPv4, four bytes.
     V4(u32),
@@ -55,18 +56,18 @@ fn find_gap(text: &[u8]) -> Option<usize>
 }
 
 /// The groups on a side of `::`.
-fn read_side(text: &[u8]) -> Option<Row>
+fn read_side(text: &[u8]) -> Option<NumberRow>
     ensures value { result ≡ side_of text.now }
     ensures fits { IfSome result (λ row. row.value < GROUP_VALUES ^ row.count) }
 {
     if text.is_empty() {
-        return Some(Row { value: 0, count: 0 });
+        return Some(NumberRow { value: 0, count: 0 });
     }
     read_row(text, Form::Coloned)
 }
 
 /// The address of these groups with zeros between them.
-fn join(before: Row, after: Row) -> Option<u128>
+fn join(before: NumberRow, after: NumberRow) -> Option<u128>
     requires before_fits { before.value < GROUP_VALUES ^ before.count }
     requires after_fits { after.value < GROUP_VALUES ^ after.count }
     ensures { result ≡ around (Some before) (Some after) }

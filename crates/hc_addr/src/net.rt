@@ -1,22 +1,23 @@
 ghost use Rattle.std.specs.Prelude.{◌≡◌, ◌≤◌, ◌<◌, ◌^◌, ◌-◌, position, Some, IfSome, length};
 ghost use Rattle.hc_addr.specs.Addresses.{addr_of};
 ghost use Rattle.hc_base.specs.Paths.{is_slash};
-ghost use Rattle.hc_addr.specs.Networks.{front_mask, leading_of, unmasked_of, ones_of, mask_of, masked_of, net_at, net_of, holds_in};
+ghost use Rattle.hc_addr.specs.Networks.{front_mask, leading_of, unmasked_of, ones_of, mask_of, masked_of, net_at};
+ghost use Rattle.hc_addr.specs.Networks.{net_of, holds_in};
 
 use crate::addr::{Addr, has_colon, parse_addr, parse_v4, parse_v6};
-use crate::numbers::{Form, Row, number_up_to, read_row};
+use crate::numbers::{Form, NumberRow, number_up_to, read_row};
 use crate::sizes::{BYTE_BITS, BYTE_VALUES, BYTES, V4_BITS, V6_BITS};
 
 /// The addresses of one family that are this one's in each bit in which the mask is one. The other
 /// bits of `addr` mean nothing. An IPv4 mask stands in the low 32 bits.
-#[derive(Clone, Copy, Debug, PartialEq, Eq)]
+#[derive(Clone, Copy, PartialEq, Eq)]
 pub struct Net {
     pub addr: Addr,
     pub mask: u128,
 }
 
 /// The text is no network.
-#[derive(Clone, Copy, Debug, PartialEq, Eq)]
+#[derive(Clone, Copy, PartialEq, Eq)]
 pub struct BadAddress;
 
 /// The address is of the network's family, and the network's own in the bits of the mask.
@@ -55,7 +56,7 @@ fn front_mask(width: u32, ones: u32) -> u128
 }
 
 /// The first bytes of an IPv4 address as a network, with eight bits of the mask for each.
-fn leading(row: Row) -> Net
+fn leading(row: NumberRow) -> Net
     requires fits { row.value < BYTE_VALUES ^ row.count }
     requires few { row.count ≤ BYTES }
     ensures { result ≡ leading_of row }

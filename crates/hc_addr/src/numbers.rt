@@ -1,5 +1,6 @@
 //! Numbers in text, and rows of numbers that a separator divides.
-ghost use Rattle.std.specs.Prelude.{◌≡◌, ◌≤◌, ◌<◌, ◌*◌, ◌+◌, ◌^◌, length, IfSome, Some, None, nat_le, if◌then◌else◌, ◌&&◌};
+ghost use Rattle.std.specs.Prelude.{◌≡◌, ◌≤◌, ◌<◌, ◌*◌, ◌+◌, ◌^◌, length, IfSome, Some};
+ghost use Rattle.std.specs.Prelude.{None, nat_le, if◌then◌else◌, ◌&&◌};
 ghost use Rattle.std.specs.List.{list_all};
 ghost use Rattle.std.specs.Char.{is_digit};
 ghost use Rattle.std.specs.Str.Parse.{digits_value};
@@ -22,7 +23,7 @@ pub enum Form {
 
 /// Numbers in a row: how many they are, and the number whose digits they are, the first the highest.
 #[derive(Clone, Copy)]
-pub struct Row {
+pub struct NumberRow {
     pub value: u128,
     pub count: u32,
 }
@@ -32,7 +33,8 @@ fn digits_value(text: &[u8], radix: u32) -> Option<u32>
     requires low { 2 ≤ radix }
     requires high { radix ≤ HEXADECIMAL }
     requires few { length text.now ≤ GROUP_DIGITS }
-    ensures value { result ≡ (if list_all (λ b. is_digit b radix) text.now then Some (digits_value radix text.now) else None) }
+    ensures value { result ≡ (if list_all (λ b. is_digit b radix) text.now
+        then Some (digits_value radix text.now) else None) }
     ensures fits { IfSome result (λ n. n < GROUP_VALUES) }
 {
     let mut value = 0u32;
@@ -119,9 +121,9 @@ impl Form {
     }
 }
 
-impl Row {
+impl NumberRow {
     /// The row with the number of this text too, if it is one and there is room.
-    fn with(self, text: &[u8], form: Form) -> Option<Row>
+    fn with(self, text: &[u8], form: Form) -> Option<NumberRow>
         requires fits { self.value < base_of form ^ self.count }
         ensures value { result ≡ row_with (base_of form) (most_of form) self (number_in form text.now) }
         ensures fits { IfSome result (λ row. row.value < base_of form ^ row.count) }
@@ -131,7 +133,7 @@ impl Row {
         if self.count >= form.most() {
             return None;
         }
-        Some(Row {
+        Some(NumberRow {
             value: self.value * form.base() + u128::from(number),
             count: self.count + 1,
         })
@@ -139,13 +141,13 @@ impl Row {
 }
 
 /// The numbers of a text in this form.
-pub fn read_row(text: &[u8], form: Form) -> Option<Row>
+pub fn read_row(text: &[u8], form: Form) -> Option<NumberRow>
     ensures value { result ≡ row_in form text.now }
     ensures fits { IfSome result (λ row. row.value < base_of form ^ row.count) }
     ensures few { IfSome result (λ row. row.count ≤ most_of form) }
 {
     let separator = form.separator();
-    let mut row = Row { value: 0, count: 0 };
+    let mut row = NumberRow { value: 0, count: 0 };
     for piece in text.split(|byte| *byte == separator) {
         row = row.with(piece, form)?;
     }

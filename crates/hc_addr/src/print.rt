@@ -35,7 +35,8 @@ fn print_v4(alloc: Global, address: u32) -> Result<String, NoMemory>
 
 /// Half of an IPv6 address.
 fn print_half(alloc: Global, a: u16, b: u16, c: u16, d: u16) -> Result<String, NoMemory>
-    ensures { IfOk result (λ text. string_bytes text ≡ join_with_byte colon (map hexadecimal (a ∷ b ∷ c ∷ d ∷ []))) }
+    ensures { IfOk result (λ text. string_bytes text
+        ≡ join_with_byte colon (map hexadecimal (a ∷ b ∷ c ∷ d ∷ []))) }
 {
     format!(in alloc; "{a:x}:{b:x}:{c:x}:{d:x}")
 }

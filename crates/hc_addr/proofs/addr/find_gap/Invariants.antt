@@ -1,6 +1,4 @@
-use Rattle.std.proofs.Common.{◌≡◌, ◌+◌, drop}
-use Rattle.std.specs.Option.{option_map}
-use Rattle.hc_addr.specs.Addresses.{gap_of}
+use Rattle.hc_addr.proofs.Common.{◌≡◌, ◌+◌, drop, option_map, gap_of}
 use Rattle.hc_addr.proofs.addr.find_gap.Given as goal
 
 abbrev pub invariant-loop-at : goal.invariant-loop-at

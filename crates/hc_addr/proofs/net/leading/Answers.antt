@@ -1,5 +1,4 @@
-use Rattle.std.proofs.Common.{◌-◌, ◌≤◌, arith, lit<}
-use Rattle.std.proofs.Math.Nat.{pow-le-pow_right}
+use Rattle.hc_addr.proofs.Common.{◌-◌, ◌≤◌, arith, lit<, pow-le-pow_right}
 use Rattle.hc_addr.proofs.Powers.{joined_below}
 use Rattle.hc_addr.proofs.net.leading.Goals as goal
 

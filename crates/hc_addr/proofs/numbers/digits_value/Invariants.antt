@@ -1,7 +1,4 @@
-use Rattle.std.proofs.Common.{◌≡◌, ◌^◌, ◌<◌, drop, Some, None, cond}
-use Rattle.std.specs.List.{list_all}
-use Rattle.std.specs.Char.{is_digit}
-use Rattle.std.specs.Str.Parse.{digits_value_after}
+use Rattle.hc_addr.proofs.Common.{◌≡◌, ◌^◌, ◌<◌, drop, Some, None, cond, list_all, is_digit, digits_value_after}
 use Rattle.hc_addr.proofs.numbers.digits_value.Given as goal
 
 abbrev pub invariant-loop-byte : goal.invariant-loop-byte

@@ -1,9 +1,7 @@
-use Rattle.std.proofs.Common.{◌==◌, length, sym, ◌∙◌, rules, tests, arith}
+use Rattle.hc_addr.proofs.Common.{◌==◌, length, sym, ◌∙◌, rules, tests, arith, slice_split, separator_of}
 use Rattle.std.proofs.lemmas.Iterator.Consumers.{YieldsList-at, YieldsList-turn, YieldsList-end}
 use Rattle.std.proofs.lemmas.Iterator.Splits.{YieldsList-from_slice_split}
 use Rattle.std.proofs.lemmas.List.{length_push}
-use Rattle.std.specs.List.{slice_split}
-use Rattle.hc_addr.specs.Forms.{separator_of}
 use Rattle.hc_addr.proofs.Rows.{on_step, on_end}
 use Rattle.hc_addr.proofs.numbers.read_row.Goals as goal
 

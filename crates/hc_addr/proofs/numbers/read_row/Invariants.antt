@@ -1,6 +1,4 @@
-use Rattle.std.proofs.Common.{◌≡◌, ◌==◌, ◌<◌, ◌≤◌, ◌^◌, length, drop}
-use Rattle.std.specs.List.{slice_split}
-use Rattle.hc_addr.specs.Forms.{base_of, most_of, row_in, separator_of}
+use Rattle.hc_addr.proofs.Common.{◌≡◌, ◌==◌, ◌<◌, ◌≤◌, ◌^◌, length, drop, slice_split, base_of, most_of, row_in, separator_of}
 use Rattle.hc_addr.proofs.Rows.{on}
 use Rattle.hc_addr.proofs.numbers.read_row.Given as goal
 

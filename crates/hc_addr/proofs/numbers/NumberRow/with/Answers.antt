@@ -1,7 +1,6 @@
-use Rattle.std.proofs.Common.{arith, ◌+◌, ◌*◌, ◌<◌, ◌^◌}
-use Rattle.hc_addr.specs.Forms.{base_of}
+use Rattle.hc_addr.proofs.Common.{arith, ◌+◌, ◌*◌, ◌<◌, ◌^◌, base_of}
 use Rattle.hc_addr.proofs.Powers.{room_fits}
-use Rattle.hc_addr.proofs.numbers.Row.with.Goals as goal
+use Rattle.hc_addr.proofs.numbers.NumberRow.with.Goals as goal
 
 pub overflow_mul-result : goal.overflow_mul-result
 overflow_mul-result c =
