@@ -1,14 +1,8 @@
 -- The automaton of one text.
-use Rattle.std.proofs.Common.{◌≡◌, ℕ, ◌+◌, ◌*◌, ◌<◌, ◌≤◌, ◌/◌, ◌%◌, ◌⊎◌, nat_eq, List, [], ◌∷◌, length, drop, slice_index, false, refl, ◌∙◌, ap, inl, inr, arith, drop-cons, add-one}
+use Rattle.hc_dfa.proofs.Common.{◌≡◌, ℕ, ◌+◌, ◌*◌, ◌<◌, ◌≤◌, ◌/◌, ◌%◌, ◌⊎◌, nat_eq, List, [], ◌∷◌, length, drop, slice_index, false, refl, ◌∙◌, ap, inl, inr, arith, drop-cons, add-one, div-mul-add, mod-mul-add, pointwise, Automaton, next_state, accepts_from, accepts, Accepts, single, single_step, IsSingle, IsText}
 use Rattle.std.proofs.lemmas.Bool.Decides.{nat_tests}
 use Rattle.std.proofs.lemmas.Bool.{cases_eq, eq-eqb, eqb-true, false_from_ne_true}
-use Rattle.std.proofs.lemmas.Nat.{div-mul-add, mod-mul-add}
 use Rattle.std.proofs.Math.ListN.{drop_of_length-le}
-use Rattle.std.specs.Cmp.Lexicographic.{pointwise}
-use Rattle.hc_dfa.specs.Automata.{Automaton, next_state, accepts_from, accepts}
-use Rattle.hc_dfa.specs.Built.{Accepts}
-use Rattle.hc_dfa.specs.Singles.{single, single_step, IsSingle}
-use Rattle.hc_dfa.specs.Texts.{IsText}
 
 module _ (text : List ℕ) (a : Automaton) (is : IsSingle text a) where
   step_at : (state byte : ℕ) → state < length text + 2 → byte < 256 → next_state a state byte ≡ single_step text state byte

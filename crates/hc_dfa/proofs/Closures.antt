@@ -1,14 +1,7 @@
 -- Sets of states that grow by one state.
-use Rattle.std.proofs.Common.{◌≡◌, ℕ, ◌+◌, ◌<◌, ◌≤◌, ◌∙◌, sym, arith, ◌||◌, ap, refl, subst, not, count_by, length-set, slice_index_or, List, length, slice_set, Bool, true, false, ◌⊎◌, inl, inr, get_or-set_same, get_or-set_other}
+use Rattle.hc_dfa.proofs.Common.{◌≡◌, ℕ, ◌+◌, ◌<◌, ◌≤◌, ◌∙◌, sym, arith, ◌||◌, ap, refl, subst, not, count_by, length-set, slice_index_or, List, length, slice_set, Bool, true, false, ◌⊎◌, inl, inr, get_or-set_same, get_or-set_other, get_or_default, common_steps, Steps, Reads, IsSilent, Classing, IsAsFine, AreChanges, ArePieces, Marks, Has, IsClosed, IsStep, SilentPath, Follows, TellsSteps, stays, goes_on, ReadingStep, SilentStep}
+use Rattle.std.proofs.Math.Bool.{or-false}
 use Rattle.std.proofs.lemmas.Bool.{cases_eq}
-use Rattle.std.proofs.lemmas.List.{get_or_default}
-use Rattle.std.proofs.lemmas.Grind.{common_steps}
-use Rattle.hc_dfa.specs.Machines.{Steps, Reads, IsSilent}
-use Rattle.hc_dfa.specs.Classings.{Classing, IsAsFine}
-use Rattle.hc_dfa.specs.Sets.{AreChanges, ArePieces, Marks, Has, IsClosed, IsStep, SilentPath, Follows, TellsSteps}
-use Rattle.hc_dfa.specs.Sets.SilentPath.{stays, goes_on}
-use Rattle.hc_dfa.specs.declared.machine.ReadingStep.{ReadingStep}
-use Rattle.hc_dfa.specs.declared.machine.SilentStep.{SilentStep}
 
 pub has_added : (set : List Bool) (added state : ℕ) → added < length set → Has set state → Has (slice_set set added true) state
 has_added set added state below has =
@@ -61,7 +54,7 @@ spreading_more m set more next grew true count step is below at to follows =
     grew_or false same = cc
 spreading_more m set more next grew false count step is below at to follows =
     let kept = follows.kept refl in
-    rw (kept.1, or_false grew) (record {
+    rw (kept.1, or-false grew) (record {
       len = is.len;
       keeps = is.keeps;
       sound = is.sound;
@@ -75,10 +68,6 @@ spreading_more m set more next grew false count step is below at to follows =
       most = is.most;
       fewer = is.fewer;
     })
-  where
-    or_false : (g : Bool) → (g || false) ≡ g
-    or_false true = refl
-    or_false false = refl
 
 -- A whole round that added nothing leaves a closed set.
 pub spread_closed : (m : Steps) (set more : List Bool) (grew : Bool) (count : ℕ) → Spreading m set more grew count → length m.silent ≤ count → grew ≡ false → IsClosed m more

@@ -1,8 +1,5 @@
 -- Where bytes lead from all states.
-use Rattle.std.proofs.Common.{◌≡◌, ℕ, ◌<◌, List, length, slice_index, slice_get, Some, Vec, sym, ◌∙◌, ap}
-use Rattle.std.specs.declared.alloc.Global.{Global}
-use Rattle.hc_dfa.specs.Automata.{Automaton}
-use Rattle.hc_dfa.specs.Classings.{Classing, AreClasses, AreColumns, IsAsFine, IsColumn, Tells, TellsByNumber, class_of}
+use Rattle.hc_dfa.proofs.Common.{◌≡◌, ℕ, ◌<◌, List, length, slice_index, slice_get, Some, Vec, sym, ◌∙◌, ap, Global, Automaton, Classing, AreClasses, AreColumns, IsAsFine, IsColumn, Tells, TellsByNumber, class_of}
 use Rattle.hc_dfa.proofs.Tables.{stands_for}
 
 -- The number is that of the column of a byte.

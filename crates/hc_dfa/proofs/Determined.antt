@@ -1,14 +1,6 @@
 -- The automaton of sets of a machine's states.
-use Rattle.std.proofs.Common.{◌≡◌, ℕ, ◌*◌, ◌<◌, ◌≤◌, List, [], ◌∷◌, length, Bool, true, Some, slice_get, Vec, arith, ap, ◌∙◌}
-use Rattle.std.proofs.lemmas.Option.{slice_get_within}
-use Rattle.std.specs.declared.alloc.Global.{Global}
-use Rattle.hc_dfa.specs.Automata.{Automaton, next_state, accepts_from, accepts}
-use Rattle.hc_dfa.specs.Machines.{Steps, PathToFinal, AcceptsPathsOf}
+use Rattle.hc_dfa.proofs.Common.{◌≡◌, ℕ, ◌*◌, ◌<◌, ◌≤◌, List, [], ◌∷◌, length, Bool, true, Some, slice_get, Vec, arith, ap, ◌∙◌, slice_get_within, Global, Automaton, next_state, accepts_from, accepts, Steps, PathToFinal, AcceptsPathsOf, Has, IsSetOf, SilentPath, IsClosure, IsProper, IsStep, IsMark, IsSameSet, SetsExplored, TellsSteps, stays, goes_on, IsText, Classing, AreClasses, class_count, class_of, first_of, expanded}
 use Rattle.hc_dfa.specs.Machines.PathToFinal.{ends, silently, by_byte}
-use Rattle.hc_dfa.specs.Sets.{Has, IsSetOf, SilentPath, IsClosure, IsProper, IsStep, IsMark, IsSameSet, SetsExplored, TellsSteps}
-use Rattle.hc_dfa.specs.Sets.SilentPath.{stays, goes_on}
-use Rattle.hc_dfa.specs.Texts.{IsText}
-use Rattle.hc_dfa.specs.Classings.{Classing, AreClasses, class_count, class_of, first_of, expanded}
 use Rattle.hc_dfa.proofs.Rows.{Marked, mark_at, leads_at}
 use Rattle.hc_dfa.proofs.Tables.{cell_within, expanded_at}
 

@@ -1,14 +1,8 @@
 -- Texts that are found one after another.
-use Rattle.std.proofs.Common.{◌≡◌, ℕ, ◌≤◌, ◌&&◌, ◌||◌, not, IsTrue, List, [], ◌∷◌, ◌++◌, length, Bool, true, false, refl, sym, ◌∙◌, ◌⊎◌, inl, inr}
-use Rattle.std.specs.List.{AllByRecursion, Contains}
-use Rattle.std.specs.Cmp.Lexicographic.{same_text, other_text}
+use Rattle.hc_dfa.proofs.Common.{◌≡◌, ℕ, ◌≤◌, ◌&&◌, ◌||◌, not, IsTrue, List, [], ◌∷◌, ◌++◌, length, Bool, true, false, refl, sym, ◌∙◌, ◌⊎◌, inl, inr, AllByRecursion, Contains, same_text, other_text, Automaton, accepts, Accepts, AreFirst, IsInOrder, product_of, single, is_among, AreFound, TextSet, IsText, IsEmptySet, IsLeast, comes_before, FirstOnly}
 use Rattle.std.proofs.lemmas.List.Folds.{list_any-append}
 use Rattle.std.proofs.lemmas.Map.Views.{Contains-from_any}
-use Rattle.hc_dfa.specs.Automata.{Automaton, accepts}
-use Rattle.hc_dfa.specs.Built.{Accepts, AreFirst, IsInOrder, product_of}
-use Rattle.hc_dfa.specs.Singles.{single, is_among, AreFound}
-use Rattle.hc_dfa.specs.Texts.{TextSet, IsText, IsEmptySet, IsLeast, comes_before}
-use Rattle.hc_dfa.specs.declared.products.Keep.TheVariants.{FirstOnly}
+use Rattle.std.proofs.Math.Bool.{and-true}
 
 all_push : {X : Type 0} (P : X → Type 0) (xs : List X) (x : X) → AllByRecursion P xs → P x → AllByRecursion P (xs ++ x ∷ [])
 all_push P [] x all here = (here, tt)
@@ -22,10 +16,6 @@ member_not_among : (x y : Bool) → (x && not y) ≡ true → (x ≡ true) × (y
 member_not_among true false both = (refl, refl)
 member_not_among true true both = absurd (cc)
 member_not_among false y both = absurd (cc)
-
-and_true : (x : Bool) → (x && true) ≡ x
-and_true true = refl
-and_true false = refl
 
 and_not_or : (s a e : Bool) → ((s && not a) && not e) ≡ (s && not (a || (e || false)))
 and_not_or true true e = refl
@@ -44,7 +34,7 @@ both true true is isnt = absurd (cc)
 both false a is isnt = absurd (cc)
 
 pub found_none : (set : TextSet) (rest : Automaton) → Accepts rest set → AreFound set [] rest
-found_none set rest same = record { members = tt; ordered = tt; left = λ text bytes. same text bytes ∙ sym (and_true (set text)); later = λ other bytes is isnt. tt }
+found_none set rest same = record { members = tt; ordered = tt; left = λ text bytes. same text bytes ∙ sym (and-true (set text)); later = λ other bytes is isnt. tt }
 
 pub found_more : (set : TextSet) (texts : List (List ℕ)) (rest only more : Automaton) (text : List ℕ) → AreFound set texts rest → IsLeast (accepts rest) text → Accepts only (single text)
     → Accepts more (product_of FirstOnly rest only) → AreFound set (texts ++ text ∷ []) more

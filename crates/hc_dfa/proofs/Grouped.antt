@@ -1,8 +1,5 @@
 -- Classes of bytes by their numbers.
-use Rattle.std.proofs.Common.{◌≡◌, ℕ, ◌+◌, ◌<◌, ◌≤◌, ◌⊎◌, inl, inr, List, [], ◌∷◌, ◌++◌, length, length-append, slice_index, sym, ◌∙◌, ap, arith, subst}
-use Rattle.std.proofs.lemmas.List.{get_or_append_left}
-use Rattle.std.proofs.Math.Seq.{get_or-append_seam}
-use Rattle.hc_dfa.specs.Classings.{Classing, class_of, first_of, class_count, AreClassesBelow}
+use Rattle.hc_dfa.proofs.Common.{◌≡◌, ℕ, ◌+◌, ◌<◌, ◌≤◌, ◌⊎◌, inl, inr, List, [], ◌∷◌, ◌++◌, length, length-append, slice_index, sym, ◌∙◌, ap, arith, subst, get_or_append_left, get_or-append_seam, Classing, class_of, first_of, class_count, AreClassesBelow}
 
 -- The classes of the bytes below the bound, where those with one number are in one class.
 pub record IsGrouping (numbers : List ℕ) (bound : ℕ) (c : Classing) : Type 0 where

@@ -1,3 +1,9 @@
+-- Classes of bytes behind the full table: a struct whose view is the full table, so that no contract and
+-- no lemma over tables sees them; operations go over least bytes, and bytes of a class do the same
+-- (specs/Classings). A walk that numbers what it meets: `IndexSet::insert_full`, one record over the cells
+-- of the table so far, a lemma for a further cell, an induction over the text (specs/Explored). Keys that
+-- are `Vec`s are equal only in `.items`.
+pub mod Common
 pub mod Runs
 pub mod Tables
 pub mod Grouped

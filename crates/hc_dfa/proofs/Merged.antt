@@ -1,12 +1,5 @@
 -- Automata whose states with the same test are made one.
-use Rattle.std.proofs.Common.{◌≡◌, ℕ, ◌<◌, List, length, slice_index, Bool, true, false, ◌&&◌, refl, sym, ◌∙◌, ap, subst, arith, Some, slice_get, ◌≤◌, Vec}
-use Rattle.std.proofs.lemmas.Option.{slice_get_within}
-use Rattle.std.specs.declared.alloc.Global.{Global}
-use Rattle.hc_dfa.specs.Automata.{Automaton, states, next_state, accepts}
-use Rattle.hc_dfa.specs.Blocks.{RespectsFinals, Refines, IsStable, AreLeaders, IsSignature, Represents, block_on}
-use Rattle.hc_dfa.specs.Built.{Accepts, product_of}
-use Rattle.hc_dfa.specs.declared.products.Keep.TheVariants.{Both}
-use Rattle.hc_dfa.specs.Classings.{Classing, AreClasses, Tells, class_of}
+use Rattle.hc_dfa.proofs.Common.{◌≡◌, ℕ, ◌<◌, List, length, slice_index, Bool, true, false, ◌&&◌, refl, sym, ◌∙◌, ap, subst, arith, Some, slice_get, ◌≤◌, Vec, slice_get_within, Global, Automaton, states, next_state, accepts, value_on, RespectsFinals, Refines, IsStable, AreLeaders, IsSignature, Represents, Accepts, product_of, Both, Classing, AreClasses, Tells, class_of}
 use Rattle.hc_dfa.proofs.Runs.{IsAutomaton, next_within, simulated}
 use Rattle.hc_dfa.proofs.Tables.{stands_for}
 
@@ -18,7 +11,7 @@ stable a blocks finer refines finals e = record {
   len = refines.len;
   bound = refines.bound;
   finals = refined_finals a blocks finer refines finals;
-  steps = λ s t byte sb tb same b. subst (λ (xs : List ℕ). block_on a xs s byte ≡ block_on a xs t byte) (sym e) (refines.steps s t byte sb tb same b);
+  steps = λ s t byte sb tb same b. subst (λ (xs : List ℕ). value_on a xs s byte ≡ value_on a xs t byte) (sym e) (refines.steps s t byte sb tb same b);
 }
 
 pub merged : (a made : Automaton) (blocks leaders table : List ℕ) → IsAutomaton a → IsStable a blocks → AreLeaders (states a) blocks leaders
@@ -32,7 +25,7 @@ merged a made blocks leaders table is stable leads led each finals text bytes =
     let sn = next_within a is s byte r.0 b in
     let tn = next_within a is t byte r.1 b in
     let cell = each t byte r.1 b ∙ led (next_state a t byte) tn in
-    let target = leads.bound (block_on a blocks t byte) (stable.bound (next_state a t byte) tn) in (
+    let target = leads.bound (value_on a blocks t byte) (stable.bound (next_state a t byte) tn) in (
       sn,
       subst (λ (x : ℕ). x < states a) (sym cell) target,
       (stable.steps s t byte r.0 r.1 r.2 b ∙ (sym (leads.block (next_state a t byte) tn) ∙ ap (λ (x : ℕ). slice_index blocks x) (sym cell))),

@@ -1,13 +1,6 @@
 -- Distances to a final state, and the walks along them.
-use Rattle.std.proofs.Common.{◌≡◌, ℕ, ◌+◌, ◌<◌, ◌≤◌, ◌⊎◌, List, [], ◌∷◌, ◌++◌, length, slice_index, Bool, true, false, IsTrue, refl, sym, ◌∙◌, ap, subst, arith, inl, inr}
-use Rattle.std.proofs.lemmas.Grind.{common_steps}
+use Rattle.hc_dfa.proofs.Common.{◌≡◌, ℕ, ◌+◌, ◌<◌, ◌≤◌, ◌⊎◌, List, [], ◌∷◌, ◌++◌, length, slice_index, Bool, true, false, IsTrue, refl, sym, ◌∙◌, ap, subst, arith, inl, inr, common_steps, get_or_append_left, get_or-append_seam, Automaton, states, next_state, accepts_from, accepts, value_on, Distances, IsBound, IsNearer, IsWalk, IsText, IsLeast, IsEmptySet, byte_order, comes_before, NONE}
 use Rattle.std.proofs.lemmas.Bool.Decides.{nat_tests}
-use Rattle.std.proofs.lemmas.List.{get_or_append_left}
-use Rattle.std.proofs.Math.Seq.{get_or-append_seam}
-use Rattle.hc_dfa.specs.Automata.{Automaton, states, next_state, accepts_from, accepts}
-use Rattle.hc_dfa.specs.Distances.{Distances, IsBound, IsNearer, distance_on, IsWalk}
-use Rattle.hc_dfa.specs.Texts.{IsText, IsLeast, IsEmptySet, byte_order, comes_before}
-use Rattle.hc_dfa.specs.declared.leasts.TheConstants.{NONE}
 use Rattle.hc_dfa.proofs.Runs.{IsAutomaton, next_within}
 
 -- One more item, of which the same holds at its place.
@@ -56,18 +49,18 @@ module _ (a : Automaton) (is : IsAutomaton a) where
     where
       found : (state : ℕ) → state < states a
           → ((slice_index old state < NONE) × (slice_index new state ≡ slice_index old state))
-          ⊎ ((NONE ≤ slice_index old state) × (((slice_index new state ≡ round + 1) × ((byte : ℕ) × (byte < 256) × (distance_on a old state byte ≡ round)))
-          ⊎ ((slice_index new state ≡ NONE) × ((byte : ℕ) → byte < 256 → distance_on a old state byte ≡ round → ⊥))))
+          ⊎ ((NONE ≤ slice_index old state) × (((slice_index new state ≡ round + 1) × ((byte : ℕ) × (byte < 256) × (value_on a old state byte ≡ round)))
+          ⊎ ((slice_index new state ≡ NONE) × ((byte : ℕ) → byte < 256 → value_on a old state byte ≡ round → ⊥))))
       found state s =
           let cases : (slice_index old state < NONE) ⊎ (NONE ≤ slice_index old state) = grind arith in
           elim cases [ inl h ↦ inl (h, (nearer state s).kept h) | inr h ↦ inr (h, (nearer state s).found h) ]
 
-      settled : (state byte : ℕ) → state < states a → byte < 256 → distance_on a new state byte < round + 1 → next_state a state byte < states a
-          → (slice_index new state < NONE) × (slice_index new state ≤ distance_on a new state byte + 1)
+      settled : (state byte : ℕ) → state < states a → byte < 256 → value_on a new state byte < round + 1 → next_state a state byte < states a
+          → (slice_index new state < NONE) × (slice_index new state ≤ value_on a new state byte + 1)
       settled state byte s b near t =
           elim (found (next_state a state byte) t) [
             | inl e ↦
-                let edge : (distance_on a old state byte < round) ⊎ (distance_on a old state byte ≡ round) = (let f = e.1 in grind arith) in
+                let edge : (value_on a old state byte < round) ⊎ (value_on a old state byte ≡ round) = (let f = e.1 in grind arith) in
                 elim edge [
                   | inl early ↦ (let h = d.settled state byte s b early in let k = (nearer state s).kept h.0 in let f = e.1 in (omega (arith, h.0), omega (arith, h.1)))
                   | inr now ↦ elim (found state s) [
@@ -79,7 +72,7 @@ module _ (a : Automaton) (is : IsAutomaton a) where
           ]
 
       some : (state : ℕ) → state < states a → slice_index new state < NONE → 0 < slice_index new state
-          → (byte : ℕ) × (byte < 256) × (slice_index new state ≡ distance_on a new state byte + 1)
+          → (byte : ℕ) × (byte < 256) × (slice_index new state ≡ value_on a new state byte + 1)
       some state s below more =
           elim (found state s) [
             | inl e ↦
@@ -130,7 +123,7 @@ module _ (a : Automaton) (is : IsAutomaton a) where
       let near = distances.settled state c s bytes.0 (omega (arith, upto)) in
       let whole = walk_accepts d (round + 1) distances (next_state a state b) text tb walk.3 in
       let len : length other ≡ length text = omega (arith, same) in
-      let by_c : slice_index d state ≡ distance_on a d state c + 1 = omega (arith, near.1, far.1, whole.1, walk.1) in
+      let by_c : slice_index d state ≡ value_on a d state c + 1 = omega (arith, near.1, far.1, whole.1, walk.1) in
       let cases : (c < b) ⊎ ((b ≡ c) ⊎ (b < c)) = grind arith in
       elim cases [
         | inl less ↦ absurd (walk.2 c less by_c)

@@ -1,9 +1,5 @@
 -- Inclusion by the least text outside.
-use Rattle.std.proofs.Common.{◌≡◌, ℕ, List, Bool, true, false, not, ◌&&◌, Option, None, Some, sym, ◌∙◌, refl}
-use Rattle.hc_dfa.specs.Automata.{Automaton, accepts}
-use Rattle.hc_dfa.specs.Built.{Accepts, product_of, Includes, inclusion_of}
-use Rattle.hc_dfa.specs.Texts.{TextSet, IsLeast, IsLeastOf}
-use Rattle.hc_dfa.specs.declared.products.Keep.TheVariants.{FirstOnly}
+use Rattle.hc_dfa.proofs.Common.{◌≡◌, ℕ, List, Bool, true, false, not, ◌&&◌, Option, None, Some, sym, ◌∙◌, refl, Automaton, accepts, Accepts, product_of, Includes, inclusion_of, TextSet, IsLeast, IsLeastOf, FirstOnly}
 
 -- What an automaton's least text is, its set's is.
 pub least_of : (made : Automaton) (set : TextSet) (text : List ℕ) → Accepts made set → IsLeast (accepts made) text → IsLeast set text

@@ -1,13 +1,6 @@
 -- The automaton of pairs of states.
-use Rattle.std.proofs.Common.{◌≡◌, ℕ, ◌*◌, ◌<◌, ◌≤◌, List, [], ◌∷◌, length, Bool, Some, slice_get, arith, ap, ◌∙◌}
-use Rattle.std.proofs.lemmas.Option.{slice_get_within}
-use Rattle.hc_dfa.specs.Automata.{Automaton, next_state, is_final, accepts_from, accepts}
-use Rattle.hc_dfa.specs.Built.{Accepts, kept, product_of}
-use Rattle.hc_dfa.specs.Texts.{IsText}
-use Rattle.hc_dfa.specs.Explored.{IsOne}
-use Rattle.hc_dfa.specs.Pairs.{IsPair, pair_step, PairsExplored}
+use Rattle.hc_dfa.proofs.Common.{◌≡◌, ℕ, ◌*◌, ◌<◌, ◌≤◌, List, [], ◌∷◌, length, Bool, Some, slice_get, arith, ap, ◌∙◌, slice_get_within, Automaton, next_state, is_final, accepts_from, accepts, Accepts, kept, product_of, IsText, IsOne, IsPair, pair_step, PairsExplored, Classing, AreClasses, Tells, class_count, class_of, first_of, expanded}
 use Rattle.hc_dfa.specs.declared.products.Keep.{Keep}
-use Rattle.hc_dfa.specs.Classings.{Classing, AreClasses, Tells, class_count, class_of, first_of, expanded}
 use Rattle.hc_dfa.proofs.Rows.{Marked, mark_at, leads_at}
 use Rattle.hc_dfa.proofs.Tables.{cell_within, expanded_at, stands_for}
 

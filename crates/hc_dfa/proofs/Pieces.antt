@@ -1,6 +1,5 @@
 -- Numbers of pieces between changes.
-use Rattle.std.proofs.Common.{◌≡◌, ℕ, ◌+◌, ◌-◌, ◌<◌, ◌≤◌, ◌⊎◌, inl, inr, List, [], ◌∷◌, ◌++◌, length, length-append, slice_index, slice_index_or, Bool, true, false, sym, ◌∙◌, ap, arith, subst}
-use Rattle.hc_dfa.specs.Sets.{ArePieces, Has}
+use Rattle.hc_dfa.proofs.Common.{◌≡◌, ℕ, ◌+◌, ◌-◌, ◌<◌, ◌≤◌, ◌⊎◌, inl, inr, List, [], ◌∷◌, ◌++◌, length, length-append, slice_index, slice_index_or, Bool, true, false, sym, ◌∙◌, ap, arith, subst, ArePieces, Has}
 use Rattle.hc_dfa.proofs.Grouped.{old_item, new_item}
 
 -- The numbers of the bytes so far, the last of which is in the piece with the greatest number.

@@ -1,17 +1,8 @@
 -- The machine of the images of an automaton's texts.
-use Rattle.std.proofs.Common.{◌≡◌, ℕ, ◌+◌, ◌*◌, ◌<◌, ◌/◌, ◌%◌, ◌⊎◌, List, [], ◌∷◌, ◌++◌, length, map, slice_index, slice_index_or, true, false, refl, sym, ◌∙◌, ap, subst, inl, inr, arith}
-use Rattle.std.specs.List.{Contains}
+use Rattle.hc_dfa.proofs.Common.{◌≡◌, ℕ, ◌+◌, ◌*◌, ◌<◌, ◌/◌, ◌%◌, ◌⊎◌, List, [], ◌∷◌, ◌++◌, length, map, slice_index, slice_index_or, true, false, refl, sym, ◌∙◌, ap, subst, inl, inr, arith, Contains, div-mul-add, mod-mul-add, div-add-mod, Automaton, states, next_state, is_final, accepts_from, accepts, AcceptsImages, Steps, Reads, PathToFinal, AcceptsPathsOf, IsText, ReadingStep, SilentStep}
 use Rattle.std.proofs.lemmas.List.Elements.{Contains-append_left, Contains-push, Contains-push_cases}
-use Rattle.std.proofs.lemmas.Nat.{div-mul-add, mod-mul-add}
-use Rattle.std.proofs.Math.Nat.{div-add-mod}
-use Rattle.hc_dfa.specs.Automata.{Automaton, states, next_state, is_final, accepts_from, accepts}
-use Rattle.hc_dfa.specs.Built.{AcceptsImages}
 use Rattle.hc_dfa.specs.Images.{image_step, HasSteps, HasFinalsBelow}
-use Rattle.hc_dfa.specs.Machines.{Steps, Reads, PathToFinal, AcceptsPathsOf}
 use Rattle.hc_dfa.specs.Machines.PathToFinal.{ends, silently, by_byte}
-use Rattle.hc_dfa.specs.Texts.{IsText}
-use Rattle.hc_dfa.specs.declared.machine.ReadingStep.{ReadingStep}
-use Rattle.hc_dfa.specs.declared.machine.SilentStep.{SilentStep}
 use Rattle.hc_dfa.proofs.Runs.{IsAutomaton, next_within}
 
 pub finals_kept : (a : Automaton) (count : ℕ) (bare m : Steps) → HasFinalsBelow a count bare m → is_final a count ≡ false → HasFinalsBelow a (count + 1) bare m

@@ -1,16 +1,7 @@
 -- Automata that are built row by row from keys.
-use Rattle.std.proofs.Common.{◌≡◌, ℕ, ◌+◌, ◌*◌, ◌/◌, ◌%◌, ◌<◌, ◌≤◌, List, [], ◌∷◌, ◌++◌, length, get_or, Some, None, slice_get, slice_index, refl, sym, ◌∙◌, ap, subst, arith, inl, inr, ◌⊎◌, Bool, true, false, ◌^◌, if◌then◌else◌, length-append}
-use Rattle.std.proofs.lemmas.Grind.{common_steps}
-use Rattle.std.proofs.lemmas.Nat.{div-mul-add, mod-mul-add}
-use Rattle.std.proofs.lemmas.List.{get_or_append_left}
-use Rattle.std.specs.List.{list_any}
-use Rattle.std.specs.Cmp.Lexicographic.{pointwise}
+use Rattle.hc_dfa.proofs.Common.{◌≡◌, ℕ, ◌+◌, ◌*◌, ◌/◌, ◌%◌, ◌<◌, ◌≤◌, List, [], ◌∷◌, ◌++◌, length, get_or, Some, None, slice_get, slice_index, refl, sym, ◌∙◌, ap, subst, arith, inl, inr, ◌⊎◌, Bool, true, false, ◌^◌, if◌then◌else◌, length-append, common_steps, div-mul-add, mod-mul-add, get_or_append_left, list_any, pointwise, get_or-append_seam, slice_get_within, slice_get-get_or, slice_get_cases, get_or_from_slice_get, Classing, AreClasses, IsRows, class_count, Extends, IsMet, Leads, Explored}
 use Rattle.std.proofs.Math.Bool.{beq}
 use Rattle.indexmap.specs.IndexSet.{insert_key}
-use Rattle.std.proofs.Math.Seq.{get_or-append_seam}
-use Rattle.std.proofs.lemmas.Option.{slice_get_within, slice_get-get_or, slice_get_cases, get_or_from_slice_get}
-use Rattle.hc_dfa.specs.Classings.{Classing, AreClasses, IsRows, class_count}
-use Rattle.hc_dfa.specs.Explored.{Extends, IsMet, Leads, Explored}
 
 -- Where no key stands, the keys have ended.
 pub keys_ended : {K : Type 0} (keys : List K) (i : ℕ) → slice_get keys i ≡ None → length keys ≤ i

@@ -1,9 +1,5 @@
 -- Runs of automata.
-use Rattle.std.proofs.Common.{◌≡◌, ℕ, ◌+◌, ◌*◌, ◌<◌, List, [], ◌∷◌, Bool, false, refl, sym, ◌∙◌, arith, slice_index, map, not, ap}
-use Rattle.std.proofs.lemmas.List.{get_or-map}
-use Rattle.hc_dfa.specs.Automata.{Automaton, states, next_state, is_final, accepts_from, accepts, IsTable}
-use Rattle.hc_dfa.specs.Built.{Accepts, complement_of}
-use Rattle.hc_dfa.specs.Texts.{IsText}
+use Rattle.hc_dfa.proofs.Common.{◌≡◌, ℕ, ◌+◌, ◌*◌, ◌<◌, List, [], ◌∷◌, Bool, false, refl, sym, ◌∙◌, arith, slice_index, map, not, ap, get_or-map, Automaton, states, next_state, is_final, accepts_from, accepts, IsTable, Accepts, complement_of, IsText}
 
 abbrev pub IsAutomaton : Automaton → Type 0
 IsAutomaton a = IsTable a.next a.finals

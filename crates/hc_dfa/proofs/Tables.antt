@@ -1,14 +1,6 @@
 -- Tables by classes of bytes.
-use Rattle.std.proofs.Common.{◌≡◌, ℕ, ◌+◌, ◌*◌, ◌/◌, ◌%◌, ◌<◌, List, length, map, slice_index, Bool, sym, ◌∙◌, ap, arith, not, ◌++◌, [], ◌∷◌, ◌⊎◌, inl, inr, length-append}
-use Rattle.std.proofs.lemmas.Nat.{div-mul-add, mod-mul-add, mul-add-lt}
-use Rattle.std.proofs.Math.Nat.{div-lt_iff_lt-mul, mod-lt}
-use Rattle.std.proofs.lemmas.List.{length-map, get_or_append_left}
-use Rattle.std.proofs.Math.Seq.{get_or-append_seam}
+use Rattle.hc_dfa.proofs.Common.{◌≡◌, ℕ, ◌+◌, ◌*◌, ◌/◌, ◌%◌, ◌<◌, List, length, map, slice_index, Bool, sym, ◌∙◌, ap, arith, not, ◌++◌, [], ◌∷◌, ◌⊎◌, inl, inr, length-append, div-mul-add, mod-mul-add, mul-add-lt, div-lt_iff_lt-mul, mod-lt, length-map, get_or_append_left, get_or-append_seam, same_number_lists, Automaton, states, next_state, IsTable, Classing, class_of, first_of, class_count, AreClasses, IsAsFine, Tells, IsRows, expanded, Accepts, complement_of}
 use Rattle.std.proofs.lemmas.List.FromFn.{get_or-map-range_with_len, length-map-range_with_len}
-use Rattle.std.proofs.lemmas.Grind.{same_number_lists}
-use Rattle.hc_dfa.specs.Automata.{Automaton, states, next_state, IsTable}
-use Rattle.hc_dfa.specs.Classings.{Classing, class_of, first_of, class_count, AreClasses, IsAsFine, Tells, IsRows, expanded}
-use Rattle.hc_dfa.specs.Built.{Accepts, complement_of}
 use Rattle.hc_dfa.proofs.Runs.{IsAutomaton, complemented}
 
 -- A place in a row is a place in the table.

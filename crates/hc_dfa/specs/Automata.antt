@@ -13,6 +13,10 @@ states a = length a.finals
 abbrev pub next_state : Automaton → ℕ → ℕ → ℕ
 next_state a state byte = slice_index a.next (256 * state + byte)
 
+-- What a list has for the state that a byte leads to.
+abbrev pub value_on : Automaton → List ℕ → ℕ → ℕ → ℕ
+value_on a values state byte = slice_index values (next_state a state byte)
+
 abbrev pub is_final : Automaton → ℕ → Bool
 is_final a state = slice_index_or a.finals state false
 

@@ -1,10 +1,7 @@
 -- Partitions of an automaton's states into blocks.
 use Rattle.std.specs.Prelude.{◌≡◌, ℕ, ◌<◌, List, length, slice_index, Vec}
 use Rattle.std.specs.declared.alloc.Global.{Global}
-use Rattle.hc_dfa.specs.Automata.{Automaton, states, next_state, is_final}
-
-abbrev pub block_on : Automaton → List ℕ → ℕ → ℕ → ℕ
-block_on a blocks state byte = slice_index blocks (next_state a state byte)
+use Rattle.hc_dfa.specs.Automata.{Automaton, states, next_state, is_final, value_on}
 
 -- The states of one block are all final, or none is.
 abbrev pub RespectsFinals : Automaton → List ℕ → Type 0
@@ -14,7 +11,7 @@ RespectsFinals a blocks = (s t : ℕ) → s < states a → t < states a → slic
 abbrev pub RespectsSteps : Automaton → List ℕ → List ℕ → Type 0
 RespectsSteps a blocks finer =
     (s t byte : ℕ) → s < states a → t < states a → slice_index finer s ≡ slice_index finer t → byte < 256 →
-    block_on a blocks s byte ≡ block_on a blocks t byte
+    value_on a blocks s byte ≡ value_on a blocks t byte
 
 -- The second partition is as fine as the first, and as what bytes lead to.
 pub record Refines (a : Automaton) (blocks finer : List ℕ) : Type 0 where
@@ -38,7 +35,7 @@ Represents a bytes =
 
 -- What a refinement tells states apart by: the blocks that these bytes lead to, and the state's own.
 pub record IsSignature (a : Automaton) (bytes blocks : List ℕ) (state : ℕ) (signature : List ℕ) : Type 0 where
-  pub steps : (k : ℕ) → k < length bytes → slice_index signature k ≡ block_on a blocks state (slice_index bytes k)
+  pub steps : (k : ℕ) → k < length bytes → slice_index signature k ≡ value_on a blocks state (slice_index bytes k)
   pub block : slice_index signature (length bytes) ≡ slice_index blocks state
 
 -- A state of each block, by the block's number.

@@ -62,6 +62,10 @@ unfoldable pub expanded : Classing → List ℕ → ℕ → List ℕ
 expanded c rows count =
     map (λ cell. slice_index rows (cell / 256 * class_count c + class_of c (cell % 256))) (range_with_len 0 (256 * count))
 
+-- The automaton of a table by classes.
+abbrev pub automaton_of : Classing → List ℕ → List Bool → Automaton
+automaton_of c rows finals = record { next = expanded c rows (length finals); finals = finals }
+
 -- The table by classes is one of an automaton.
 pub record IsRows (c : Classing) (rows : List ℕ) (finals : List Bool) : Type 0 where
   pub some : 0 < length finals

@@ -14,6 +14,10 @@ pub record Steps : Type 0 where
   pub starts : List ℕ
   pub finals : List ℕ
 
+abbrev pub steps_of : ℕ → List ReadingStep → List SilentStep → List ℕ → List ℕ → Steps
+steps_of states reading silent starts finals =
+    record { states = states; reading = reading; silent = silent; starts = starts; finals = finals }
+
 -- Each step is between states of the machine, and so are the starts and the finals.
 pub record IsMachine (m : Steps) : Type 0 where
   pub few : m.states < 2 ^ 32

@@ -1,4 +1,5 @@
-ghost use Rattle.std.specs.Prelude.{◌≡◌, ℕ, ◌<◌, ◌≤◌, ◌⊎◌, ◌^◌, length, slice_index, vec_len, IfOk};
+ghost use Rattle.std.specs.Prelude.{◌≡◌, ℕ, ◌<◌, ◌≤◌, ◌⊎◌, ◌^◌, length, slice_index};
+ghost use Rattle.std.specs.Prelude.{vec_len, IfOk};
 ghost use Rattle.hc_dfa.specs.Classings.{AreClasses, IsAsFine, class_count, class_of, first_of};
 
 use crate::dfa::BYTES;
@@ -9,7 +10,7 @@ use std::alloc::Global;
 use std::marker::Model;
 
 /// Classes of bytes, numbered in the order of their least bytes.
-#[derive(Debug, Drop)]
+#[derive(Drop)]
 pub struct Classes {
     classes: Vec<u8>,
     firsts: Vec<u8>,
@@ -125,7 +126,8 @@ fn class_like(numbers: &[u32], firsts: &[u8], number: u32) -> usize
     requires { length numbers.now ≡ 256 }
     ensures within { result ≤ length firsts.now }
     ensures same { result < length firsts.now → slice_index numbers.now (slice_index firsts.now result) ≡ number }
-    ensures none { result ≡ length firsts.now → (class : ℕ) → class < length firsts.now → slice_index numbers.now (slice_index firsts.now class) ≡ number → ⊥ }
+    ensures none { result ≡ length firsts.now → (class : ℕ) → class < length firsts.now
+        → slice_index numbers.now (slice_index firsts.now class) ≡ number → ⊥ }
 {
     for class in 0..firsts.len() {
         if numbers[firsts[class] as usize] == number {

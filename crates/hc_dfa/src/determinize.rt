@@ -1,4 +1,5 @@
-ghost use Rattle.std.specs.Prelude.{◌≡◌, ℕ, ◌+◌, ◌*◌, ◌<◌, Some, slice_get, length, vec_len, IfOk, OnOk, Vec, Bool};
+ghost use Rattle.std.specs.Prelude.{◌≡◌, ℕ, ◌+◌, ◌*◌, ◌<◌, Some, slice_get, length, vec_len, IfOk};
+ghost use Rattle.std.specs.Prelude.{OnOk, Vec, Bool};
 ghost use Rattle.std.specs.declared.alloc.Global.{Global};
 ghost use Rattle.hc_dfa.specs.Classings.{AreClasses};
 ghost use Rattle.hc_dfa.specs.Explored.{Extends};

@@ -2,7 +2,7 @@ ghost use Rattle.std.specs.Prelude.{◌≡◌, ℕ, ◌<◌, ◌≤◌, ◌^◌,
 ghost use Rattle.std.specs.Prelude.{length, slice_index, vec_len};
 ghost use Rattle.hc_dfa.specs.Automata.{states, next_state, is_final, accepts, IsTable};
 ghost use Rattle.hc_dfa.specs.Built.{Accepts, complement_of};
-ghost use Rattle.hc_dfa.specs.Classings.{AreClasses, IsRows, Tells, expanded};
+ghost use Rattle.hc_dfa.specs.Classings.{AreClasses, IsRows, Tells, automaton_of};
 
 use crate::classes::Classes;
 use crate::coarse::coarsened;
@@ -15,7 +15,7 @@ pub const BYTES: usize = 256;
 
 /// A deterministic automaton over bytes: a set of texts. It keeps a next state for each state and
 /// class of bytes.
-#[derive(Debug, Drop)]
+#[derive(Drop)]
 pub struct Dfa {
     classes: Classes,
     rows: Vec<u32>,
@@ -23,13 +23,12 @@ pub struct Dfa {
 }
 
 impl Model for Dfa {
-    ghost use Rattle.std.specs.Prelude.{length};
     ghost use Rattle.hc_dfa.specs.Automata.{Automaton};
-    ghost use Rattle.hc_dfa.specs.Classings.{IsRows, expanded};
+    ghost use Rattle.hc_dfa.specs.Classings.{IsRows, automaton_of};
 
     ghost Value = { Automaton };
 
-    ghost view = { λ d. record { next = expanded d.classes d.rows.items (length d.finals.items); finals = d.finals.items } };
+    ghost view = { λ d. automaton_of d.classes d.rows.items d.finals.items };
 
     ghost invariant = { λ d. IsRows d.classes d.rows.items d.finals.items };
 }
@@ -38,7 +37,7 @@ impl Dfa {
     /// The automaton of a table by classes: a next state for each state and class.
     pub(crate) fn made(classes: Classes, rows: Vec<u32>, finals: Vec<bool>) -> Dfa
         requires { IsRows classes rows.items finals.items }
-        ensures { result ≡ record { next = expanded classes rows.items (length finals.items); finals = finals.items } }
+        ensures { result ≡ automaton_of classes rows.items finals.items }
     {
         Dfa {
             classes,
@@ -189,7 +188,8 @@ pub fn complement(alloc: Global, a: &Dfa) -> Result<Dfa, NoMemory>
 pub fn led(alloc: Global, states: &[u32], table: &[u32]) -> Result<Vec<u32>, NoMemory>
     requires { (k : ℕ) → k < length states.now → slice_index states.now k < length table.now }
     ensures len { IfOk result (λ led. vec_len led ≡ length states.now) }
-    ensures each { IfOk result (λ led. (k : ℕ) → k < length states.now → slice_index led.items k ≡ slice_index table.now (slice_index states.now k)) }
+    ensures each { IfOk result (λ led. (k : ℕ) → k < length states.now
+        → slice_index led.items k ≡ slice_index table.now (slice_index states.now k)) }
 {
     let mut led = Vec::new(alloc);
     for state in states {

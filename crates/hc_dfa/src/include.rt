@@ -6,10 +6,21 @@ use hc_base::NoMemory;
 use std::alloc::Global;
 
 /// Whether each text of one set is in another, or the least text that isn't.
-#[derive(Debug, Drop)]
+#[derive(Drop)]
 pub enum Inclusion {
     Yes,
     No(Member),
+}
+
+impl Clone for Inclusion {
+    ghost is_clone = { λ inclusion copy. copy ≡ inclusion };
+
+    fn clone(&self) -> Result<Inclusion, NoMemory> {
+        match self {
+            Inclusion::Yes => Ok(Inclusion::Yes),
+            Inclusion::No(text) => Ok(Inclusion::No(text.clone()?)),
+        }
+    }
 }
 
 /// Whether each text of the first set is in the second.

@@ -1,7 +1,7 @@
 ghost use Rattle.std.specs.Prelude.{◌≡◌, ℕ, ◌+◌, ◌<◌, ◌≤◌, slice_index, length, vec_len, IfOk};
-ghost use Rattle.hc_dfa.specs.Automata.{Automaton, states, next_state, is_final, accepts, IsTable};
+ghost use Rattle.hc_dfa.specs.Automata.{Automaton, states, next_state, is_final, accepts, IsTable, value_on};
 ghost use Rattle.hc_dfa.specs.Classings.{Classing, AreClasses, Tells};
-ghost use Rattle.hc_dfa.specs.Distances.{Distances, IsBound, IsFirstTo, IsNearer, distance_on};
+ghost use Rattle.hc_dfa.specs.Distances.{Distances, IsBound, IsFirstTo, IsNearer};
 ghost use Rattle.hc_dfa.specs.Texts.{IsLeastOf};
 
 use crate::{Dfa, Member};
@@ -35,8 +35,9 @@ fn first_step(a: &Dfa, distances: &[u32], state: u32) -> u8
     requires state { state < states a.now }
     requires more { 0 < slice_index distances.now state }
     requires some { slice_index distances.now state < NONE }
-    ensures nearer { slice_index distances.now state ≡ distance_on a.now distances.now state result + 1 }
-    ensures first { (byte : ℕ) → byte < result → slice_index distances.now state ≡ distance_on a.now distances.now state byte + 1 → ⊥ }
+    ensures nearer { slice_index distances.now state ≡ value_on a.now distances.now state result + 1 }
+    ensures first { (byte : ℕ) → byte < result
+        → slice_index distances.now state ≡ value_on a.now distances.now state byte + 1 → ⊥ }
 {
     let left = distances[state as usize] - 1;
     let Some(byte) = first_to(a, a.classes().firsts(), distances, state, left) else {
@@ -62,7 +63,8 @@ fn first_to(a: &Dfa, bytes: &[u8], distances: &[u32], state: u32, distance: u32)
 
 /// The distance of each state to the nearest final one.
 fn distances(alloc: Global, a: &Dfa) -> Result<Vec<u32>, NoMemory>
-    ensures { IfOk result (λ found. (round : ℕ) × Distances a.now found.items (round + 1) × IsBound a.now found.items round) }
+    ensures { IfOk result (λ found. (round : ℕ) × Distances a.now found.items (round + 1)
+        × IsBound a.now found.items round) }
 {
     let mut distances = at_finals(alloc, a)?;
     for round in 0..NONE - 1 {

@@ -1,4 +1,5 @@
-ghost use Rattle.std.specs.Prelude.{◌≡◌, ℕ, ◌+◌, ◌^◌, ◌<◌, [], ◌∷◌, ◌++◌, OnOk, OnErr, IfOk};
+ghost use Rattle.std.specs.Prelude.{◌≡◌, ℕ, ◌+◌, ◌^◌, ◌<◌, [], ◌∷◌, ◌++◌, OnOk, OnErr};
+ghost use Rattle.std.specs.Prelude.{IfOk};
 ghost use Rattle.hc_dfa.specs.Machines.{IsMachine};
 
 use hc_base::NoMemory;
@@ -6,7 +7,7 @@ use std::alloc::Global;
 use std::marker::Model;
 
 /// A step from a state to a state by any byte from the low to the high one.
-#[derive(Clone, Copy, Debug, Drop)]
+#[derive(Clone, Copy, Drop)]
 pub struct ReadingStep {
     pub from: u32,
     pub low: u8,
@@ -15,7 +16,7 @@ pub struct ReadingStep {
 }
 
 /// A step from a state to a state that reads nothing.
-#[derive(Clone, Copy, Debug, Drop)]
+#[derive(Clone, Copy, Drop)]
 pub struct SilentStep {
     pub from: u32,
     pub to: u32,
@@ -23,7 +24,7 @@ pub struct SilentStep {
 
 /// A machine whose steps read a byte or are silent, and may lead from a state to many. It stands for
 /// the texts that some path from a start to a final state reads.
-#[derive(Debug, Drop)]
+#[derive(Drop)]
 pub struct Machine {
     states: u32,
     reading: Vec<ReadingStep>,
@@ -33,13 +34,14 @@ pub struct Machine {
 }
 
 impl Model for Machine {
-    ghost use Rattle.hc_dfa.specs.Machines.{Steps, IsMachine};
+    ghost use Rattle.hc_dfa.specs.Machines.{Steps, IsMachine, steps_of};
 
     ghost Value = { Steps };
 
-    ghost view = { λ m. record { states = m.states; reading = m.reading.items; silent = m.silent.items; starts = m.starts.items; finals = m.finals.items } };
+    ghost view = { λ m. steps_of m.states m.reading.items m.silent.items m.starts.items m.finals.items };
 
-    ghost invariant = { λ m. IsMachine (record { states = m.states; reading = m.reading.items; silent = m.silent.items; starts = m.starts.items; finals = m.finals.items }) };
+    ghost invariant = { λ m.
+        IsMachine (steps_of m.states m.reading.items m.silent.items m.starts.items m.finals.items) };
 }
 
 impl Machine {
@@ -142,5 +144,19 @@ impl Machine {
         ensures { result.now ≡ self.now.finals }
     {
         &self.finals
+    }
+}
+
+impl Clone for Machine {
+    ghost is_clone = { λ machine copy. copy ≡ machine };
+
+    fn clone(&self) -> Result<Machine, NoMemory> {
+        Ok(Machine {
+            states: self.states,
+            reading: self.reading.clone()?,
+            silent: self.silent.clone()?,
+            starts: self.starts.clone()?,
+            finals: self.finals.clone()?,
+        })
     }
 }

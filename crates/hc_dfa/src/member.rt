@@ -1,9 +1,10 @@
 ghost use Rattle.std.specs.Prelude.{◌≡◌};
 
+use hc_base::NoMemory;
 use std::marker::Model;
 
 /// A text of bytes, found in a set.
-#[derive(Debug, Drop)]
+#[derive(Drop)]
 pub struct Member {
     bytes: Vec<u8>,
 }
@@ -29,5 +30,15 @@ impl From<Vec<u8>> for Member {
 
     fn from(bytes: Vec<u8>) -> Member {
         Member { bytes }
+    }
+}
+
+impl Clone for Member {
+    ghost is_clone = { λ member copy. copy ≡ member };
+
+    fn clone(&self) -> Result<Member, NoMemory> {
+        Ok(Member {
+            bytes: self.bytes.clone()?,
+        })
     }
 }

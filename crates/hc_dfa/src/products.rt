@@ -1,4 +1,5 @@
-ghost use Rattle.std.specs.Prelude.{◌≡◌, ℕ, ◌+◌, ◌*◌, ◌<◌, Some, slice_get, length, vec_len, IfOk, OnOk};
+ghost use Rattle.std.specs.Prelude.{◌≡◌, ℕ, ◌+◌, ◌*◌, ◌<◌, Some, slice_get, length, vec_len, IfOk};
+ghost use Rattle.std.specs.Prelude.{OnOk};
 ghost use Rattle.hc_dfa.specs.Automata.{accepts, IsTable};
 ghost use Rattle.hc_dfa.specs.Built.{Accepts, kept, product_of};
 ghost use Rattle.hc_dfa.specs.Classings.{AreClasses, Tells};
@@ -13,7 +14,7 @@ use indexmap::IndexSet;
 use std::alloc::Global;
 
 /// What a product keeps: the texts of both sets, of either, or of the first that aren't in the second.
-#[derive(Clone, Copy, Debug, PartialEq, Eq)]
+#[derive(Clone, Copy)]
 pub enum Keep {
     Both,
     Either,
@@ -72,7 +73,8 @@ fn add_row(
     pair: (u32, u32),
 ) -> Result<(), NoMemory>
     requires explored { PairsExplored a.now b.now bytes.now pairs.old.keys next.old.items }
-    requires row { (row : ℕ) × (slice_get pairs.old.keys row ≡ Some pair) × (vec_len next.old ≡ row * length bytes.now) }
+    requires row { (row : ℕ) × (slice_get pairs.old.keys row ≡ Some pair)
+        × (vec_len next.old ≡ row * length bytes.now) }
     ensures explored { OnOk result (PairsExplored a.now b.now bytes.now pairs.new.keys next.new.items) }
     ensures len { OnOk result (vec_len next.new ≡ vec_len next.old + length bytes.now) }
     ensures extends { OnOk result (Extends pairs.old.keys pairs.new.keys) }

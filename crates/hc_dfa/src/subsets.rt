@@ -1,7 +1,9 @@
-ghost use Rattle.std.specs.Prelude.{◌≡◌, ℕ, ◌<◌, ◌⊎◌, true, false, length, vec_len, IfOk, IfSome, IfNone};
+ghost use Rattle.std.specs.Prelude.{◌≡◌, ℕ, ◌<◌, ◌⊎◌, true, false, length, vec_len, IfOk, IfSome};
+ghost use Rattle.std.specs.Prelude.{IfNone};
 ghost use Rattle.std.specs.List.{Contains, All};
 ghost use Rattle.hc_dfa.specs.Machines.{IsMachine, IsSilent};
-ghost use Rattle.hc_dfa.specs.Sets.{AreChanges, Marks, Has, IsSetOf, IsRead, IsClosed, IsClosure, IsMark, Follows, Spreads};
+ghost use Rattle.hc_dfa.specs.Sets.{AreChanges, Marks, Has, IsSetOf, IsRead, IsClosed, IsClosure, IsMark, Follows};
+ghost use Rattle.hc_dfa.specs.Sets.{Spreads};
 
 use crate::dfa::BYTES;
 use crate::{Machine, ReadingStep, SilentStep};

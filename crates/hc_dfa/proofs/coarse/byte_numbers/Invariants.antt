@@ -1,5 +1,4 @@
-use Rattle.std.proofs.Common.{◌≡◌, ◌<◌, ℕ, slice_index, vec_len}
-use Rattle.hc_dfa.specs.Classings.{class_of}
+use Rattle.hc_dfa.proofs.Common.{◌≡◌, ◌<◌, ℕ, slice_index, vec_len, class_of}
 use Rattle.hc_dfa.proofs.coarse.byte_numbers.Given as goal
 
 abbrev pub invariant-loop-byte : goal.invariant-loop-byte

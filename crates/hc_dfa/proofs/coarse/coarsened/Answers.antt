@@ -1,5 +1,4 @@
-use Rattle.std.proofs.Common.{◌≡◌, ◌*◌, List, ℕ, length, ap, ◌∙◌, subst, arith}
-use Rattle.hc_dfa.specs.Automata.{states}
+use Rattle.hc_dfa.proofs.Common.{◌≡◌, ◌*◌, List, ℕ, length, ap, ◌∙◌, subst, arith, states}
 use Rattle.hc_dfa.proofs.Columns.{numbers_tell}
 use Rattle.hc_dfa.proofs.Tables.{IsCut, cut_made, cut_more, cut_none, cut_rows}
 use Rattle.hc_dfa.proofs.coarse.coarsened.Goals as goal

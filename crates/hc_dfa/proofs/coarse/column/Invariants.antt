@@ -1,5 +1,4 @@
-use Rattle.std.proofs.Common.{◌≡◌, ℕ, ◌<◌, slice_index, vec_len}
-use Rattle.hc_dfa.specs.Automata.{next_state}
+use Rattle.hc_dfa.proofs.Common.{◌≡◌, ℕ, ◌<◌, slice_index, vec_len, next_state}
 use Rattle.hc_dfa.proofs.coarse.column.Given as goal
 
 abbrev pub invariant-loop-state : goal.invariant-loop-state

@@ -1,5 +1,4 @@
-use Rattle.std.proofs.Common.{ℕ, List, slice_index, subst, arith}
-use Rattle.hc_dfa.specs.Classings.{IsColumn}
+use Rattle.hc_dfa.proofs.Common.{ℕ, List, slice_index, subst, arith, IsColumn}
 use Rattle.hc_dfa.proofs.Columns.{IsColumnOf, columns_made}
 use Rattle.hc_dfa.proofs.Nearest.{each_more}
 use Rattle.hc_dfa.proofs.coarse.column_numbers.Goals as goal

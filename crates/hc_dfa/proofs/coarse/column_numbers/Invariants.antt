@@ -1,6 +1,4 @@
-use Rattle.std.proofs.Common.{◌≡◌, ℕ, ◌<◌, slice_get, slice_index, vec_len, Some, Vec}
-use Rattle.std.specs.declared.alloc.Global.{Global}
-use Rattle.hc_dfa.specs.Classings.{IsColumn}
+use Rattle.hc_dfa.proofs.Common.{◌≡◌, ℕ, ◌<◌, slice_get, slice_index, vec_len, Some, Vec, Global, IsColumn}
 use Rattle.hc_dfa.proofs.coarse.column_numbers.Given as goal
 
 abbrev pub invariant-loop-byte : goal.invariant-loop-byte

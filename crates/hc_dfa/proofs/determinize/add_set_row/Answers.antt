@@ -1,5 +1,4 @@
-use Rattle.std.proofs.Common.{List, Bool, arith, subst, slice_index}
-use Rattle.hc_dfa.specs.Sets.{IsSameSet, IsProper, IsStep, IsRead, IsClosure}
+use Rattle.hc_dfa.proofs.Common.{List, Bool, arith, subst, slice_index, IsSameSet, IsProper, IsStep, IsRead, IsClosure}
 use Rattle.hc_dfa.proofs.Rows.{explored_more}
 use Rattle.hc_dfa.proofs.determinize.add_set_row.Goals as goal
 

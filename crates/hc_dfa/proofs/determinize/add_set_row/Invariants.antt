@@ -1,6 +1,4 @@
-use Rattle.std.proofs.Common.{◌≡◌, ◌+◌, vec_len}
-use Rattle.hc_dfa.specs.Explored.{Extends}
-use Rattle.hc_dfa.specs.Sets.{SetsExplored}
+use Rattle.hc_dfa.proofs.Common.{◌≡◌, ◌+◌, vec_len, Extends, SetsExplored}
 use Rattle.hc_dfa.proofs.determinize.add_set_row.Given as goal
 
 abbrev pub invariant-loop-byte : goal.invariant-loop-byte

@@ -1,5 +1,4 @@
-use Rattle.std.proofs.Common.{sym, arith}
-use Rattle.std.proofs.lemmas.Grind.{common_steps}
+use Rattle.hc_dfa.proofs.Common.{sym, arith, common_steps}
 use Rattle.hc_dfa.proofs.Rows.{keys_ended}
 use Rattle.hc_dfa.proofs.determinize.set_at.Goals as goal
 

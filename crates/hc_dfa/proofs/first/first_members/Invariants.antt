@@ -1,6 +1,4 @@
-use Rattle.std.proofs.Common.{◌≡◌, length}
-use Rattle.hc_dfa.specs.Automata.{accepts}
-use Rattle.hc_dfa.specs.Singles.{AreFound}
+use Rattle.hc_dfa.proofs.Common.{◌≡◌, length, accepts, AreFound}
 use Rattle.hc_dfa.proofs.first.first_members.Given as goal
 
 abbrev pub invariant-loop-taken : goal.invariant-loop-taken

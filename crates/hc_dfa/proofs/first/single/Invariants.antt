@@ -1,5 +1,4 @@
-use Rattle.std.proofs.Common.{◌≡◌, ℕ, ◌<◌, ◌/◌, ◌%◌, ◌==◌, length, slice_index, slice_index_or, vec_len, false}
-use Rattle.hc_dfa.specs.Singles.{single_step}
+use Rattle.hc_dfa.proofs.Common.{◌≡◌, ℕ, ◌<◌, ◌/◌, ◌%◌, ◌==◌, length, slice_index, slice_index_or, vec_len, false, single_step}
 use Rattle.hc_dfa.proofs.first.single.Given as goal
 
 abbrev pub invariant-loop-cell : goal.invariant-loop-cell

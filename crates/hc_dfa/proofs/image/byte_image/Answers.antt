@@ -1,5 +1,4 @@
-use Rattle.std.proofs.Common.{◌≡◌, ℕ, [], ◌∷◌, ◌++◌, ap, ◌∙◌}
-use Rattle.hc_dfa.specs.Machines.{Steps}
+use Rattle.hc_dfa.proofs.Common.{◌≡◌, ℕ, [], ◌∷◌, ◌++◌, ap, ◌∙◌, Steps}
 use Rattle.hc_dfa.proofs.Replaced.{image_machine, images_accepted}
 use Rattle.hc_dfa.proofs.image.byte_image.Goals as goal
 

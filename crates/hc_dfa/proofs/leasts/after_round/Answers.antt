@@ -1,5 +1,4 @@
-use Rattle.std.proofs.Common.{arith}
-use Rattle.hc_dfa.specs.Distances.{IsNearer}
+use Rattle.hc_dfa.proofs.Common.{arith, IsNearer}
 use Rattle.hc_dfa.proofs.Nearest.{each_more, round_more}
 use Rattle.hc_dfa.proofs.leasts.after_round.Goals as goal
 

@@ -1,5 +1,4 @@
-use Rattle.std.proofs.Common.{◌≡◌, ℕ, ◌<◌, slice_index, vec_len}
-use Rattle.hc_dfa.specs.Distances.{IsNearer}
+use Rattle.hc_dfa.proofs.Common.{◌≡◌, ℕ, ◌<◌, slice_index, vec_len, IsNearer}
 use Rattle.hc_dfa.proofs.leasts.after_round.Given as goal
 
 abbrev pub invariant-loop-state : goal.invariant-loop-state

@@ -1,5 +1,4 @@
-use Rattle.std.proofs.Common.{[], ◌∷◌, arith, append_assoc, append-nil}
-use Rattle.std.proofs.lemmas.Grind.{common_steps}
+use Rattle.hc_dfa.proofs.Common.{[], ◌∷◌, arith, append_assoc, append-nil, common_steps}
 use Rattle.hc_dfa.proofs.Nearest.{none_near, walk_least}
 use Rattle.hc_dfa.proofs.leasts.least.Goals as goal
 

@@ -1,7 +1,4 @@
-use Rattle.std.proofs.Common.{◌<◌, List, ℕ, ◌++◌, slice_index}
-use Rattle.hc_dfa.specs.Automata.{states}
-use Rattle.hc_dfa.specs.Distances.{IsWalk}
-use Rattle.hc_dfa.specs.declared.leasts.TheConstants.{NONE}
+use Rattle.hc_dfa.proofs.Common.{◌<◌, List, ℕ, ◌++◌, slice_index, states, IsWalk, NONE}
 use Rattle.hc_dfa.proofs.leasts.least.Given as goal
 
 abbrev pub invariant-bytes : goal.invariant-bytes

@@ -1,8 +1,5 @@
-use Rattle.std.specs.Cmp.Lexicographic.{same_text}
-use Rattle.std.proofs.Common.{sym, subst, ℕ}
+use Rattle.hc_dfa.proofs.Common.{same_text, sym, subst, ℕ, IsMet, IsSameList}
 use Rattle.hc_dfa.proofs.Rows.{met_inserted}
-use Rattle.hc_dfa.specs.Explored.{IsMet}
-use Rattle.hc_dfa.specs.Blocks.{IsSameList}
 use Rattle.hc_dfa.proofs.numbers.number_of_list.Goals as goal
 
 pub returns-in-Ok : goal.returns-in-Ok

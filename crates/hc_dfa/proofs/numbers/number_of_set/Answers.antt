@@ -1,7 +1,5 @@
-use Rattle.std.proofs.Common.{sym, subst, ℕ}
+use Rattle.hc_dfa.proofs.Common.{sym, subst, ℕ, IsMet, IsSameSet}
 use Rattle.hc_dfa.proofs.Rows.{met_inserted, same_marks}
-use Rattle.hc_dfa.specs.Explored.{IsMet}
-use Rattle.hc_dfa.specs.Sets.{IsSameSet}
 use Rattle.hc_dfa.proofs.numbers.number_of_set.Goals as goal
 
 pub returns-in-Ok : goal.returns-in-Ok

@@ -1,5 +1,4 @@
-use Rattle.std.proofs.Common.{arith}
-use Rattle.hc_dfa.specs.Explored.{IsOne}
+use Rattle.hc_dfa.proofs.Common.{arith, IsOne}
 use Rattle.hc_dfa.proofs.Rows.{explored_more}
 use Rattle.hc_dfa.proofs.products.add_row.Goals as goal
 

@@ -1,8 +1,4 @@
-use Rattle.std.proofs.Common.{◌≡◌, ◌*◌, ◌<◌, ◌≤◌, ℕ, List, length, arith, ap, sym, ◌∙◌, slice_index, subst}
-use Rattle.std.proofs.Math.Nat.{add-mul}
-use Rattle.std.proofs.lemmas.Option.{slice_get_within}
-use Rattle.hc_dfa.specs.Explored.{IsOne}
-use Rattle.hc_dfa.specs.Pairs.{IsPair, pair_step, PairsExplored}
+use Rattle.hc_dfa.proofs.Common.{◌≡◌, ◌*◌, ◌<◌, ◌≤◌, ℕ, List, length, arith, ap, sym, ◌∙◌, slice_index, subst, add-mul, slice_get_within, IsOne, IsPair, pair_step, PairsExplored}
 use Rattle.hc_dfa.proofs.Pairs.{IsPairMark, pairs_accept}
 use Rattle.hc_dfa.proofs.Rows.{explored_first, first_key, keys_ended, marked_none, marked_more, table}
 use Rattle.hc_dfa.proofs.products.product.Goals as goal

@@ -1,6 +1,4 @@
-use Rattle.std.proofs.Common.{◌≡◌, ◌*◌, length, vec_len, Some, slice_get}
-use Rattle.hc_dfa.specs.Classings.{AreClasses, Tells}
-use Rattle.hc_dfa.specs.Pairs.{PairsExplored}
+use Rattle.hc_dfa.proofs.Common.{◌≡◌, ◌*◌, length, vec_len, Some, slice_get, AreClasses, Tells, PairsExplored}
 use Rattle.hc_dfa.proofs.Pairs.{PairsMarked}
 use Rattle.hc_dfa.proofs.products.product.Given as goal
 

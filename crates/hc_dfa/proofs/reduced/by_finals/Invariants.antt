@@ -1,5 +1,4 @@
-use Rattle.std.proofs.Common.{◌≡◌, ℕ, ◌<◌, slice_index, vec_len, if◌then◌else◌}
-use Rattle.hc_dfa.specs.Automata.{is_final}
+use Rattle.hc_dfa.proofs.Common.{◌≡◌, ℕ, ◌<◌, slice_index, vec_len, if◌then◌else◌, is_final}
 use Rattle.hc_dfa.proofs.reduced.by_finals.Given as goal
 
 abbrev pub invariant-loop-state : goal.invariant-loop-state

@@ -1,5 +1,4 @@
-use Rattle.std.proofs.Common.{ℕ, subst, arith}
-use Rattle.hc_dfa.specs.Blocks.{AreLeaders}
+use Rattle.hc_dfa.proofs.Common.{ℕ, subst, arith, AreLeaders}
 use Rattle.hc_dfa.proofs.Merged.{merged}
 use Rattle.hc_dfa.proofs.reduced.merge.Goals as goal
 

@@ -1,5 +1,4 @@
-use Rattle.std.proofs.Common.{ℕ, List, subst, arith}
-use Rattle.hc_dfa.specs.Blocks.{IsSignature}
+use Rattle.hc_dfa.proofs.Common.{ℕ, List, subst, arith, IsSignature}
 use Rattle.hc_dfa.proofs.Merged.{AreNumbered, refines}
 use Rattle.hc_dfa.proofs.Nearest.{each_more}
 use Rattle.hc_dfa.proofs.reduced.refine.Goals as goal

@@ -1,6 +1,4 @@
-use Rattle.std.proofs.Common.{◌≡◌, ◌≤◌, ℕ, ◌<◌, length, slice_get, slice_index, vec_len, Some, Vec}
-use Rattle.std.specs.declared.alloc.Global.{Global}
-use Rattle.hc_dfa.specs.Blocks.{IsSignature}
+use Rattle.hc_dfa.proofs.Common.{◌≡◌, ◌≤◌, ℕ, ◌<◌, length, slice_get, slice_index, vec_len, Some, Vec, Global, IsSignature}
 use Rattle.hc_dfa.proofs.reduced.refine.Given as goal
 
 abbrev pub invariant-loop-state : goal.invariant-loop-state

@@ -1,6 +1,4 @@
-use Rattle.std.proofs.Common.{◌≡◌, length}
-use Rattle.hc_dfa.specs.Automata.{states}
-use Rattle.hc_dfa.specs.Blocks.{RespectsFinals}
+use Rattle.hc_dfa.proofs.Common.{◌≡◌, length, states, RespectsFinals}
 use Rattle.hc_dfa.proofs.reduced.stable_blocks.Given as goal
 
 abbrev pub invariant-loop-round : goal.invariant-loop-round

@@ -1,5 +1,4 @@
-use Rattle.std.proofs.Common.{refl, ◌∙◌}
-use Rattle.hc_dfa.specs.Sets.SilentPath.{stays}
+use Rattle.hc_dfa.proofs.Common.{refl, ◌∙◌, stays}
 use Rattle.hc_dfa.proofs.Closures.{silent_append}
 use Rattle.hc_dfa.proofs.subsets.close.Goals as goal
 

@@ -1,5 +1,4 @@
-use Rattle.std.proofs.Common.{◌≡◌, ℕ, count_by, length, not}
-use Rattle.hc_dfa.specs.Sets.{Has, SilentPath}
+use Rattle.hc_dfa.proofs.Common.{◌≡◌, ℕ, count_by, length, not, Has, SilentPath}
 use Rattle.hc_dfa.proofs.subsets.close.Given as goal
 
 abbrev pub invariant-rounds : goal.invariant-rounds

@@ -1,5 +1,4 @@
-use Rattle.std.proofs.Common.{◌<◌, ℕ, slice_index}
-use Rattle.hc_dfa.specs.Sets.{Has}
+use Rattle.hc_dfa.proofs.Common.{◌<◌, ℕ, slice_index, Has}
 use Rattle.hc_dfa.proofs.subsets.has_any.Given as goal
 
 abbrev pub invariant-loop-state : goal.invariant-loop-state

@@ -1,7 +1,4 @@
-use Rattle.std.proofs.Common.{◌≡◌, ◌<◌, ◌≤◌, ℕ, length, slice_index_or}
-use Rattle.hc_dfa.specs.Machines.{Reads}
-use Rattle.hc_dfa.specs.Sets.{Has}
-use Rattle.hc_dfa.specs.declared.machine.ReadingStep.{ReadingStep}
+use Rattle.hc_dfa.proofs.Common.{◌≡◌, ◌<◌, ◌≤◌, ℕ, length, slice_index_or, Reads, Has, ReadingStep}
 use Rattle.hc_dfa.proofs.subsets.read.Given as goal
 
 abbrev pub invariant-loop-step : goal.invariant-loop-step

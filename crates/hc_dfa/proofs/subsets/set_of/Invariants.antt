@@ -1,6 +1,4 @@
-use Rattle.std.proofs.Common.{◌≡◌, ◌<◌, ℕ, length, slice_index}
-use Rattle.std.specs.List.{Contains}
-use Rattle.hc_dfa.specs.Sets.{Has}
+use Rattle.hc_dfa.proofs.Common.{◌≡◌, ◌<◌, ℕ, length, slice_index, Contains, Has}
 use Rattle.hc_dfa.proofs.subsets.set_of.Given as goal
 
 abbrev pub invariant-loop-state : goal.invariant-loop-state

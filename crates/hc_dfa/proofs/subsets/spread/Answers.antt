@@ -1,7 +1,5 @@
-use Rattle.std.proofs.Common.{arith, slice_index_or}
-use Rattle.std.proofs.lemmas.List.{get_or_default}
+use Rattle.hc_dfa.proofs.Common.{arith, slice_index_or, get_or_default, SilentStep}
 use Rattle.hc_dfa.proofs.Closures.{spreading_first, spreading_more, spread_closed}
-use Rattle.hc_dfa.specs.declared.machine.SilentStep.{SilentStep}
 use Rattle.hc_dfa.proofs.subsets.spread.Goals as goal
 
 pub loop-step-init : goal.loop-step-init

@@ -1,5 +1,4 @@
-use Rattle.std.proofs.Common.{◌≡◌, ◌<◌, drop}
-use Rattle.hc_dfa.specs.Automata.{states, run}
+use Rattle.hc_dfa.proofs.Common.{◌≡◌, ◌<◌, drop, states, run}
 use Rattle.hc_dfa.proofs.dfa.Dfa.accepts.Given as goal
 
 abbrev pub invariant-loop-byte : goal.invariant-loop-byte

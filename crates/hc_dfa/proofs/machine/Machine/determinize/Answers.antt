@@ -1,7 +1,4 @@
-use Rattle.std.proofs.Common.{◌≡◌, ◌*◌, ◌<◌, ◌≤◌, ℕ, List, length, slice_index, arith, ap, refl, subst, sym, ◌∙◌}
-use Rattle.std.proofs.Math.Nat.{add-mul}
-use Rattle.std.proofs.lemmas.Option.{slice_get_within}
-use Rattle.hc_dfa.specs.Sets.{IsSameSet, IsProper, IsStep, IsMark, SetsExplored}
+use Rattle.hc_dfa.proofs.Common.{◌≡◌, ◌*◌, ◌<◌, ◌≤◌, ℕ, List, length, slice_index, arith, ap, refl, subst, sym, ◌∙◌, add-mul, slice_get_within, IsSameSet, IsProper, IsStep, IsMark, SetsExplored}
 use Rattle.hc_dfa.proofs.Determined.{determined}
 use Rattle.hc_dfa.proofs.Rows.{explored_first, first_key, marked_none, marked_more, table}
 use Rattle.hc_dfa.proofs.machine.Machine.determinize.Goals as goal

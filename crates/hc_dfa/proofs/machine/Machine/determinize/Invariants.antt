@@ -1,6 +1,4 @@
-use Rattle.std.proofs.Common.{◌≡◌, ◌*◌, length, vec_len, slice_get}
-use Rattle.hc_dfa.specs.Classings.{AreClasses}
-use Rattle.hc_dfa.specs.Sets.{SetsExplored, TellsSteps}
+use Rattle.hc_dfa.proofs.Common.{◌≡◌, ◌*◌, length, vec_len, slice_get, AreClasses, SetsExplored, TellsSteps}
 use Rattle.hc_dfa.proofs.Determined.{SetsMarked}
 use Rattle.hc_dfa.proofs.machine.Machine.determinize.Given as goal
 
