@@ -1,12 +1,9 @@
 -- What is kept of a tree is made from what is kept of its parts.
-use Rattle.std.proofs.Common.{◌≡◌, ℕ, ◌+◌, ◌*◌, ◌<◌, ◌≤◌, Bool, true, false, ◌&&◌, ◌||◌, List, [], ◌∷◌, ◌++◌, min, Option, Some, None, if◌then◌else◌, length, ◌==◌, refl, ap, ◌∙◌, ⊎_elim, nat_lt, le-ltb, ltb-false, arith}
+use Rattle.hc_pattern.proofs.Common.{◌≡◌, ℕ, ◌+◌, ◌*◌, ◌<◌, ◌≤◌, Bool, true, false, ◌&&◌, ◌||◌, List, [], ◌∷◌, ◌++◌, min, Option, Some, None, if◌then◌else◌, length, ◌==◌, refl, ap, ◌∙◌, ⊎_elim, nat_lt, le-ltb, ltb-false, arith, map, option_map, group_pattern, kept, turns_nodes, KnownLevel, KnownLevels, before_known, body_known, both_known, capped, counted_known, either_known, group_known, levels_known, new_known, nothing_known, outer_known, token_known, turns_known, whole_known, Pattern, cat, alt, repeat}
 use Rattle.std.proofs.lemmas.Bool.{cases_lt}
 use Rattle.std.proofs.Math.Nat.{mul-le-mul_left}
 use Rattle.std.specs.Option.{option_or}
-use Rattle.std.specs.Prelude.{map, option_map}
-use Rattle.hc_pattern.specs.Building.{group_pattern, kept, turns_nodes, KnownLevel, KnownLevels, before_known, body_known, both_known, capped, counted_known, either_known, group_known, levels_known, new_known, nothing_known, outer_known, token_known, turns_known, turns_nodes, whole_known}
 use Rattle.hc_pattern.specs.KnownParts.{first_place, known}
-use Rattle.hc_pattern.specs.Pattern.{Pattern, cat, alt, repeat}
 use Rattle.hc_pattern.specs.Syntax.{Level, Levels, Syntax, nothing, leaf, both, either, grouped, turns, before, can_be_empty, counted, empty_loops, is_loop, levels_of, new_level, nodes, outer, syntax_of, syntax_pattern, times, times_of, whole, with_body, with_token}
 use Rattle.hc_pattern.specs.TokenViews.{placed_view}
 use Rattle.hc_pattern.specs.declared.token.Placed.{Placed as PlacedOfBytes}

@@ -1,8 +1,5 @@
 -- How a class is read.
-use Rattle.std.proofs.Common.{◌≡◌, ℕ, zero, suc, ◌+◌, ◌-◌, ◌<◌, ◌≤◌, ◌==◌, Bool, true, false, not, ◌&&◌, ◌||◌, List, [], ◌∷◌, ◌++◌, nat_lt, length, drop, take, get_or, refl, sym, ap, ◌∙◌, append_assoc, arith, eqb-true, lt-ltb}
-use Rattle.std.proofs.lemmas.Bool.Decides.{nat_tests}
-use Rattle.std.proofs.lemmas.List.{map-append}
-use Rattle.std.specs.Prelude.{map}
+use Rattle.hc_pattern.proofs.Common.{◌≡◌, ℕ, zero, suc, ◌+◌, ◌-◌, ◌<◌, ◌≤◌, ◌==◌, Bool, true, false, not, ◌&&◌, ◌||◌, List, [], ◌∷◌, ◌++◌, nat_lt, length, drop, take, get_or, refl, sym, ap, ◌∙◌, append_assoc, arith, eqb-true, lt-ltb, nat_tests, map-append, map}
 use Rattle.hc_pattern.proofs.Rests.{next_item, rest_is}
 use Rattle.hc_pattern.specs.ClassViews.{placed_view}
 use Rattle.hc_pattern.specs.Members.{Member, Written, member_at}

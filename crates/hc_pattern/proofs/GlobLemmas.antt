@@ -1,13 +1,9 @@
 -- How a glob is read.
-use Rattle.std.proofs.Common.{◌≡◌, ℕ, zero, suc, ◌+◌, ◌-◌, ◌<◌, ◌==◌, Bool, true, false, not, ◌&&◌, ◌||◌, List, [], ◌∷◌, ◌++◌, Result, Ok, Err, refl, sym, ap, ◌∙◌, append_assoc, arith, rules, length, take, drop, get_or, ◌≤◌}
-use Rattle.std.proofs.lemmas.List.{map-append}
-use Rattle.std.specs.Prelude.{map}
+use Rattle.hc_pattern.proofs.Common.{◌≡◌, ℕ, zero, suc, ◌+◌, ◌-◌, ◌<◌, ◌==◌, Bool, true, false, not, ◌&&◌, ◌||◌, List, [], ◌∷◌, ◌++◌, Result, Ok, Err, refl, sym, ap, ◌∙◌, append_assoc, arith, length, take, drop, get_or, ◌≤◌, map-append, map, GlobPiece, before_all, in_a_row, marks_from, may_be, more_of, patterns_of, piece_at, piece_pattern, pieces_of, Pattern, cat, finish, pattern_of}
 use Rattle.hc_pattern.proofs.Rests.{next_item, rest_is}
 use Rattle.hc_base.specs.declared.fault.AtByte.{AtByte}
-use Rattle.hc_pattern.specs.Globs.{Piece, before_all, in_a_row, marks_from, may_be, more_of, patterns_of, piece_at, piece_pattern, pieces_of}
-use Rattle.hc_pattern.specs.Pattern.{Pattern, cat, finish, pattern_of}
 use Rattle.hc_pattern.specs.declared.mark.Mark.{Mark}
-use Rattle.hc_pattern.specs.declared.pat.Pat.{Pat, Finish, the_lemmas}
+use Rattle.hc_pattern.specs.declared.pat.Pat.{Pat}
 
 pub unescaped : (at b c : ℕ) (text more rest : List ℕ) → text ≡ b ∷ more → more ≡ c ∷ rest → (b == 92) ≡ false
     → marks_from at text ≡ record { byte = b; plain = false; at = at } ∷ marks_from (at + 1) more
@@ -35,10 +31,6 @@ kept_step false false = refl
 pub kept_is : (keeps : Bool) (b : ℕ) (has other more kept test : Bool) → keeps ≡ true → has ≡ test → other ≡ not has → more ≡ (other || (b == 47)) → kept ≡ not more → kept ≡ (may_be keeps b && test)
 kept_is keeps b has other more kept test on is first second third = rw (third, second, first, is, on) (kept_step test (b == 47))
 
-pub and_true : (a : Bool) → (a && true) ≡ a
-and_true true = refl
-and_true false = refl
-
 pub one_passed : (passed : ℕ) (mark : Mark) (marks : List Mark) → 0 < passed → pieces_of passed (mark ∷ marks) ≡ pieces_of (passed - 1) marks
 one_passed zero mark marks some = absurd (omega arith)
 one_passed (suc passed) mark marks some = let e : suc passed - 1 ≡ passed = omega arith in rw e refl
@@ -62,7 +54,7 @@ passed_step keeps pats marks passed i mark within some =
     (sym (ap (pieces_of passed) (next_item marks i mark within) ∙ one_passed passed (get_or marks i mark) (drop (i + 1) marks) some))
 
 -- The next byte begins a piece.
-pub piece_step : (keeps : Bool) (pats all : List Pat) (pat : Pat) (marks : List Mark) (passed more i : ℕ) (piece : Piece) (mark : Mark) → i < length marks → passed ≤ 0
+pub piece_step : (keeps : Bool) (pats all : List Pat) (pat : Pat) (marks : List Mark) (passed more i : ℕ) (piece : GlobPiece) (mark : Mark) → i < length marks → passed ≤ 0
     → piece ≡ piece_at (get_or marks i mark) (take (length marks - (i + 1)) (drop (i + 1) marks)) → more ≡ more_of piece → piece_pattern keeps piece ≡ Ok (pattern_of pat) → all ≡ pats ++ pat ∷ []
     → behind (map pattern_of all) (patterns_of keeps (pieces_of more (drop (i + 1) marks))) ≡ behind (map pattern_of pats) (patterns_of keeps (pieces_of passed (drop i marks)))
 piece_step keeps pats all pat marks passed more i piece mark within none is follow read added =
@@ -94,6 +86,3 @@ pub row_step : (pats fewer : List Pat) (one pat whole : Pat) → pats ≡ fewer 
 row_step pats fewer one pat whole is made =
     ap (row_before (map pattern_of fewer)) made ∙ sym (row_before-last (map pattern_of fewer) (pattern_of one) (pattern_of pat))
     ∙ ap (λ l. row_before l (pattern_of pat)) (sym (map-append pattern_of fewer (one ∷ []))) ∙ ap (λ l. row_before (map pattern_of l) (pattern_of pat)) (sym is)
-
-pub finish_is : pattern_of Finish ≡ finish
-finish_is = search (rules, the_lemmas)

@@ -1,8 +1,5 @@
 -- The first refusal of form.
-use Rattle.std.proofs.Common.{◌≡◌, ℕ, Some, List, [], ◌∷◌, ◌++◌, refl, ap, ◌∙◌}
-use Rattle.std.specs.Prelude.{reverse}
-use Rattle.std.proofs.lemmas.List.{reverse-append}
-use Rattle.hc_pattern.specs.Reading.{unclosed_refusal}
+use Rattle.hc_pattern.proofs.Common.{◌≡◌, ℕ, Some, List, [], ◌∷◌, ◌++◌, refl, ap, ◌∙◌, reverse, reverse-append, unclosed_refusal}
 use Rattle.hc_pattern.specs.Refusals.{wrong_syntax}
 
 unclosed_last : (opened : List ℕ) (first : ℕ) → unclosed_refusal (opened ++ first ∷ []) ≡ Some (wrong_syntax first)

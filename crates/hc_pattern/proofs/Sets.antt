@@ -1,11 +1,9 @@
 -- The bits of a set.
-use Rattle.std.proofs.Common.{◌≡◌, ℕ, zero, suc, ◌-◌, ◌*◌, ◌%◌, ◌^◌, ◌<◌, ◌≤◌, ◌≢◌, ◌==◌, Bool, true, false, not, ◌||◌, ◌&&◌, ◌+◌, nat_le, if◌then◌else◌, max, nat_lt, refl, sym, ap, ◌∙◌, arith, eq-eqb, eqb-true, true≢false, le-ltb, lt-ltb}
+use Rattle.hc_pattern.proofs.Common.{◌≡◌, ℕ, zero, suc, ◌-◌, ◌*◌, ◌%◌, ◌^◌, ◌<◌, ◌≤◌, ◌≢◌, ◌==◌, Bool, true, false, not, ◌||◌, ◌&&◌, ◌+◌, nat_le, if◌then◌else◌, max, nat_lt, refl, sym, ap, ◌∙◌, arith, eq-eqb, eqb-true, true≢false, le-ltb, lt-ltb, or-false, or-true, nat_tests, bits_where, has_bit, has_byte, set_where}
 use Rattle.std.proofs.lemmas.Nat.Bits.{bit_at_or, bit_at-lt, bit_at_not, bit_at_set_same, bit_at_set_other, bit_at_above, bit_at_cat_high, bit_at_cat_low, same_from_bits_below}
 use Rattle.std.proofs.Math.Nat.{pow-suc}
-use Rattle.std.proofs.lemmas.Bool.Decides.{nat_tests}
 use Rattle.std.specs.Int.{w128}
 use Rattle.std.specs.Int.RustNames.{bit_or}
-use Rattle.hc_pattern.specs.Bits.{bits_where, has_bit, has_byte, set_where}
 use Rattle.hc_pattern.specs.declared.set.ByteSet.{ByteSet}
 
 max_is : (x y : ℕ) → x < 2 → y < 2 → (max x y == 1) ≡ ((x == 1) || (y == 1))
@@ -28,17 +26,9 @@ less_is (suc (suc x)) low = absurd (omega arith)
 pub has_bit_not : (a place : ℕ) → a < 2 ^ 128 → place < 128 → has_bit (2 ^ 128 - 1 - a) place ≡ not (has_bit a place)
 has_bit_not a place fits within = ap (λ x. x == 1) (bit_at_not w128 a place fits within) ∙ less_is _ (bit_at-lt a place)
 
-or_true : (a : Bool) → (a || true) ≡ true
-or_true true = refl
-or_true false = refl
-
-or_false : (a : Bool) → (a || false) ≡ a
-or_false true = refl
-or_false false = refl
-
 set_step : (bits place other : ℕ) → place < 128 → (v : Bool) → (other == place) ≡ v → has_bit (bit_or bits (1 * 2 ^ place % 2 ^ 128)) other ≡ (has_bit bits other || v)
-set_step bits place other within true is = let same : other ≡ place = eqb-true other place is in rw (same, bit_at_set_same w128 bits place within) (sym (or_true (has_bit bits place)))
-set_step bits place other within false is = let apart : other ≢ place = λ same. true≢false (sym (eq-eqb other place same) ∙ is) in rw (bit_at_set_other w128 bits place within other apart) (sym (or_false (has_bit bits other)))
+set_step bits place other within true is = let same : other ≡ place = eqb-true other place is in rw (same, bit_at_set_same w128 bits place within) (sym (or-true (has_bit bits place)))
+set_step bits place other within false is = let apart : other ≢ place = λ same. true≢false (sym (eq-eqb other place same) ∙ is) in rw (bit_at_set_other w128 bits place within other apart) (sym (or-false (has_bit bits other)))
 
 pub has_bit_set : (bits place other : ℕ) → place < 128 → has_bit (bit_or bits (1 * 2 ^ place % 2 ^ 128)) other ≡ (has_bit bits other || (other == place))
 has_bit_set bits place other within = set_step bits place other within _ refl
@@ -128,7 +118,3 @@ set_is set test low high is =
     let a = bits_same test set.low low (λ i within. sym (low_byte set i within) ∙ is i (omega arith)) in
     let b = bits_same (λ place. test (place + 128)) set.high high (λ i within. sym (high_byte set i) ∙ is (i + 128) (omega arith)) in
     λ i. record { low = a i; high = b i }
-
-pub or_or : (a b c : Bool) → ((a || b) || c) ≡ (a || (b || c))
-or_or true b c = refl
-or_or false b c = refl

@@ -1,7 +1,5 @@
 -- How tokens are read.
-use Rattle.std.proofs.Common.{◌≡◌, ℕ, zero, suc, ◌+◌, ◌-◌, ◌<◌, ◌≤◌, Bool, List, [], ◌∷◌, ◌++◌, length, drop, take, get_or, refl, sym, ap, ◌∙◌, append_assoc, arith}
-use Rattle.std.proofs.lemmas.List.{map-append}
-use Rattle.std.specs.Prelude.{map}
+use Rattle.hc_pattern.proofs.Common.{◌≡◌, ℕ, zero, suc, ◌+◌, ◌-◌, ◌<◌, ◌≤◌, Bool, List, [], ◌∷◌, ◌++◌, length, drop, take, get_or, refl, sym, ap, ◌∙◌, append_assoc, arith, map-append, map}
 use Rattle.hc_pattern.proofs.Rests.{next_item, rest_is}
 use Rattle.hc_pattern.specs.TokenViews.{placed_view}
 use Rattle.hc_pattern.specs.Tokens.{Placed, Sign, Token, groups_with, sign_at, tokens_from}

@@ -1,5 +1,5 @@
 -- A set of bytes, by a bit for each byte.
-use Rattle.std.specs.Prelude.{ℕ, zero, suc, ◌+◌, ◌-◌, ◌^◌, ◌==◌, Bool, if◌then◌else◌, nat_lt}
+use Rattle.std.specs.Prelude.{◌≡◌, ◌<◌, ℕ, zero, suc, ◌+◌, ◌-◌, ◌^◌, ◌==◌, Bool, if◌then◌else◌, nat_lt}
 use Rattle.std.specs.Int.{bit_at}
 use Rattle.hc_pattern.specs.declared.set.ByteSet.{ByteSet}
 
@@ -19,3 +19,11 @@ bits_where test (suc place) = if test place then 2 ^ place + bits_where test pla
 -- The bytes that meet a test.
 abbrev pub set_where : (ℕ → Bool) → ByteSet
 set_where test = record { low = bits_where test 128; high = bits_where (λ place. test (place + 128)) 128 }
+
+-- The set has just the bytes that meet the test.
+abbrev pub IsTested : ByteSet → (ℕ → Bool) → Type 0
+IsTested set test = (byte : ℕ) → byte < 256 → has_byte set byte ≡ test byte
+
+-- What a test of bytes answers is this.
+abbrev pub IsTest : (ℕ → Bool → Type 0) → (ℕ → Bool) → Type 0
+IsTest answers wanted = (byte : ℕ) (met : Bool) → byte < 256 → answers byte met → met ≡ wanted byte

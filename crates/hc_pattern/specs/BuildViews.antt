@@ -6,10 +6,10 @@ use Rattle.hc_pattern.specs.TokenViews.{count_view}
 use Rattle.hc_pattern.specs.Tokens.{Count}
 use Rattle.hc_pattern.specs.declared.build.Level.{Level}
 use Rattle.hc_pattern.specs.declared.build.Levels.{Levels}
-use Rattle.hc_pattern.specs.declared.build.Part.{Part}
-use Rattle.hc_pattern.specs.declared.token.Count.{Count as CountOfBytes}
+use Rattle.hc_pattern.specs.declared.part.TreePart.{TreePart}
+use Rattle.hc_pattern.specs.declared.count.Count.{Count as CountOfBytes}
 
-abbrev pub part_view : Part → Known
+abbrev pub part_view : TreePart → Known
 part_view part =
     record {
       pattern = pattern_of part.pat;

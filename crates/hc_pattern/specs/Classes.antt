@@ -37,12 +37,12 @@ class_from zero first at (b ∷ rest) =
     (one_longer (class_from ((member_at at b rest).length - 1) false (at + 1) rest))
 
 -- A part of a class: a range, which may be of one byte, a set, or what is refused.
-pub data Part : Type 0 where
-  range : ℕ → ℕ → ℕ → Part
-  set : List (ℕ × ℕ) → Part
-  broken : AtByte → Part
+pub data ClassPart : Type 0 where
+  range : ℕ → ℕ → ℕ → ClassPart
+  set : List (ℕ × ℕ) → ClassPart
+  broken : AtByte → ClassPart
 
-abbrev pub part_of : Placed → Part
+abbrev pub part_of : Placed → ClassPart
 part_of placed = elim placed.member [
   | one b ↦ range placed.at b b
   | many ranges ↦ set ranges
@@ -55,31 +55,31 @@ is_hyphen hyphen = true
 is_hyphen _ = false
 
 -- A range from the first part to the third, where these are bytes and a hyphen stands between them.
-abbrev pub joined : Part → Bool → Part → Option Part
+abbrev pub joined : ClassPart → Bool → ClassPart → Option ClassPart
 joined (range at first first2) true (range at3 last last2) = Some (range at first last)
 joined _ _ _ = None
 
-abbrev pub parts_of : List Placed → List Part
+abbrev pub parts_of : List Placed → List ClassPart
 parts_of [] = []
 parts_of (x ∷ []) = part_of x ∷ []
 parts_of (x ∷ y ∷ []) = part_of x ∷ part_of y ∷ []
 parts_of (x ∷ y ∷ z ∷ more) = elim (joined (part_of x) (is_hyphen y.member) (part_of z))
     [ Some part ↦ part ∷ parts_of more | None ↦ part_of x ∷ parts_of (y ∷ z ∷ more) ]
 
-abbrev pub part_refusal : Part → Option AtByte
+abbrev pub part_refusal : ClassPart → Option AtByte
 part_refusal (range at first last) = if nat_lt last first then Some (wrong_syntax at) else None
 part_refusal (set ranges) = None
 part_refusal (broken refusal) = Some refusal
 
 -- The first refusal, in reading from the left.
-abbrev pub parts_refusal : List Part → Option AtByte
+abbrev pub parts_refusal : List ClassPart → Option AtByte
 parts_refusal [] = None
 parts_refusal (part ∷ parts) = option_or (part_refusal part) (parts_refusal parts)
 
 abbrev pub is_in_ranges : ℕ → List (ℕ × ℕ) → Bool
 is_in_ranges b ranges = list_any (λ range. nat_le range.0 b && nat_le b range.1) ranges
 
-abbrev pub is_in_part : ℕ → Part → Bool
+abbrev pub is_in_part : ℕ → ClassPart → Bool
 is_in_part b (range at first last) = nat_le first b && nat_le b last
 is_in_part b (set ranges) = is_in_ranges b ranges
 is_in_part b (broken refusal) = false
@@ -89,6 +89,6 @@ abbrev pub folded : Bool → (ℕ → Bool) → ℕ → Bool
 folded nocase test b = test b || (nocase && (test (to_ascii_lowercase b) || test (to_ascii_uppercase b)))
 
 -- A complement is taken last.
-abbrev pub class_test : Bool → Bool → List Part → ℕ → Bool
+abbrev pub class_test : Bool → Bool → List ClassPart → ℕ → Bool
 class_test nocase complement parts b =
     if complement then not (folded nocase (λ c. list_any (is_in_part c) parts) b) else folded nocase (λ c. list_any (is_in_part c) parts) b

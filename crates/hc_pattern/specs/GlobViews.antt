@@ -4,17 +4,17 @@ use Rattle.std.specs.declared.alloc.Global.{Global}
 use Rattle.hc_base.specs.declared.fault.AtByte.{AtByte}
 use Rattle.hc_base.specs.declared.fault.Fault.{Fault}
 use Rattle.hc_base.specs.declared.fault.Fault.TheVariants.{NoMemory, Refused}
-use Rattle.hc_pattern.specs.Globs.{Class, Piece, plain, any_byte, any_bytes, one_of}
+use Rattle.hc_pattern.specs.Globs.{Class, GlobPiece, plain, any_byte, any_bytes, one_of}
 use Rattle.hc_pattern.specs.Pattern.{Pattern, pattern_of}
-use Rattle.hc_pattern.specs.declared.glob.Piece.{Piece as PieceOfMarks}
-use Rattle.hc_pattern.specs.declared.glob.Piece.TheVariants.{Plain, AnyByte, AnyBytes, OneOf}
+use Rattle.hc_pattern.specs.declared.glob.GlobPiece.{GlobPiece as PieceOfMarks}
+use Rattle.hc_pattern.specs.declared.glob.GlobPiece.TheVariants.{Plain, AnyByte, AnyBytes, OneOf}
 use Rattle.hc_pattern.specs.declared.mark.Class.{Class as ClassOfMarks}
 use Rattle.hc_pattern.specs.declared.pat.Pat.{Pat}
 
 abbrev pub class_view : ClassOfMarks → Class
 class_view c = record { complement = c.complement; members = c.members.now }
 
-abbrev pub piece_view : PieceOfMarks → Piece
+abbrev pub piece_view : PieceOfMarks → GlobPiece
 piece_view (Plain b) = plain b
 piece_view AnyByte = any_byte
 piece_view AnyBytes = any_bytes

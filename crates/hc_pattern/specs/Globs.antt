@@ -76,18 +76,18 @@ falling [] = None
 falling (range ∷ ranges) = if nat_lt range.last range.first then Some range.at else falling ranges
 
 -- A piece of a glob.
-pub data Piece : Type 0 where
-  plain : ℕ → Piece
-  any_byte : Piece
-  any_bytes : Piece
-  one_of : Class → Piece
+pub data GlobPiece : Type 0 where
+  plain : ℕ → GlobPiece
+  any_byte : GlobPiece
+  any_bytes : GlobPiece
+  one_of : Class → GlobPiece
 
-abbrev pub class_or_byte : ℕ → Option Class → Piece
+abbrev pub class_or_byte : ℕ → Option Class → GlobPiece
 class_or_byte b None = plain b
 class_or_byte b (Some c) = one_of c
 
 -- The piece that begins with this byte. A `[` that isn't closed is a byte.
-abbrev pub piece_at : Mark → List Mark → Piece
+abbrev pub piece_at : Mark → List Mark → GlobPiece
 piece_at mark marks =
     if means question mark then any_byte
     else if means star mark then any_bytes
@@ -95,12 +95,12 @@ piece_at mark marks =
     else plain mark.byte
 
 -- How many bytes of a piece follow its first one: those of a class up to and with its `]`.
-abbrev pub more_of : Piece → ℕ
+abbrev pub more_of : GlobPiece → ℕ
 more_of (one_of c) = (if c.complement then 1 else 0) + length c.members + 1
 more_of _ = 0
 
 -- The pieces, where the first so many bytes belong to a piece before.
-abbrev pub pieces_of : ℕ → List Mark → List Piece
+abbrev pub pieces_of : ℕ → List Mark → List GlobPiece
 pieces_of passed [] = []
 pieces_of (suc passed) (mark ∷ marks) = pieces_of passed marks
 pieces_of zero (mark ∷ marks) = piece_at mark marks ∷ pieces_of (more_of (piece_at mark marks)) marks
@@ -117,7 +117,7 @@ abbrev pub unless_falling : Option ℕ → Pattern → Result Pattern AtByte
 unless_falling None pattern = Ok pattern
 unless_falling (Some at) pattern = Err (wrong_syntax at)
 
-abbrev pub piece_pattern : Bool → Piece → Result Pattern AtByte
+abbrev pub piece_pattern : Bool → GlobPiece → Result Pattern AtByte
 piece_pattern keeps_slash (plain b) = Ok (byte b)
 piece_pattern keeps_slash any_byte = Ok (class (set_where (may_be keeps_slash)))
 piece_pattern keeps_slash any_bytes = Ok (repeat (class (set_where (may_be keeps_slash))) 0 None true)
@@ -130,7 +130,7 @@ before_all (Ok pattern) (Err refusal) = Err refusal
 before_all (Ok pattern) (Ok patterns) = Ok (pattern ∷ patterns)
 
 -- The patterns of the pieces, or the refusal of the first one that is refused.
-abbrev pub patterns_of : Bool → List Piece → Result (List Pattern) AtByte
+abbrev pub patterns_of : Bool → List GlobPiece → Result (List Pattern) AtByte
 patterns_of keeps_slash [] = Ok []
 patterns_of keeps_slash (piece ∷ pieces) = before_all (piece_pattern keeps_slash piece) (patterns_of keeps_slash pieces)
 
@@ -143,9 +143,25 @@ abbrev pub anchored : Result (List Pattern) AtByte → Result Pattern AtByte
 anchored (Err refusal) = Err refusal
 anchored (Ok patterns) = if nat_lt most_nodes (length patterns) then Err too_large else Ok (cat start (in_a_row patterns))
 
-abbrev pub glob_pieces : List ℕ → List Piece
+abbrev pub glob_pieces : List ℕ → List GlobPiece
 glob_pieces text = pieces_of 0 (marks_from 0 text)
 
 -- The pattern of a glob, which a whole text has to match.
 abbrev pub glob_pattern : List ℕ → Bool → Result Pattern AtByte
 glob_pattern text keeps_slash = anchored (patterns_of keeps_slash (glob_pieces text))
+
+-- ---- wildcards
+
+abbrev pub is_wildcard : GlobPiece → Bool
+is_wildcard (plain b) = false
+is_wildcard any_byte = true
+is_wildcard any_bytes = true
+is_wildcard (one_of c) = true
+
+-- Up to the first wildcard each byte is a piece.
+abbrev pub some_wildcard : List Mark → Bool
+some_wildcard [] = false
+some_wildcard (mark ∷ marks) = is_wildcard (piece_at mark marks) || some_wildcard marks
+
+abbrev pub has_wildcard : List ℕ → Bool
+has_wildcard text = some_wildcard (marks_from 0 text)

@@ -1,8 +1,8 @@
 -- What the tokens of `src/` are seen as.
 use Rattle.hc_pattern.specs.Pattern.{Pattern, byte, class, start, finish}
 use Rattle.hc_pattern.specs.Tokens.{Braces, Count, Placed, Sign, Token, item, opens, closes, bars, counts, unclosed, broken}
-use Rattle.hc_pattern.specs.declared.token.Braces.{Braces as BracesOfBytes}
-use Rattle.hc_pattern.specs.declared.token.Count.{Count as CountOfBytes}
+use Rattle.hc_pattern.specs.declared.count.Braces.{Braces as BracesOfBytes}
+use Rattle.hc_pattern.specs.declared.count.Count.{Count as CountOfBytes}
 use Rattle.hc_pattern.specs.declared.token.Leaf.{Leaf}
 use Rattle.hc_pattern.specs.declared.token.Leaf.TheVariants.{Byte, Class, Start, Finish}
 use Rattle.hc_pattern.specs.declared.token.Placed.{Placed as PlacedOfBytes}

@@ -1,14 +1,16 @@
-ghost use Rattle.std.specs.Prelude.{◌≡◌, ℕ, ◌<◌, ◌≤◌, ◌+◌, ◌||◌, ◌&&◌, ◌∷◌, [], Bool, true, IfOk, MatchOption, length, map, not, ◌==◌, option_map};
+ghost use Rattle.std.specs.Prelude.{◌≡◌, ℕ, ◌<◌, ◌≤◌, ◌+◌, ◌||◌, ◌&&◌, ◌∷◌, []};
+ghost use Rattle.std.specs.Prelude.{Bool, true, IfOk, MatchOption, length, map, not, ◌==◌, option_map};
 ghost use Rattle.hc_pattern.specs.Bits.{set_where};
-ghost use Rattle.hc_pattern.specs.Classes.{class_from, class_test, folded, is_hyphen, is_in_part, is_in_ranges, joined, part_of, part_refusal, parts_of, parts_refusal};
+ghost use Rattle.hc_pattern.specs.Classes.{class_from, class_test, folded, is_hyphen, is_in_part, is_in_ranges, joined};
+ghost use Rattle.hc_pattern.specs.Classes.{part_of, part_refusal, parts_of, parts_refusal};
 ghost use Rattle.hc_pattern.specs.ClassViews.{class_view, part_view, placed_view};
 ghost use Rattle.std.specs.List.{list_any};
 ghost use Rattle.hc_base.specs.Bytes.{bracket_close};
 ghost use Rattle.hc_pattern.specs.MemberViews.{member_view};
 
 use crate::ByteSet;
-use crate::glob::of_range;
 use crate::member::{Member, member_at};
+use crate::set::set_where;
 use hc_base::codes::PATTERN_SYNTAX;
 use hc_base::{AtByte, NoMemory};
 use std::alloc::Global;
@@ -31,29 +33,29 @@ pub struct Class {
 
 /// A part of a class: a range, which may be of one byte, a set, or what is refused.
 #[derive(Clone, Copy)]
-pub enum Part {
+pub enum ClassPart {
     Range { at: u32, first: u8, last: u8 },
     Set(&'static [(u8, u8)]),
     Broken(AtByte),
 }
 
-fn part_of(placed: Placed) -> Part
+fn part_of(placed: Placed) -> ClassPart
     ensures { part_view result ≡ part_of (placed_view placed) }
 {
     let at = placed.at;
     match placed.member {
-        Member::One(byte) => Part::Range {
+        Member::One(byte) => ClassPart::Range {
             at,
             first: byte,
             last: byte,
         },
-        Member::Many(ranges) => Part::Set(ranges),
-        Member::Hyphen => Part::Range {
+        Member::Many(ranges) => ClassPart::Set(ranges),
+        Member::Hyphen => ClassPart::Range {
             at,
             first: b'-',
             last: b'-',
         },
-        Member::Refused(refusal) => Part::Broken(refusal),
+        Member::Refused(refusal) => ClassPart::Broken(refusal),
     }
 }
 
@@ -64,19 +66,19 @@ fn is_hyphen(member: Member) -> bool
 }
 
 // A range from the first part to the third, where these are bytes and a hyphen stands between them.
-fn joined(first: Part, hyphen: bool, third: Part) -> Option<Part>
+fn joined(first: ClassPart, hyphen: bool, third: ClassPart) -> Option<ClassPart>
     ensures { option_map part_view result ≡ joined (part_view first) hyphen (part_view third) }
 {
     match (first, hyphen, third) {
-        (Part::Range { at, first, .. }, true, Part::Range { first: last, .. }) => {
-            Some(Part::Range { at, first, last })
+        (ClassPart::Range { at, first, .. }, true, ClassPart::Range { first: last, .. }) => {
+            Some(ClassPart::Range { at, first, last })
         }
         _ => None,
     }
 }
 
 // The first part of these members, and the members behind it.
-fn next_part(members: &[Placed]) -> Option<(Part, &[Placed])>
+fn next_part(members: &[Placed]) -> Option<(ClassPart, &[Placed])>
     ensures value { MatchOption result (parts_of (map placed_view members.now) ≡ [])
         (λ p. parts_of (map placed_view members.now) ≡ part_view p.0 ∷ parts_of (map placed_view p.1.now)) }
     ensures less { MatchOption result (members.now ≡ []) (λ p. length p.1.now < length members.now) }
@@ -92,7 +94,7 @@ fn next_part(members: &[Placed]) -> Option<(Part, &[Placed])>
 }
 
 /// The parts of a class.
-pub fn parts_of(alloc: Global, members: &[Placed]) -> Result<Vec<Part>, NoMemory>
+pub fn parts_of(alloc: Global, members: &[Placed]) -> Result<Vec<ClassPart>, NoMemory>
     ensures { IfOk result (λ parts. map part_view parts.items ≡ parts_of (map placed_view members.now)) }
 {
     let mut parts = Vec::new(alloc);
@@ -104,21 +106,21 @@ pub fn parts_of(alloc: Global, members: &[Placed]) -> Result<Vec<Part>, NoMemory
     Ok(parts)
 }
 
-fn part_refusal(part: Part) -> Option<AtByte>
+fn part_refusal(part: ClassPart) -> Option<AtByte>
     ensures { result ≡ part_refusal (part_view part) }
 {
     match part {
-        Part::Range { at, first, last } if last < first => Some(AtByte {
+        ClassPart::Range { at, first, last } if last < first => Some(AtByte {
             code: PATTERN_SYNTAX,
             at,
         }),
-        Part::Broken(refusal) => Some(refusal),
+        ClassPart::Broken(refusal) => Some(refusal),
         _ => None,
     }
 }
 
 /// The first refusal, in reading from the left.
-pub fn parts_refusal(parts: &[Part]) -> Option<AtByte>
+pub fn parts_refusal(parts: &[ClassPart]) -> Option<AtByte>
     ensures { result ≡ parts_refusal (map part_view parts.now) }
 {
     for part in parts {
@@ -138,17 +140,17 @@ pub fn is_in_ranges(byte: u8, ranges: &[(u8, u8)]) -> bool
         .any(|range| range.0 <= byte && byte <= range.1)
 }
 
-fn is_in_part(byte: u8, part: Part) -> bool
+fn is_in_part(byte: u8, part: ClassPart) -> bool
     ensures { result ≡ is_in_part byte (part_view part) }
 {
     match part {
-        Part::Range { first, last, .. } => first <= byte && byte <= last,
-        Part::Set(ranges) => is_in_ranges(byte, ranges),
-        Part::Broken(_) => false,
+        ClassPart::Range { first, last, .. } => first <= byte && byte <= last,
+        ClassPart::Set(ranges) => is_in_ranges(byte, ranges),
+        ClassPart::Broken(_) => false,
     }
 }
 
-fn is_in_parts(byte: u8, parts: &[Part]) -> bool
+fn is_in_parts(byte: u8, parts: &[ClassPart]) -> bool
     ensures { result ≡ list_any (is_in_part byte) (map part_view parts.now) }
 {
     for part in parts {
@@ -160,7 +162,7 @@ fn is_in_parts(byte: u8, parts: &[Part]) -> bool
 }
 
 // Without case, a letter is in where it or its other case is.
-fn is_folded_in(byte: u8, parts: &[Part], nocase: bool) -> bool
+fn is_folded_in(byte: u8, parts: &[ClassPart], nocase: bool) -> bool
     ensures { result ≡ folded nocase (λ c. list_any (is_in_part c) (map part_view parts.now)) byte }
 {
     if is_in_parts(byte, parts) {
@@ -176,7 +178,7 @@ fn is_folded_in(byte: u8, parts: &[Part], nocase: bool) -> bool
 }
 
 // A complement is taken last.
-fn is_in_class(byte: u8, parts: &[Part], nocase: bool, complement: bool) -> bool
+fn is_in_class(byte: u8, parts: &[ClassPart], nocase: bool, complement: bool) -> bool
     ensures { result ≡ class_test nocase complement (map part_view parts.now) byte }
 {
     if complement {
@@ -187,17 +189,10 @@ fn is_in_class(byte: u8, parts: &[Part], nocase: bool, complement: bool) -> bool
 }
 
 /// The set of a class.
-pub fn class_set(parts: &[Part], nocase: bool, complement: bool) -> ByteSet
+pub fn class_set(parts: &[ClassPart], nocase: bool, complement: bool) -> ByteSet
     ensures { result ≡ set_where (class_test nocase complement (map part_view parts.now)) }
 {
-    let mut set = ByteSet::empty();
-    for number in 0..256u16 {
-        let byte = number as u8;
-        if is_in_class(byte, parts, nocase, complement) {
-            set = set.with(byte);
-        }
-    }
-    of_range(set.low, set.high)
+    set_where(|byte| is_in_class(byte, parts, nocase, complement))
 }
 
 fn closes(byte: u8, first: bool) -> bool

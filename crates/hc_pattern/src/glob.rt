@@ -1,12 +1,17 @@
-ghost use Rattle.std.specs.Prelude.{◌≡◌, ℕ, ◌+◌, ◌^◌, ◌<◌, ◌∷◌, [], Bool, length, map, IfOk, IfSome, MatchOption, if◌then◌else◌, ◌&&◌};
-ghost use Rattle.hc_pattern.specs.Bits.{has_byte, set_where};
-ghost use Rattle.hc_pattern.specs.Globs.{anchored, glob_pattern, in_a_row, in_class, marks_from, may_be, more_of, patterns_of, piece_at, piece_pattern, pieces_of};
+ghost use Rattle.std.specs.Prelude.{◌≡◌, ℕ, ◌+◌, ◌^◌, ◌<◌, ◌∷◌, [], Bool, length, map, IfOk};
+ghost use Rattle.std.specs.Prelude.{IfSome, MatchOption, if◌then◌else◌, ◌&&◌};
+ghost use Rattle.hc_pattern.specs.Bits.{IsTested, set_where};
+ghost use Rattle.hc_pattern.specs.Globs.{anchored, glob_pattern, has_wildcard, in_a_row};
+ghost use Rattle.hc_pattern.specs.Globs.{in_class, is_wildcard, marks_from};
+ghost use Rattle.hc_pattern.specs.Globs.{may_be, more_of, patterns_of, piece_at};
+ghost use Rattle.hc_pattern.specs.Globs.{piece_pattern, pieces_of, some_wildcard};
 ghost use Rattle.hc_pattern.specs.GlobViews.{GivesPatterns, class_view, piece_view};
 ghost use Rattle.hc_pattern.specs.Pattern.{cat, pattern_of};
 ghost use Rattle.hc_pattern.specs.Refusals.{GivesPattern};
 
 use crate::mark::{Class, Mark, bytes_among, class_of, falling};
 use crate::pat::MOST_NODES;
+use crate::set::of_bits;
 use crate::{ByteSet, Pat};
 use hc_base::codes::{PATTERN_SYNTAX, PATTERN_TOO_LARGE};
 use hc_base::{AtByte, Fault, NoMemory};
@@ -17,7 +22,7 @@ pub type PatFault = Fault<AtByte>;
 
 /// A piece of a glob.
 #[derive(Clone, Copy)]
-pub enum Piece<'m> {
+pub enum GlobPiece<'m> {
     Plain(u8),
     AnyByte,
     AnyBytes,
@@ -68,50 +73,44 @@ fn first_mark(text: &[u8], at: u32) -> Option<(Mark, &[u8])>
 }
 
 // The piece that begins with this byte. A `[` that isn't closed is a byte.
-fn piece_at<'m>(mark: Mark, more: &'m [Mark]) -> Piece<'m>
+fn piece_at<'m>(mark: Mark, more: &'m [Mark]) -> GlobPiece<'m>
     ensures { piece_view result ≡ piece_at mark more.now }
 {
     if mark.means(b'?') {
-        return Piece::AnyByte;
+        return GlobPiece::AnyByte;
     }
     if mark.means(b'*') {
-        return Piece::AnyBytes;
+        return GlobPiece::AnyBytes;
     }
     if !mark.means(b'[') {
-        return Piece::Plain(mark.byte);
+        return GlobPiece::Plain(mark.byte);
     }
     match class_of(more) {
-        Some(class) => Piece::OneOf(class),
-        None => Piece::Plain(mark.byte),
+        Some(class) => GlobPiece::OneOf(class),
+        None => GlobPiece::Plain(mark.byte),
     }
 }
 
 // How many bytes of a piece follow its first one.
-fn more_of(piece: Piece<'_>) -> usize
+fn more_of(piece: GlobPiece<'_>) -> usize
     ensures { result ≡ more_of (piece_view piece.entry) }
 {
     match piece {
-        Piece::OneOf(class) => usize::from(class.complement) + class.members.len() + 1,
+        GlobPiece::OneOf(class) => usize::from(class.complement) + class.members.len() + 1,
         _ => 0,
     }
 }
 
 // The set, with `keeps_slash` without the slash.
 fn without_slash(set: ByteSet, keeps_slash: bool) -> ByteSet
-    ensures { (test : ℕ → Bool) → ((b : ℕ) → b < 256 → has_byte set b ≡ test b) → result ≡ set_where (λ b. may_be keeps_slash b && test b) }
+    ensures { (test : ℕ → Bool) → IsTested set test
+        → result ≡ set_where (λ b. may_be keeps_slash b && test b) }
 {
     if !keeps_slash {
-        return of_range(set.low, set.high);
+        return of_bits(set.low, set.high);
     }
     let kept = set.complement().with(b'/').complement();
-    of_range(kept.low, kept.high)
-}
-
-/// The set of these bits, which is that of a test where it has just the bytes that meet it.
-pub fn of_range(low: u128, high: u128) -> ByteSet
-    ensures { (test : ℕ → Bool) → ((b : ℕ) → b < 256 → has_byte (record { low = low; high = high }) b ≡ test b) → result ≡ set_where test }
-{
-    ByteSet { low, high }
+    of_bits(kept.low, kept.high)
 }
 
 /// What `?` is, and each byte of `*`.
@@ -132,17 +131,17 @@ fn class_bytes(class: Class<'_>, keeps_slash: bool) -> ByteSet
     }
 }
 
-fn piece_pattern(alloc: Global, piece: Piece<'_>, keeps_slash: bool) -> Result<Pat, PatFault>
+fn piece_pattern(alloc: Global, piece: GlobPiece<'_>, keeps_slash: bool) -> Result<Pat, PatFault>
     ensures { GivesPattern result (piece_pattern keeps_slash (piece_view piece.entry)) }
 {
     match piece {
-        Piece::Plain(byte) => Ok(Pat::Byte(byte)),
-        Piece::AnyByte => Ok(Pat::Class(any_byte(keeps_slash))),
-        Piece::AnyBytes => {
+        GlobPiece::Plain(byte) => Ok(Pat::Byte(byte)),
+        GlobPiece::AnyByte => Ok(Pat::Class(any_byte(keeps_slash))),
+        GlobPiece::AnyBytes => {
             let body = Box::new(alloc, Pat::Class(any_byte(keeps_slash)))?;
             Ok(Pat::Repeat(body, 0, None, true))
         }
-        Piece::OneOf(class) => match falling(class.members) {
+        GlobPiece::OneOf(class) => match falling(class.members) {
             Some(at) => Err(Fault::Refused(AtByte {
                 code: PATTERN_SYNTAX,
                 at,
@@ -208,4 +207,28 @@ pub fn glob_pattern(alloc: Global, text: &[u8], keeps_slash: bool) -> Result<Pat
     }
     let row = in_a_row(alloc, patterns)?;
     Ok(cat(alloc, Pat::Start, row)?)
+}
+
+/// A glob has a wildcard: a `?`, a `*` or a class that no backslash makes plain.
+pub fn has_wildcard(alloc: Global, text: &[u8]) -> Result<bool, NoMemory>
+    ensures { IfOk result (λ found. found ≡ has_wildcard text.now) }
+{
+    Ok(some_wildcard(&marks(alloc, text)?))
+}
+
+fn some_wildcard(marks: &[Mark]) -> bool
+    ensures { result ≡ some_wildcard marks.now }
+{
+    for (i, mark) in marks.iter().enumerate() {
+        if is_wildcard(piece_at(*mark, &marks[i + 1..])) {
+            return true;
+        }
+    }
+    false
+}
+
+fn is_wildcard(piece: GlobPiece<'_>) -> bool
+    ensures { result ≡ is_wildcard (piece_view piece.entry) }
+{
+    !matches!(piece, GlobPiece::Plain(_))
 }

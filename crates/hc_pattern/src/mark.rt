@@ -1,4 +1,5 @@
-ghost use Rattle.std.specs.Prelude.{◌≡◌, ℕ, ◌<◌, ◌∷◌, [], ◌||◌, IfSome, MatchOption, length, option_map, take};
+ghost use Rattle.std.specs.Prelude.{◌≡◌, ℕ, ◌<◌, ◌∷◌, [], ◌||◌, IfSome, MatchOption, length};
+ghost use Rattle.std.specs.Prelude.{option_map, take};
 ghost use Rattle.hc_base.specs.Bytes.{caret, exclamation};
 ghost use Rattle.hc_pattern.specs.Bits.{has_byte};
 ghost use Rattle.hc_pattern.specs.Globs.{before_close, class_of, falling, is_among, means, members_of, ranges_of};
@@ -33,7 +34,8 @@ impl Mark {
 
 /// The first range of the members of a class, and the members behind it.
 pub fn next_range(members: &[Mark]) -> Option<(Range, &[Mark])>
-    ensures value { MatchOption result (ranges_of members.now ≡ []) (λ p. ranges_of members.now ≡ p.0 ∷ ranges_of p.1.now) }
+    ensures value { MatchOption result (ranges_of members.now ≡ [])
+        (λ p. ranges_of members.now ≡ p.0 ∷ ranges_of p.1.now) }
     ensures less { MatchOption result (members.now ≡ []) (λ p. length p.1.now < length members.now) }
 {
     match members {

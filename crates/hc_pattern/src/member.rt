@@ -1,10 +1,11 @@
 ghost use Rattle.std.specs.Prelude.{◌≡◌, ◌<◌, ◌+◌, ◌||◌, ◌&&◌, ◌∷◌, IsTrue, length, map};
-ghost use Rattle.hc_pattern.specs.Members.{bracket, escape, hex_escape, letter_escape, member_at, named_set, named_sets, refused};
+ghost use Rattle.hc_pattern.specs.Members.{bracket, escape, hex_escape, letter_escape, member_at, named_set};
+ghost use Rattle.hc_pattern.specs.Members.{named_sets, refused};
 ghost use Rattle.hc_pattern.specs.Refusals.{unsupported};
 ghost use Rattle.hc_pattern.specs.MemberViews.{member_view, set_view, written_view};
-ghost use Rattle.std.specs.Char.{digit_value, is_ascii_hexdigit};
 
 use hc_base::AtByte;
+use hc_base::bytes::hex_value;
 use hc_base::codes::{PATTERN_SYNTAX, PATTERN_UNSUPPORTED};
 
 /// What a byte, an escape or a named set stands for: a set by its ranges.
@@ -30,18 +31,6 @@ fn unsupported(at: u32) -> Member
         code: PATTERN_UNSUPPORTED,
         at,
     })
-}
-
-fn hex_value(digit: u8) -> u8
-    requires { IsTrue (is_ascii_hexdigit digit) }
-    ensures value { result ≡ digit_value digit }
-    ensures small { result < 16 }
-{
-    match digit {
-        b'0'..=b'9' => digit - b'0',
-        b'A'..=b'F' => digit - b'A' + 10,
-        _ => digit - b'a' + 10,
-    }
 }
 
 // `\xHH`, by what stands behind the `x`.

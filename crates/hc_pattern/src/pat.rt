@@ -8,7 +8,7 @@ use hc_base::NoMemory;
 pub const MOST_NODES: u32 = 4096;
 
 /// A pattern, as a tree (PCRE, "pcrepattern").
-#[derive(Debug, Drop)]
+#[derive(Drop)]
 pub enum Pat {
     /// The empty text.
     Empty,

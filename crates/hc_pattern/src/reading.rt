@@ -1,5 +1,8 @@
-ghost use Rattle.std.specs.Prelude.{◌≡◌, ℕ, List, Option, Some, None, ◌≤◌, IfOk, drop, map, reverse, ◌∷◌, []};
-ghost use Rattle.hc_pattern.specs.Reading.{Before as BeforeToken, close_refusal, count_refusal, first_refusal, groups_of, nothing, opens_one, parse_pattern, refusal_at, sized, something, unclosed_refusal};
+ghost use Rattle.std.specs.Prelude.{◌≡◌, ℕ, List, Option, Some, None, ◌≤◌, IfOk, drop, map, reverse};
+ghost use Rattle.std.specs.Prelude.{◌∷◌, []};
+ghost use Rattle.hc_pattern.specs.Reading.{Before as BeforeToken, close_refusal, count_refusal, first_refusal};
+ghost use Rattle.hc_pattern.specs.Reading.{groups_of, nothing, opens_one, parse_pattern, refusal_at, sized, something};
+ghost use Rattle.hc_pattern.specs.Reading.{unclosed_refusal};
 ghost use Rattle.hc_pattern.specs.Tokens.{counts};
 ghost use Rattle.hc_pattern.specs.ReadingViews.{NextIs, before_view};
 ghost use Rattle.hc_pattern.specs.TokenViews.{count_view, placed_view, token_view};
@@ -9,8 +12,9 @@ ghost use Rattle.hc_base.specs.declared.fault.AtByte.{AtByte};
 ghost use Rattle.hc_base.specs.declared.fault.Fault.TheVariants.{Refused};
 
 use crate::build::build;
+use crate::count::Count;
 use crate::pat::MOST_NODES;
-use crate::token::{Count, Placed, Token, tokens};
+use crate::token::{Placed, Token, tokens};
 use crate::{Pat, PatFault};
 use hc_base::codes::{EMPTY_LOOP, PATTERN_SYNTAX, PATTERN_TOO_LARGE, PATTERN_UNSUPPORTED};
 use hc_base::{AtByte, Fault, NoMemory};
@@ -30,7 +34,7 @@ pub enum Before {
 
 /// What a token means for the form: it is refused, or the reading goes on behind this.
 #[derive(Clone, Copy)]
-pub enum Next {
+pub enum AfterToken {
     Refused(AtByte),
     Behind(Before),
 }
@@ -82,43 +86,45 @@ fn count_refusal(at: u32, before: Before, count: Count) -> Option<AtByte>
     }
 }
 
-fn after_count(at: u32, before: Before, count: Count) -> Next
+fn after_count(at: u32, before: Before, count: Count) -> AfterToken
     ensures { (opened : List ℕ) (later : List ℕ → BeforeToken → Option AtByte)
         → NextIs result opened later (refusal_at opened (before_view before) at (counts (count_view count)) later) }
 {
     match count_refusal(at, before, count) {
-        Some(refusal) => Next::Refused(refusal),
-        None => Next::Behind(Before::Quantifier(!count.greedy)),
+        Some(refusal) => AfterToken::Refused(refusal),
+        None => AfterToken::Behind(Before::Quantifier(!count.greedy)),
     }
 }
 
 // A `)` closes the innermost group, if one is open.
-fn after_close(opened: &mut Vec<u32>, at: u32) -> Next
+fn after_close(opened: &mut Vec<u32>, at: u32) -> AfterToken
     ensures { (later : List ℕ → BeforeToken → Option AtByte)
-        → NextIs result (reverse opened.new.items) later (close_refusal (reverse opened.old.items) at (λ opened. later opened something)) }
+        → NextIs result (reverse opened.new.items) later
+        (close_refusal (reverse opened.old.items) at (λ opened. later opened something)) }
 {
     match opened.pop() {
-        Some(_) => Next::Behind(Before::Something),
-        None => Next::Refused(wrong(at)),
+        Some(_) => AfterToken::Behind(Before::Something),
+        None => AfterToken::Refused(wrong(at)),
     }
 }
 
-fn refusal_at(opened: &mut Vec<u32>, before: Before, placed: Placed) -> Result<Next, NoMemory>
+fn refusal_at(opened: &mut Vec<u32>, before: Before, placed: Placed) -> Result<AfterToken, NoMemory>
     ensures { IfOk result (λ next. (later : List ℕ → BeforeToken → Option AtByte)
-        → NextIs next (reverse opened.new.items) later (refusal_at (reverse opened.old.items) (before_view before) placed.at (token_view placed.token) later)) }
+        → NextIs next (reverse opened.new.items) later
+        (refusal_at (reverse opened.old.items) (before_view before) placed.at (token_view placed.token) later)) }
 {
     let at = placed.at;
     match placed.token {
-        Token::Item(_) => Ok(Next::Behind(Before::Something)),
+        Token::Item(_) => Ok(AfterToken::Behind(Before::Something)),
         Token::Opens(_) => {
             opened.push(at)?;
-            Ok(Next::Behind(Before::Nothing))
+            Ok(AfterToken::Behind(Before::Nothing))
         }
         Token::Closes => Ok(after_close(opened, at)),
-        Token::Bars => Ok(Next::Behind(Before::Nothing)),
+        Token::Bars => Ok(AfterToken::Behind(Before::Nothing)),
         Token::Counts(count) => Ok(after_count(at, before, count)),
-        Token::Unclosed => Ok(Next::Refused(leftmost_or(opened, at))),
-        Token::Broken(refusal) => Ok(Next::Refused(refusal)),
+        Token::Unclosed => Ok(AfterToken::Refused(leftmost_or(opened, at))),
+        Token::Broken(refusal) => Ok(AfterToken::Refused(refusal)),
     }
 }
 
@@ -130,8 +136,8 @@ pub fn first_refusal(alloc: Global, tokens: &[Placed]) -> Result<Option<AtByte>,
     let mut before = Before::Nothing;
     for placed in tokens {
         match refusal_at(&mut opened, before, *placed)? {
-            Next::Refused(refusal) => return Ok(Some(refusal)),
-            Next::Behind(now) => before = now,
+            AfterToken::Refused(refusal) => return Ok(Some(refusal)),
+            AfterToken::Behind(now) => before = now,
         }
     }
     Ok(leftmost(&opened))
@@ -166,7 +172,8 @@ fn refused(code: u8, at: u32) -> PatFault
 
 // The pattern of tokens whose form is not refused.
 fn sized(alloc: Global, tokens: &[Placed]) -> Result<Pat, PatFault>
-    ensures { GivesPattern result (sized (groups_of (map placed_view tokens.now)) (syntax_of (map placed_view tokens.now))) }
+    ensures { GivesPattern result
+        (sized (groups_of (map placed_view tokens.now)) (syntax_of (map placed_view tokens.now))) }
 {
     if groups_of(tokens) > MOST_GROUPS {
         return Err(refused(PATTERN_TOO_LARGE, 0));

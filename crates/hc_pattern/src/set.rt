@@ -1,8 +1,9 @@
-ghost use Rattle.std.specs.Prelude.{◌≡◌, ℕ, ◌<◌, ◌≤◌, ◌==◌, Bool, false, not, ◌||◌, ◌&&◌, nat_le};
-ghost use Rattle.hc_pattern.specs.Bits.{has_bit, has_byte};
+ghost use Rattle.std.specs.Prelude.{◌≡◌, ℕ, ◌<◌, ◌≤◌, ◌==◌, Bool, false, not, ◌||◌, ◌&&◌};
+ghost use Rattle.std.specs.Prelude.{nat_le};
+ghost use Rattle.hc_pattern.specs.Bits.{IsTest, IsTested, has_bit, has_byte, set_where};
 
 /// A set of bytes, each by its bit. The bytes from 128 on have theirs in `high`.
-#[derive(Clone, Copy, Debug, PartialEq, Eq)]
+#[derive(Clone, Copy, PartialEq, Eq)]
 pub struct ByteSet {
     pub low: u128,
     pub high: u128,
@@ -26,6 +27,32 @@ fn flipped(bits: u128) -> u128
     ensures { (place : ℕ) → place < 128 → has_bit result place ≡ not (has_bit bits place) }
 {
     !bits
+}
+
+// How many values a byte has.
+const BYTE_VALUES: u16 = 256;
+
+/// The set of these bits, which is that of a test where it has just the bytes that meet it.
+pub fn of_bits(low: u128, high: u128) -> ByteSet
+    ensures { (test : ℕ → Bool) → IsTested (record { low = low; high = high }) test
+        → result ≡ set_where test }
+{
+    ByteSet { low, high }
+}
+
+/// The set of the bytes that meet a test.
+pub fn set_where<F: Fn(u8) -> bool>(test: F) -> ByteSet
+    requires { F.IsAlwaysCallable test }
+    ensures { (wanted : ℕ → Bool) → IsTest (F.post test) wanted → result ≡ set_where wanted }
+{
+    let mut set = ByteSet::empty();
+    for number in 0..BYTE_VALUES {
+        let byte = number as u8;
+        if test(byte) {
+            set = set.with(byte);
+        }
+    }
+    of_bits(set.low, set.high)
 }
 
 impl ByteSet {
@@ -55,7 +82,8 @@ impl ByteSet {
 
     /// The set with the bytes from `from` up to and with `to` too.
     pub fn with_range(self, from: u8, to: u8) -> ByteSet
-        ensures { (byte : ℕ) → has_byte result byte ≡ (has_byte self byte || (nat_le from byte && nat_le byte to)) }
+        ensures { (byte : ℕ) → has_byte result byte
+            ≡ (has_byte self byte || (nat_le from byte && nat_le byte to)) }
     {
         let mut set = self;
         for byte in u16::from(from)..u16::from(to) + 1 {

@@ -1,7 +1,4 @@
-use Rattle.std.proofs.Common.{◌∷◌, [], ◌∙◌, ap, sym}
-use Rattle.std.specs.Prelude.{map}
-use Rattle.std.proofs.lemmas.List.{map-append}
-use Rattle.hc_pattern.specs.Building.{levels_known}
+use Rattle.hc_pattern.proofs.Common.{◌∷◌, [], ◌∙◌, ap, sym, map, map-append, levels_known}
 use Rattle.hc_pattern.specs.BuildViews.{levels_view}
 use Rattle.hc_pattern.specs.TokenViews.{placed_view}
 use Rattle.hc_pattern.proofs.BuildLemmas.{built, last_token, none_left}

@@ -1,6 +1,4 @@
-use Rattle.std.proofs.Common.{◌≡◌, [], length}
-use Rattle.std.specs.Prelude.{map}
-use Rattle.hc_pattern.specs.Building.{levels_known, new_known}
+use Rattle.hc_pattern.proofs.Common.{◌≡◌, [], length, map, levels_known, new_known}
 use Rattle.hc_pattern.specs.BuildViews.{levels_view}
 use Rattle.hc_pattern.specs.TokenViews.{placed_view}
 use Rattle.hc_pattern.proofs.build.build.Given as goal

@@ -1,7 +1,5 @@
-use Rattle.std.proofs.Common.{◌≡◌, drop}
+use Rattle.hc_pattern.proofs.Common.{◌≡◌, drop, map, is_in_part}
 use Rattle.std.specs.List.{list_any}
-use Rattle.std.specs.Prelude.{map}
-use Rattle.hc_pattern.specs.Classes.{is_in_part}
 use Rattle.hc_pattern.specs.ClassViews.{part_view}
 use Rattle.hc_pattern.proofs.class.is_in_parts.Given as goal
 

@@ -1,6 +1,4 @@
-use Rattle.std.proofs.Common.{◌≡◌, ◌++◌, length}
-use Rattle.std.specs.Prelude.{map}
-use Rattle.hc_pattern.specs.Classes.{parts_of}
+use Rattle.hc_pattern.proofs.Common.{◌≡◌, ◌++◌, length, map, parts_of}
 use Rattle.hc_pattern.specs.ClassViews.{part_view, placed_view}
 use Rattle.hc_pattern.proofs.class.parts_of.Given as goal
 

@@ -1,6 +1,4 @@
-use Rattle.std.proofs.Common.{◌≡◌, drop}
-use Rattle.std.specs.Prelude.{map}
-use Rattle.hc_pattern.specs.Classes.{parts_refusal}
+use Rattle.hc_pattern.proofs.Common.{◌≡◌, drop, map, parts_refusal}
 use Rattle.hc_pattern.specs.ClassViews.{part_view}
 use Rattle.hc_pattern.proofs.class.parts_refusal.Given as goal
 

@@ -1,5 +1,4 @@
-use Rattle.std.proofs.Common.{◌≡◌, ◌∙◌, ◌+◌, ◌-◌, ap, drop, get_or, length, sym, take}
-use Rattle.std.specs.Prelude.{map}
+use Rattle.hc_pattern.proofs.Common.{◌≡◌, ◌∙◌, ◌+◌, ◌-◌, ap, drop, get_or, length, sym, take, map}
 use Rattle.hc_pattern.specs.ClassViews.{placed_view}
 use Rattle.hc_pattern.specs.MemberViews.{member_view, written_view}
 use Rattle.hc_pattern.specs.Members.{member_at}

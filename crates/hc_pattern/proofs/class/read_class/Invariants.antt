@@ -1,6 +1,4 @@
-use Rattle.std.proofs.Common.{◌≡◌, ◌+◌, drop, true}
-use Rattle.std.specs.Prelude.{map}
-use Rattle.hc_pattern.specs.Classes.{class_from}
+use Rattle.hc_pattern.proofs.Common.{◌≡◌, ◌+◌, drop, true, map, class_from}
 use Rattle.hc_pattern.specs.ClassViews.{placed_view}
 use Rattle.hc_pattern.proofs.ClassLemmas.{onto}
 use Rattle.hc_pattern.proofs.class.read_class.Given as goal

@@ -1,6 +1,4 @@
-use Rattle.std.proofs.Common.{not, ap, ◌∙◌, ◌&&◌, if◌then◌else◌, sym}
-use Rattle.hc_pattern.specs.Bits.{set_where}
-use Rattle.hc_pattern.specs.Globs.{is_among, may_be, ranges_of}
+use Rattle.hc_pattern.proofs.Common.{not, ap, ◌∙◌, ◌&&◌, if◌then◌else◌, sym, set_where, is_among, may_be, ranges_of}
 use Rattle.hc_pattern.proofs.glob.class_bytes.Goals as goal
 
 pub returns-then-class : goal.returns-then-class

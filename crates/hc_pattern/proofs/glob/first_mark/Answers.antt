@@ -1,5 +1,4 @@
-use Rattle.std.proofs.Common.{eq-eqb, arith}
-use Rattle.std.proofs.lemmas.Bool.Decides.{nat_tests}
+use Rattle.hc_pattern.proofs.Common.{eq-eqb, arith, nat_tests}
 use Rattle.hc_pattern.proofs.GlobLemmas.{escaped, unescaped}
 use Rattle.hc_pattern.proofs.glob.first_mark.Goals as goal
 

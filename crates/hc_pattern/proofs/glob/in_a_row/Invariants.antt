@@ -1,8 +1,5 @@
-use Rattle.std.proofs.Common.{◌≡◌, vec_len}
-use Rattle.std.specs.Prelude.{map}
-use Rattle.hc_pattern.specs.Pattern.{pattern_of}
+use Rattle.hc_pattern.proofs.Common.{◌≡◌, vec_len, map, pattern_of, in_a_row}
 use Rattle.hc_pattern.proofs.GlobLemmas.{row_before}
-use Rattle.hc_pattern.specs.Globs.{in_a_row}
 use Rattle.hc_pattern.proofs.glob.in_a_row.Given as goal
 
 abbrev pub invariant-patterns : goal.invariant-patterns

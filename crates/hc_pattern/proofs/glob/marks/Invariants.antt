@@ -1,5 +1,4 @@
-use Rattle.std.proofs.Common.{◌≡◌, ◌++◌, length}
-use Rattle.hc_pattern.specs.Globs.{marks_from}
+use Rattle.hc_pattern.proofs.Common.{◌≡◌, ◌++◌, length, marks_from}
 use Rattle.hc_pattern.proofs.glob.marks.Given as goal
 
 abbrev pub invariant-bytes : goal.invariant-bytes

@@ -1,7 +1,4 @@
-use Rattle.std.proofs.Common.{◌≡◌, drop}
-use Rattle.std.specs.Prelude.{map}
-use Rattle.hc_pattern.specs.Globs.{patterns_of, pieces_of}
-use Rattle.hc_pattern.specs.Pattern.{pattern_of}
+use Rattle.hc_pattern.proofs.Common.{◌≡◌, drop, map, patterns_of, pieces_of, pattern_of}
 use Rattle.hc_pattern.proofs.GlobLemmas.{behind}
 use Rattle.hc_pattern.proofs.glob.patterns.Given as goal
 

@@ -1,6 +1,4 @@
-use Rattle.std.proofs.Common.{◌≡◌, ◌++◌, take, drop}
-use Rattle.std.specs.Prelude.{option_map}
-use Rattle.hc_pattern.specs.Globs.{before_close}
+use Rattle.hc_pattern.proofs.Common.{◌≡◌, ◌++◌, take, drop, option_map, before_close}
 use Rattle.hc_pattern.proofs.mark.before_close.Given as goal
 
 abbrev pub invariant-loop-i : goal.invariant-loop-i

@@ -1,6 +1,4 @@
-use Rattle.std.proofs.Common.{◌≡◌, ℕ, ◌||◌, length}
-use Rattle.hc_pattern.specs.Bits.{has_byte}
-use Rattle.hc_pattern.specs.Globs.{is_among, ranges_of}
+use Rattle.hc_pattern.proofs.Common.{◌≡◌, ℕ, ◌||◌, length, has_byte, is_among, ranges_of}
 use Rattle.hc_pattern.proofs.mark.bytes_among.Given as goal
 
 abbrev pub invariant-members : goal.invariant-members

@@ -1,5 +1,4 @@
-use Rattle.std.proofs.Common.{◌≡◌, length}
-use Rattle.hc_pattern.specs.Globs.{falling, ranges_of}
+use Rattle.hc_pattern.proofs.Common.{◌≡◌, length, falling, ranges_of}
 use Rattle.hc_pattern.proofs.mark.falling.Given as goal
 
 abbrev pub invariant-members : goal.invariant-members

@@ -1,5 +1,4 @@
-use Rattle.std.proofs.Common.{◌≡◌, [], drop}
-use Rattle.std.specs.Prelude.{map, reverse}
+use Rattle.hc_pattern.proofs.Common.{◌≡◌, [], drop, map, reverse}
 use Rattle.hc_pattern.specs.Reading.{first_refusal, nothing}
 use Rattle.hc_pattern.specs.ReadingViews.{before_view}
 use Rattle.hc_pattern.specs.TokenViews.{placed_view}

@@ -1,6 +1,4 @@
-use Rattle.std.proofs.Common.{◌≡◌, ◌+◌, ◌≤◌, drop}
-use Rattle.std.specs.Prelude.{map}
-use Rattle.hc_pattern.specs.Reading.{groups_of}
+use Rattle.hc_pattern.proofs.Common.{◌≡◌, ◌+◌, ◌≤◌, drop, map, groups_of}
 use Rattle.hc_pattern.specs.TokenViews.{placed_view}
 use Rattle.hc_pattern.proofs.reading.groups_of.Given as goal
 

@@ -1,6 +1,4 @@
-use Rattle.std.proofs.Common.{Some, ◌∙◌, ap, sym}
-use Rattle.std.specs.Prelude.{reverse}
-use Rattle.hc_pattern.specs.Reading.{unclosed_refusal}
+use Rattle.hc_pattern.proofs.Common.{Some, ◌∙◌, ap, sym, reverse, unclosed_refusal}
 use Rattle.hc_pattern.proofs.ReadingLemmas.{unclosed_first}
 use Rattle.hc_pattern.proofs.reading.leftmost.Goals as goal
 

@@ -1,7 +1,5 @@
-use Rattle.std.proofs.Common.{◌≡◌, ◌∙◌, ◌+◌, ◌-◌, ap, arith, drop, get_or, length, take}
-use Rattle.std.specs.Prelude.{map}
+use Rattle.hc_pattern.proofs.Common.{◌≡◌, ◌∙◌, ◌+◌, ◌-◌, ap, arith, drop, get_or, length, take, map, sign_at}
 use Rattle.hc_pattern.specs.TokenViews.{placed_view, sign_view, token_view}
-use Rattle.hc_pattern.specs.Tokens.{sign_at}
 use Rattle.hc_pattern.proofs.TokenLemmas.{token_at, token_more, token_passed}
 use Rattle.hc_pattern.proofs.token.tokens.Goals as goal
 

@@ -1,7 +1,5 @@
-use Rattle.std.proofs.Common.{◌≡◌, ◌++◌, ◌≤◌, drop}
-use Rattle.std.specs.Prelude.{map}
+use Rattle.hc_pattern.proofs.Common.{◌≡◌, ◌++◌, ◌≤◌, drop, map, tokens_from, tokens_of}
 use Rattle.hc_pattern.specs.TokenViews.{placed_view}
-use Rattle.hc_pattern.specs.Tokens.{tokens_from, tokens_of}
 use Rattle.hc_pattern.proofs.token.tokens.Given as goal
 
 abbrev pub invariant-loop-i : goal.invariant-loop-i

@@ -1,5 +1,4 @@
-use Rattle.std.proofs.Common.{◌∙◌, arith}
-use Rattle.std.proofs.lemmas.Bool.Decides.{nat_tests}
+use Rattle.hc_pattern.proofs.Common.{◌∙◌, arith, nat_tests}
 use Rattle.hc_pattern.proofs.Sets.{between_more, between_past}
 use Rattle.hc_pattern.proofs.set.ByteSet.with_range.Goals as goal
 

@@ -1,5 +1,4 @@
-use Rattle.std.proofs.Common.{◌≡◌, ℕ, ◌||◌, ◌&&◌, nat_le, nat_lt}
-use Rattle.hc_pattern.specs.Bits.{has_byte}
+use Rattle.hc_pattern.proofs.Common.{◌≡◌, ℕ, ◌||◌, ◌&&◌, nat_le, nat_lt, has_byte}
 use Rattle.hc_pattern.proofs.set.ByteSet.with_range.Given as goal
 
 abbrev pub invariant-loop-byte : goal.invariant-loop-byte

@@ -1,6 +1,0 @@
-use Rattle.std.proofs.Common.{◌≡◌, min, take}
-use Rattle.hc_pattern.specs.Tokens.{value_of}
-use Rattle.hc_pattern.proofs.token.number.Given as goal
-
-abbrev pub invariant-loop-digit : goal.invariant-loop-digit
-invariant-loop-digit l = l.value ≡ min (value_of (take l.digit-index l.digits)) 256
