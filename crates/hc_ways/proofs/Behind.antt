@@ -1,16 +1,15 @@
 -- How ways are put behind each other.
-use Rattle.std.proofs.Common.{◌≡◌, ℕ, Bool, true, false, List, [], ◌∷◌, if◌then◌else◌, nat_lt, refl, sym, ap, ◌∙◌}
-use Rattle.std.specs.List.{flat_map}
+use Rattle.hc_ways.proofs.Common.{◌≡◌, ℕ, Bool, true, false, List, [], ◌∷◌, if◌then◌else◌, refl, ap, ◌∙◌, flat_map, Way, Ways, stop, behind, either, stop_where, preferred}
 use Rattle.std.proofs.lemmas.List.Concat.{flat_map-append}
-use Rattle.hc_ways.specs.Ways.{Way, Ways, stop, behind, either, stop_where, preferred, moving}
-use Rattle.hc_ways.proofs.Lists.{append_nil, flat_map-same, flat_map-flat_map, flat_map-filter}
+use Rattle.std.proofs.Common.{append-nil}
+use Rattle.hc_ways.proofs.Lists.{flat_map-flat_map}
 
 -- Equal at each place, and so equal.
 pub same_ways : {K : Type 0} (a b : Ways K) → ((at : ℕ) (held : K) → a at held ≡ b at held) → a ≡ b
 same_ways a b same = λ i at held. same at held i
 
 pub behind-stop : {K : Type 0} (next : Ways K) → behind stop next ≡ next
-behind-stop next = same_ways _ _ (λ at held. append_nil (next at held))
+behind-stop next = same_ways _ _ (λ at held. append-nil (next at held))
 
 stops : {K : Type 0} (ways : List (Way K)) → flat_map (λ way. stop way.end way.held) ways ≡ ways
 stops [] = refl
@@ -24,17 +23,6 @@ behind-behind a b c = same_ways _ _ (λ at held. flat_map-flat_map _ _ (a at hel
 
 pub behind-either : {K : Type 0} (a b c : Ways K) → behind (either a b) c ≡ either (behind a c) (behind b c)
 behind-either a b c = same_ways _ _ (λ at held. flat_map-append _ (a at held) (b at held))
-
-test_behind : {K : Type 0} (next : Ways K) (at : ℕ) (held : K) (v : Bool)
-    → flat_map (λ way. next way.end way.held) (if v then stop at held else []) ≡ (if v then next at held else [])
-test_behind next at held true = append_nil (next at held)
-test_behind next at held false = refl
-
-pub behind-stop_where : {K : Type 0} (test : ℕ → Bool) (next : Ways K) (at : ℕ) (held : K) → behind (stop_where test) next at held ≡ (if test at then next at held else [])
-behind-stop_where test next at held = test_behind next at held (test at)
-
-pub behind-moving : {K : Type 0} (a next : Ways K) (at : ℕ) (held : K) → behind (moving a) next at held ≡ behind a (behind (stop_where (nat_lt at)) next) at held
-behind-moving a next at held = flat_map-filter _ _ (a at held) ∙ flat_map-same _ _ (a at held) (λ way. sym (behind-stop_where (nat_lt at) next way.end way.held))
 
 -- A turn more, and what is behind it, before or behind what is behind no turn.
 abbrev pub turn_or_next : {K : Type 0} → Bool → Ways K → Ways K → Ways K

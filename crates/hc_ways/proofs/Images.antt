@@ -1,11 +1,9 @@
 -- What is kept of the groups doesn't decide which ways there are.
 use Rattle.std.proofs.Common.{◌≡◌, ℕ, zero, suc, ◌+◌, ◌-◌, Bool, true, false, List, [], ◌∷◌, ◌++◌, length, map, if◌then◌else◌, nat_lt, nat_eq, Option, Some, None, slice_get, refl, ap, ◌∙◌}
-use Rattle.std.specs.List.{flat_map, filter}
+use Rattle.hc_ways.proofs.Common.{flat_map, filter, Pattern, empty, byte, class, start, finish, cat, alt, group, repeat, Keeping, Way, Ways, none, stop, behind, either, stop_where, meets, step_where, closed, grouped, preferred, moving, any_turns, turns_up_to, turns_then, repeated, ways}
 use Rattle.std.proofs.lemmas.List.{map-append}
 use Rattle.hc_base.specs.declared.place.Span.{Span}
 use Rattle.hc_pattern.specs.Bits.{has_byte}
-use Rattle.hc_pattern.specs.Pattern.{Pattern, empty, byte, class, start, finish, cat, alt, group, repeat}
-use Rattle.hc_ways.specs.Ways.{Keeping, Way, Ways, none, stop, behind, either, stop_where, meets, step_where, closed, grouped, preferred, moving, any_turns, turns_up_to, turns_then, repeated, ways}
 
 abbrev pub image : {K L : Type 0} → (K → L) → Way K → Way L
 image f way = record { end = way.end; held = f way.held }

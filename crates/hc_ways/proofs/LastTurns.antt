@@ -1,9 +1,7 @@
 -- The last turns of all turns.
-use Rattle.std.proofs.Common.{◌≡◌, ℕ, List, [], ◌∷◌}
+use Rattle.hc_ways.proofs.Common.{◌≡◌, ℕ, List, [], ◌∷◌, Pattern, Turns, held_after, nothing_held, with_group, with_turn}
 use Rattle.std.proofs.lemmas.List.Sums.{fold-append}
 use Rattle.hc_base.specs.declared.place.Span.{Span}
-use Rattle.hc_pattern.specs.Pattern.{Pattern}
-use Rattle.hc_ways.specs.Kept.{Turns, held_after, nothing_held, with_group, with_turn}
 use Rattle.hc_ways.specs.Laws.{AreTheirLastTurns}
 use Rattle.hc_ways.proofs.Images.{alike_ways}
 

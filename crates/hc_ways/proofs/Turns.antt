@@ -1,10 +1,6 @@
 -- Turns of a repeat.
-use Rattle.std.proofs.Common.{◌≡◌, ℕ, zero, suc, ◌+◌, ◌-◌, ◌<◌, ◌≤◌, Bool, true, false, List, [], ◌∷◌, ◌++◌, length, if◌then◌else◌, nat_lt, nat_eq, max, Option, Some, None, slice_get, refl, sym, ap, ◌∙◌, arith, true≢false, ltb-true, le-ltb, lt-ltb}
-use Rattle.std.specs.List.{flat_map, filter}
+use Rattle.hc_ways.proofs.Common.{◌≡◌, ℕ, zero, suc, ◌+◌, ◌-◌, ◌<◌, ◌≤◌, Bool, true, false, List, [], ◌∷◌, ◌++◌, length, if◌then◌else◌, nat_lt, nat_eq, max, Option, Some, None, slice_get, refl, sym, ap, ◌∙◌, arith, true≢false, ltb-true, le-ltb, lt-ltb, flat_map, filter, Pattern, empty, byte, class, start, finish, cat, alt, group, repeat, Keeping, Way, Ways, none, stop, behind, either, stop_where, meets, step_where, preferred, moving, any_turns, turns_up_to, turns_then, repeated, ways, last_ways, with_group}
 use Rattle.hc_pattern.specs.Bits.{has_byte}
-use Rattle.hc_pattern.specs.Pattern.{Pattern, empty, byte, class, start, finish, cat, alt, group, repeat}
-use Rattle.hc_ways.specs.Ways.{Keeping, Way, Ways, none, stop, behind, either, stop_where, meets, step_where, preferred, moving, any_turns, turns_up_to, turns_then, repeated, ways}
-use Rattle.hc_ways.specs.Kept.{last_ways, with_group}
 use Rattle.hc_ways.specs.Laws.{IsItsTurns}
 use Rattle.hc_ways.proofs.Lists.{Each, Each-append, Each-flat_map, Each-filter, Each-map, flat_map-each}
 

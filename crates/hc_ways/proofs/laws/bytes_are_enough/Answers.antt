@@ -1,5 +1,4 @@
-use Rattle.std.proofs.Common.{length}
-use Rattle.hc_ways.specs.Kept.{last_ways, with_group}
+use Rattle.hc_ways.proofs.Common.{length, last_ways, with_group}
 use Rattle.hc_ways.proofs.Turns.{bounded, enough_turns}
 use Rattle.hc_ways.proofs.laws.bytes_are_enough.Goals as goal
 
