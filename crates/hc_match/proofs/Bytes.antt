@@ -1,11 +1,6 @@
 -- A pattern whose form tells that its ways take a byte.
 use Rattle.std.proofs.Common.{◌≡◌, ℕ, zero, suc, ◌+◌, ◌-◌, ◌<◌, ◌≤◌, Bool, true, false, List, [], ◌∷◌, length, filter, nat_lt, nat_eq, if◌then◌else◌, ◌&&◌, ◌||◌, Option, Some, None, slice_get, refl, sym, ap, ◌∙◌, arith, true≢false, lt-ltb, ltb-true}
-use Rattle.hc_pattern.specs.Bits.{has_byte}
-use Rattle.hc_pattern.specs.Pattern.{Pattern, empty, byte, class, start, finish, cat, alt, group, repeat}
-use Rattle.hc_ways.specs.Ways.{Keeping, Way, Ways, any_turns, behind, closed, either, grouped, meets, moving, none, preferred, repeated, stop, turns_then, turns_up_to, ways}
-use Rattle.hc_ways.proofs.Behind.{same_ways}
-use Rattle.hc_ways.proofs.Lists.{Each, Each-append, Each-filter, Each-flat_map, Each-map}
-use Rattle.hc_match.specs.Program.{takes_a_byte}
+use Rattle.hc_match.proofs.Common.{has_byte, Pattern, empty, byte, class, start, finish, cat, alt, group, repeat, Keeping, Way, Ways, any_turns, behind, closed, either, grouped, meets, moving, none, preferred, repeated, stop, turns_then, turns_up_to, ways, same_ways, Each, Each-append, Each-filter, Each-flat_map, Each-map, takes_a_byte}
 
 -- Each way ends at least so far behind the place that it begins at.
 abbrev Further : {K : Type 0} → ℕ → ℕ → Way K → Type 0

@@ -1,23 +1,15 @@
 -- What each kind of pattern adds to a program.
-use Rattle.std.proofs.Common.{◌≡◌, ℕ, zero, suc, ◌+◌, ◌<◌, ◌≤◌, inl, inr, Bool, true, false, List, [], ◌∷◌, ◌++◌, length, Option, Some, None, map, if◌then◌else◌, get_or, nat_lt, lt-ltb, le-ltb, slice_get, slice_set, refl, sym, ap, ◌∙◌, arith}
-use Rattle.std.specs.List.{flat_map}
+use Rattle.hc_match.proofs.Common.{◌≡◌, ℕ, zero, suc, ◌+◌, ◌<◌, ◌≤◌, inl, inr, Bool, true, false, List, [], ◌∷◌, ◌++◌, length, Option, Some, None, map, if◌then◌else◌, get_or, nat_lt, lt-ltb, le-ltb, slice_get, slice_set, refl, sym, ap, ◌∙◌, arith, flat_map, length-append, length-set, slice_get-get_or, slice_get_past, Way, Ways, any_turns, behind, closed, either, grouped, meets, moving, none, preferred, step_where, stop, turns_then, Pattern, has_byte, behind-behind, behind-either, behind-preferred, behind-stop, same_ways, stop-behind, turn_or_next, Compiles, Extends, HasMeaning, IsAdded, IsMeaning, Kept, Meaning, NamesBelow, closed_at, keeping_held, kept_ways, opened, step_ways, turn_step, Step}
 use Rattle.std.specs.Prelude.{IfOk}
 use Rattle.std.specs.declared.result.Result.{Result}
 use Rattle.std.proofs.lemmas.Result.{IfOk-weaker}
 use Rattle.std.proofs.lemmas.Bool.{cases_eq, cases_lt}
-use Rattle.std.proofs.lemmas.List.{length-append, length-set}
-use Rattle.std.proofs.lemmas.Option.{slice_get-get_or, slice_get_past}
-use Rattle.hc_ways.specs.Ways.{Way, Ways, any_turns, behind, closed, either, grouped, meets, moving, none, preferred, step_where, stop, turns_then}
-use Rattle.hc_pattern.specs.Pattern.{Pattern}
 use Rattle.hc_pattern.specs.declared.set.ByteSet.{ByteSet}
-use Rattle.hc_pattern.specs.Bits.{has_byte}
-use Rattle.hc_ways.proofs.Behind.{behind-behind, behind-either, behind-preferred, behind-stop, same_ways, stop-behind, turn_or_next}
 use Rattle.hc_ways.proofs.Images.{alike_ways, image}
 use Rattle.hc_ways.proofs.Turns.{any_turns_is, bounded}
-use Rattle.hc_match.specs.Program.{Compiles, Extends, HasMeaning, IsAdded, IsMeaning, Kept, Meaning, NamesBelow, closed_at, keeping_held, kept_ways, opened, step_ways, turn_step}
-use Rattle.hc_match.specs.declared.program.Step.{Step}
 use Rattle.hc_match.specs.declared.program.Step.TheVariants.{Done, Byte, Class, Start, Finish, Open, Close, Either}
-use Rattle.hc_match.proofs.StepLists.{get_kept, get_last, get_set_same, get_set_other, placed, placed_there, placed_before}
+use Rattle.hc_base.proofs.Shared.{get_last, get_set_same, get_set_other}
+use Rattle.hc_match.proofs.StepLists.{get_kept, placed, placed_there, placed_before}
 
 pub same_step : (text : List ℕ) (a b : Meaning) (count : ℕ) (step : Step) → NamesBelow count step → ((place : ℕ) → place < count → a place ≡ b place)
     → step_ways text a step ≡ step_ways text b step

@@ -1,15 +1,8 @@
 -- What a search finds is the match.
-use Rattle.std.proofs.Common.{◌≡◌, ℕ, ◌+◌, ◌-◌, ◌<◌, Bool, true, false, List, [], ◌∷◌, map, Some, None, option_map, refl, sym, ap, ◌∙◌, true≢false}
-use Rattle.std.specs.Option.{option_or}
-use Rattle.hc_pattern.specs.Pattern.{Pattern}
-use Rattle.hc_ways.specs.Ways.{Way}
-use Rattle.hc_ways.specs.Kept.{Held, first_of, held_by, match_among, match_at, with_group}
+use Rattle.hc_match.proofs.Common.{◌≡◌, ℕ, ◌+◌, ◌-◌, ◌<◌, Bool, true, false, List, [], ◌∷◌, map, Some, None, option_map, refl, sym, ap, ◌∙◌, true≢false, option_or, Pattern, Way, Held, first_of, held_by, match_among, match_at, with_group, HasMeaning, Meaning, keeping_held, kept_ways, nothing_kept, AllFail, Fails, HasEnded, Stands, kept_now, Step}
 use Rattle.hc_ways.proofs.Images.{alike_ways, image}
-use Rattle.hc_match.specs.Program.{HasMeaning, Meaning, keeping_held, kept_ways, nothing_kept}
-use Rattle.hc_match.specs.Pairs.{AllFail, Fails, HasEnded, Stands, kept_now}
 use Rattle.hc_match.specs.declared.paths.Search.{Search}
 use Rattle.hc_match.specs.declared.paths.Status.TheVariants.{Found}
-use Rattle.hc_match.specs.declared.program.Step.{Step}
 use Rattle.hc_match.proofs.Places.{step}
 use Rattle.hc_match.proofs.PairSearch.{found_way}
 

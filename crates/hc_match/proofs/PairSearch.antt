@@ -1,17 +1,9 @@
 -- A search goes on and back.
-use Rattle.std.proofs.Common.{◌≡◌, ℕ, ◌⊎◌, inl, inr, List, [], ◌∷◌, ◌++◌, Some, None, slice_get, sym, ap, ◌∙◌}
+use Rattle.hc_match.proofs.Common.{◌≡◌, ℕ, ◌⊎◌, inl, inr, List, [], ◌∷◌, ◌++◌, Some, None, slice_get, sym, ap, ◌∙◌, fold, Way, stop, first_of, append-nil, Kept, Meaning, kept_past, AllFail, Fails, IsPair, Leads, Reached, move_ways, other_ways, past, Passed, Step}
 use Rattle.std.specs.Prelude.{IsTrue}
-use Rattle.std.specs.List.{fold}
-use Rattle.hc_ways.specs.Ways.{Way, stop}
-use Rattle.hc_ways.specs.Kept.{first_of}
-use Rattle.hc_ways.proofs.Lists.{append_nil}
 use Rattle.hc_match.specs.Failures.{has_failed}
-use Rattle.hc_match.specs.Program.{Kept, Meaning, kept_past}
-use Rattle.hc_match.specs.Pairs.{AllFail, Fails, IsPair, Leads, Reached, move_ways, other_ways, past}
 use Rattle.hc_match.specs.declared.failures.Failures.{Failures}
 use Rattle.hc_match.specs.declared.moves.Move.{Move}
-use Rattle.hc_match.specs.declared.paths.Passed.{Passed}
-use Rattle.hc_match.specs.declared.program.Step.{Step}
 
 module _ (steps : List Step) (meaning : Meaning) where
   pub reached_push : (From : ℕ → ℕ → Type 0) (passed : List Passed) (one : Passed) (step at : ℕ)
@@ -36,7 +28,7 @@ module _ (steps : List Step) (meaning : Meaning) where
   leads_other one step at other leads fails is kept =
       let behind = past steps kept one in
       leads kept ∙ ap (λ l. l ++ other_ways meaning one.other one.at behind) (fails behind) ∙ ap (λ other. other_ways meaning other one.at behind) is
-      ∙ sym (append_nil (meaning other one.at behind))
+      ∙ sym (append-nil (meaning other one.at behind))
 
   pub failed_more : (old new : Failures) (step at : ℕ) → AllFail meaning old → Fails meaning step at
       → ((other there : ℕ) → IsTrue (has_failed new other there) → IsTrue (has_failed old other there) ⊎ ((other ≡ step) × (there ≡ at))) → AllFail meaning new

@@ -1,8 +1,5 @@
 -- The least place that has a match.
-use Rattle.std.proofs.Common.{◌≡◌, ℕ, suc, ◌+◌, ◌-◌, ◌<◌, List, [], Option, None, option_map, ap, sym, ◌∙◌, arith}
-use Rattle.std.specs.Option.{option_or}
-use Rattle.hc_pattern.specs.Pattern.{Pattern}
-use Rattle.hc_ways.specs.Kept.{Held, first_of, held_by, last_ways, match_among, match_at, nothing_held}
+use Rattle.hc_match.proofs.Common.{◌≡◌, ℕ, suc, ◌+◌, ◌-◌, ◌<◌, List, [], Option, None, option_map, ap, sym, ◌∙◌, arith, option_or, Pattern, Held, first_of, held_by, last_ways, match_among, match_at, nothing_held}
 
 -- The places from one on, below another.
 abbrev places : List ℕ → Pattern → ℕ → ℕ → Option Held

@@ -1,12 +1,6 @@
 -- The ways of a repeat of one byte are the ends of its run, in order.
-use Rattle.std.proofs.Common.{◌≡◌, ℕ, zero, suc, ◌+◌, ◌-◌, ◌<◌, Bool, true, false, List, [], ◌++◌, length, if◌then◌else◌, nat_lt, Option, Some, None, slice_get, refl, ap, sym, ◌∙◌, arith, append_assoc, lt-ltb}
+use Rattle.hc_match.proofs.Common.{◌≡◌, ℕ, zero, suc, ◌+◌, ◌-◌, ◌<◌, Bool, true, false, List, [], ◌++◌, length, if◌then◌else◌, nat_lt, Option, Some, None, slice_get, refl, ap, sym, ◌∙◌, arith, append_assoc, lt-ltb, none-some, same_Some, Ways, any_turns, behind, meets, moving, none, preferred, repeated, step_where, stop, turns_then, turns_up_to, Held, behind-behind, behind-preferred, turn_or_next, append-nil, ends, further_turns, run_length}
 use Rattle.std.specs.List.{filter, flat_map}
-use Rattle.std.proofs.lemmas.Option.{none-some, same_Some}
-use Rattle.hc_ways.specs.Ways.{Ways, any_turns, behind, meets, moving, none, preferred, repeated, step_where, stop, turns_then, turns_up_to}
-use Rattle.hc_ways.specs.Kept.{Held}
-use Rattle.hc_ways.proofs.Behind.{behind-behind, behind-preferred, turn_or_next}
-use Rattle.hc_ways.proofs.Lists.{append_nil}
-use Rattle.hc_match.specs.Runs.{ends, further_turns, run_length}
 
 -- ---- the length
 
@@ -52,7 +46,7 @@ module _ (text : List ℕ) (test : ℕ → Bool) where
 
   -- A turn that has to be, where its byte fits or not.
   turn_if : (v : Bool) (rest : Ways Held) (at : ℕ) (held : Held) → flat_map (λ way. rest way.end way.held) (if v then stop (at + 1) held else []) ≡ (if v then rest (at + 1) held else [])
-  turn_if true rest at held = append_nil (rest (at + 1) held)
+  turn_if true rest at held = append-nil (rest (at + 1) held)
   turn_if false rest at held = refl
 
   enough : (least : ℕ) (more : Ways Held) (at : ℕ) (held : Held) → run_length text test at least ≡ least → turns_then one least more at held ≡ more (at + least) held
@@ -64,7 +58,7 @@ module _ (text : List ℕ) (test : ℕ → Bool) where
 
       fits : (v : Bool) → (if v then suc (run_length text test (at + 1) least) else 0) ≡ suc least → (run_length text test (at + 1) least ≡ least → turns_then one least more (at + 1) held ≡ more (at + 1 + least) held)
           → flat_map (λ way. turns_then one least more way.end way.held) (if v then stop (at + 1) held else []) ≡ more (at + 1 + least) held
-      fits true is later = append_nil _ ∙ later (omega (arith, is))
+      fits true is later = append-nil _ ∙ later (omega (arith, is))
       fits false is later = absurd (omega (arith, is))
 
   too_few : (least : ℕ) (more : Ways Held) (at : ℕ) (held : Held) → (run_length text test at least ≡ least → ⊥) → turns_then one least more at held ≡ []
@@ -73,7 +67,7 @@ module _ (text : List ℕ) (test : ℕ → Bool) where
     where
       fits : (v : Bool) → ((if v then suc (run_length text test (at + 1) least) else 0) ≡ suc least → ⊥) → ((run_length text test (at + 1) least ≡ least → ⊥) → turns_then one least more (at + 1) held ≡ [])
           → flat_map (λ way. turns_then one least more way.end way.held) (if v then stop (at + 1) held else []) ≡ []
-      fits true few later = append_nil _ ∙ later (λ same. few (ap suc same))
+      fits true few later = append-nil _ ∙ later (λ same. few (ap suc same))
       fits false few later = refl
 
   -- Turns that may be.
@@ -83,10 +77,10 @@ module _ (text : List ℕ) (test : ℕ → Bool) where
   step_if true next rest at held count true later turn is = ap (λ l. l ++ next at held) (is ∙ later)
   step_if false next rest at held count true later turn is = ap (λ l. next at held ++ l) (is ∙ later)
   step_if true next rest at held count false later turn is = ap (λ l. l ++ next at held) is
-  step_if false next rest at held count false later turn is = ap (λ l. next at held ++ l) is ∙ append_nil (next at held)
+  step_if false next rest at held count false later turn is = ap (λ l. next at held ++ l) is ∙ append-nil (next at held)
 
   may_be : (greedy : Bool) (next : Ways Held) (most at : ℕ) (held : Held) → behind (turns_up_to greedy one most) next at held ≡ ends greedy next at (run_length text test at most) held
-  may_be greedy next zero at held = append_nil (next at held)
+  may_be greedy next zero at held = append-nil (next at held)
   may_be greedy next (suc most) at held =
       let rest = behind (turns_up_to greedy one most) next in
       let turn = behind (behind one (turns_up_to greedy one most)) next in

@@ -1,21 +1,12 @@
 -- How what is said of ways leads to what is said of others.
 use Rattle.std.proofs.Common.{◌≡◌, ℕ, ◌-◌, ◌<◌, ◌≤◌, Bool, true, false, List, [], ◌∷◌, ◌++◌, length, nat_lt, if◌then◌else◌, Option, Some, None, option_map, Result, IfOk, sym, ap, subst, ◌∙◌, refl, true≢false, ltb-false, is_some, nat_eq, zero, suc, arith}
-use Rattle.std.specs.List.{flat_map}
-use Rattle.std.specs.Option.{option_eq}
-use Rattle.std.proofs.lemmas.Option.{none-some}
+use Rattle.hc_match.proofs.Common.{flat_map, option_eq, none-some, Pattern, alt, cat, group, Way, Ways, any_turns, behind, moving, none, preferred, repeated, stop, closed, Held, first_of, last_ways, with_group, behind-behind, behind-either, behind-preferred, same_ways, turn_or_next, append-nil, flat_map-filter, Says, less_than, preferring, held_over}
 use Rattle.std.proofs.lemmas.List.Folds.{flat_map-map}
-use Rattle.hc_pattern.specs.Pattern.{Pattern, alt, cat, group}
-use Rattle.hc_ways.specs.Ways.{Way, Ways, any_turns, behind, moving, none, preferred, repeated, stop, closed}
-use Rattle.hc_ways.specs.Kept.{Held, first_of, last_ways, with_group}
-use Rattle.hc_ways.proofs.Behind.{behind-behind, behind-either, behind-preferred, same_ways, turn_or_next}
-use Rattle.hc_ways.proofs.Lists.{append_nil, flat_map-filter}
 use Rattle.hc_ways.proofs.Turns.{any_turns_is, bounded, first_turn, first_turn_of_any, further_turn}
-use Rattle.hc_match.specs.Frames.{Says, less_than, preferring}
-use Rattle.hc_match.specs.Settings.{held_over}
 use Rattle.hc_match.specs.declared.captures.Setting.{Setting}
 use Rattle.hc_match.specs.declared.straight.Straight.{Straight}
-use Rattle.hc_match.specs.declared.straight.Tried.{Tried}
-use Rattle.hc_match.specs.declared.straight.Tried.TheVariants.{Matched, Failed, GaveUp}
+use Rattle.hc_match.specs.declared.frame.Tried.{Tried}
+use Rattle.hc_match.specs.declared.frame.Tried.TheVariants.{Matched, Failed, GaveUp}
 
 first_before : (ways others : List (Way Held)) (way : Way Held) → first_of ways ≡ Some way → first_of (ways ++ others) ≡ Some way
 first_before [] others way is = absurd (none-some way is)
@@ -68,7 +59,7 @@ set_over held number start end settings all is =
 -- ---- one way, or none
 
 pub only_way : (a next : Ways Held) (at end : ℕ) → ((held : Held) → a at held ≡ stop end held) → (held : Held) → next end held ≡ behind a next at held
-only_way a next at end is held = sym (ap (flat_map (λ way. next way.end way.held)) (is held) ∙ append_nil (next end held))
+only_way a next at end is held = sym (ap (flat_map (λ way. next way.end way.held)) (is held) ∙ append-nil (next end held))
 
 pub same_way : (a b next : Ways Held) (at from : ℕ) → ((held : Held) → a at held ≡ b from held) → (held : Held) → behind a next at held ≡ behind b next from held
 same_way a b next at from is held = ap (flat_map (λ way. next way.end way.held)) (is held)
@@ -80,11 +71,10 @@ turn_then : (bytes : ℕ) (body : Ways Held) (least : ℕ) (most : Option ℕ) (
 turn_then bytes body least None greedy some enough = first_turn_of_any bytes body least greedy some
 turn_then bytes body least (Some most) greedy some enough = first_turn bytes body least most greedy some (ltb-false most least enough)
 
-pub first_turn_is : (bytes : ℕ) (body next : Ways Held) (least lower : ℕ) (most fewer : Option ℕ) (greedy : Bool) (at : ℕ) → 0 < least → less_than most least ≡ false
-    → lower ≡ least - 1 → fewer ≡ option_map (λ most. most - 1) most
-    → (held : Held) → behind body (behind (repeated bytes body lower fewer greedy) next) at held ≡ behind (repeated bytes body least most greedy) next at held
-first_turn_is bytes body next least lower most fewer greedy at some enough low few held =
-    rw (low, few) (ap (λ ways. ways at held) (sym (ap (λ ways. behind ways next) (turn_then bytes body least most greedy some enough) ∙ behind-behind body _ next)))
+pub first_turn_is : (bytes : ℕ) (body next : Ways Held) (least : ℕ) (most : Option ℕ) (greedy : Bool) (at : ℕ) → 0 < least → less_than most least ≡ false
+    → (held : Held) → behind body (behind (repeated bytes body (least - 1) (option_map (λ most. most - 1) most) greedy) next) at held ≡ behind (repeated bytes body least most greedy) next at held
+first_turn_is bytes body next least most greedy at some enough held =
+    ap (λ ways. ways at held) (sym (ap (λ ways. behind ways next) (turn_then bytes body least most greedy some enough) ∙ behind-behind body _ next))
 
 some_turns : (bytes : ℕ) (body : Ways Held) (most : Option ℕ) (greedy : Bool) → false ≡ option_eq nat_eq most (Some 0) → true ≡ is_some most
     → repeated bytes body 0 most greedy ≡ preferred greedy (behind body (repeated bytes body 0 (option_map (λ most. most - 1) most) greedy))
@@ -92,12 +82,12 @@ some_turns bytes body None greedy more some = absurd (true≢false some)
 some_turns bytes body (Some zero) greedy more some = absurd (true≢false (sym more))
 some_turns bytes body (Some (suc most)) greedy more some = further_turn bytes body (suc most) greedy (omega arith)
 
-pub further_turn_is : (bytes : ℕ) (body next : Ways Held) (least lower : ℕ) (most fewer : Option ℕ) (greedy : Bool) (at : ℕ) → least ≤ 0
-    → lower ≡ least - 1 → fewer ≡ option_map (λ most. most - 1) most → false ≡ option_eq nat_eq most (Some 0) → true ≡ is_some most
-    → (held : Held) → preferring greedy (behind body (behind (repeated bytes body lower fewer greedy) next)) next at held ≡ behind (repeated bytes body least most greedy) next at held
-further_turn_is bytes body next least lower most fewer greedy at low lower_is few more some held =
+pub further_turn_is : (bytes : ℕ) (body next : Ways Held) (least : ℕ) (most : Option ℕ) (greedy : Bool) (at : ℕ) → least ≤ 0
+    → false ≡ option_eq nat_eq most (Some 0) → true ≡ is_some most
+    → (held : Held) → preferring greedy (behind body (behind (repeated bytes body (least - 1) (option_map (λ most. most - 1) most) greedy) next)) next at held ≡ behind (repeated bytes body least most greedy) next at held
+further_turn_is bytes body next least most greedy at low more some held =
     let none : least ≡ 0 = omega (arith, low) in
-    rw (lower_is, few, none)
+    rw none
     (ap (λ ways. ways at held) (sym (ap (λ ways. behind ways next) (some_turns bytes body most greedy more some) ∙ behind-preferred greedy _ next
     ∙ ap (λ turn. turn_or_next greedy turn next) (behind-behind body _ next))))
 
@@ -116,14 +106,14 @@ endless text body next greedy at held =
     ∙ same_turn greedy (behind (behind (moving turn) turns) next) (behind turn (λ end held. if nat_lt at end then behind turns next end held else [])) next at held
     (ap (λ ways. ways at held) (behind-behind (moving turn) turns next) ∙ flat_map-filter _ _ (turn at held)))
 
-pub any_turn_is : (text : List ℕ) (body : Pattern) (next : Ways Held) (least lower : ℕ) (most fewer : Option ℕ) (greedy : Bool) (at : ℕ) → least ≤ 0
-    → lower ≡ least - 1 → fewer ≡ option_map (λ most. most - 1) most → false ≡ is_some most
-    → (held : Held) → preferring greedy (behind (last_ways text body) (λ end held. if nat_lt at end then behind (repeated (length text) (last_ways text body) lower fewer greedy) next end held else [])) next at held
+pub any_turn_is : (text : List ℕ) (body : Pattern) (next : Ways Held) (least : ℕ) (most : Option ℕ) (greedy : Bool) (at : ℕ) → least ≤ 0
+    → false ≡ is_some most
+    → (held : Held) → preferring greedy (behind (last_ways text body) (λ end held. if nat_lt at end then behind (repeated (length text) (last_ways text body) (least - 1) (option_map (λ most. most - 1) most) greedy) next end held else [])) next at held
     ≡ behind (repeated (length text) (last_ways text body) least most greedy) next at held
-any_turn_is text body next least lower (Some most) fewer greedy at low lower_is few endless held = absurd (true≢false (sym endless))
-any_turn_is text body next least lower None fewer greedy at low lower_is few none held =
+any_turn_is text body next least (Some most) greedy at low endless held = absurd (true≢false (sym endless))
+any_turn_is text body next least None greedy at low none held =
     let zero_least : least ≡ 0 = omega (arith, low) in
-    rw (lower_is, few, zero_least) (endless text body next greedy at held)
+    rw zero_least (endless text body next greedy at held)
 
 -- A repeat of a body that matches one byte.
 pub run_of_is : (bytes : ℕ) (body one next : Ways Held) (least : ℕ) (most : Option ℕ) (greedy : Bool) (at : ℕ) (found : Held → List (Way Held))

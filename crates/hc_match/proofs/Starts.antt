@@ -1,11 +1,6 @@
 -- What patterns begin with.
-use Rattle.std.proofs.Common.{IfSome, ◌≡◌, ℕ, zero, suc, ◌+◌, ◌-◌, ◌<◌, Bool, true, false, List, [], length, if◌then◌else◌, nat_lt, Option, Some, None, option_map, refl, ap, sym, ◌∙◌, arith}
-use Rattle.std.specs.List.{flat_map}
-use Rattle.std.specs.Option.{option_or}
+use Rattle.hc_match.proofs.Common.{IfSome, ◌≡◌, ℕ, zero, suc, ◌+◌, ◌-◌, ◌<◌, Bool, true, false, List, [], length, if◌then◌else◌, nat_lt, Option, Some, None, option_map, refl, ap, sym, ◌∙◌, arith, flat_map, option_or, Pattern, repeat, Held, first_match, first_of, held_by, last_ways, match_among, match_at, nothing_held, Ways, any_turns, none, repeated, turns_then, turns_up_to}
 use Rattle.hc_pattern.specs.declared.set.ByteSet.{ByteSet}
-use Rattle.hc_pattern.specs.Pattern.{Pattern, repeat}
-use Rattle.hc_ways.specs.Kept.{Held, first_match, first_of, held_by, last_ways, match_among, match_at, nothing_held}
-use Rattle.hc_ways.specs.Ways.{Ways, any_turns, none, repeated, turns_then, turns_up_to}
 use Rattle.hc_match.specs.Single.{BeginsAtStart, BeginsIn}
 
 unless : (v : Bool) (a : Ways Held) (at : ℕ) (held : Held) → a at held ≡ [] → (if v then none else a) at held ≡ []

@@ -1,15 +1,26 @@
 -- What is still to be matched, as ways.
-use Rattle.std.specs.Prelude.{◌≡◌, ℕ, Bool, false, List, [], length, Option, None, Some, if◌then◌else◌, nat_lt}
+use Rattle.std.specs.Prelude.{◌≡◌, ◌-◌, ℕ, Bool, false, List, [], length, Option, None, Some, if◌then◌else◌, nat_lt, option_map}
 use Rattle.hc_pattern.specs.Pattern.{pattern_of}
+use Rattle.hc_pattern.specs.declared.pat.Pat.{Pat}
 use Rattle.hc_ways.specs.Ways.{Way, Ways, behind, either, repeated, stop}
 use Rattle.hc_ways.specs.Kept.{Held, first_of, last_ways, with_group}
 use Rattle.hc_match.specs.Settings.{captured, held_over}
-use Rattle.hc_match.specs.declared.straight.Frame.{Frame, End, Then', Close', Moved', Turns'}
-use Rattle.hc_match.specs.declared.straight.Searched.{Searched}
-use Rattle.hc_match.specs.declared.straight.Searched.TheVariants.{Match, NoMatch}
+use Rattle.hc_match.specs.declared.frame.Frame.{Frame, End, Then', Close', Moved', Turns'}
+use Rattle.hc_match.specs.declared.search.Searched.{Searched}
+use Rattle.hc_match.specs.declared.search.Searched.TheVariants.{Match, NoMatch}
 use Rattle.hc_match.specs.declared.straight.Straight.{Straight}
-use Rattle.hc_match.specs.declared.straight.Tried.{Tried}
-use Rattle.hc_match.specs.declared.straight.Tried.TheVariants.{Matched, Failed, GaveUp}
+use Rattle.hc_match.specs.declared.frame.Turn.{Turn}
+use Rattle.hc_match.specs.declared.frame.Turns.{Turns}
+use Rattle.hc_match.specs.declared.frame.Tried.{Tried}
+use Rattle.hc_match.specs.declared.frame.Tried.TheVariants.{Matched, Failed, GaveUp}
+
+-- The ways of turns of a pattern.
+abbrev pub turns_ways : List ℕ → Pat → Turns → Ways Held
+turns_ways text body turns = repeated (length text) (last_ways text (pattern_of body)) turns.least turns.most turns.greedy
+
+-- The turns behind one.
+abbrev pub behind_one : Turns → Turns
+behind_one turns = record { least = turns.least - 1; most = option_map (λ most. most - 1) turns.most; greedy = turns.greedy }
 
 -- The ways of what is still to be matched.
 abbrev pub frame_ways : List ℕ → Frame → Ways Held
@@ -18,8 +29,11 @@ frame_ways text (Then' pat p next) = behind (last_ways text (pattern_of pat.now)
 frame_ways text (Close' group start p next) =
     λ at held. frame_ways text next at (with_group group (record { start = start; end = at }) held)
 frame_ways text (Moved' start p next) = λ at held. if nat_lt start at then frame_ways text next at held else []
-frame_ways text (Turns' body least most greedy p next) =
-    behind (repeated (length text) (last_ways text (pattern_of body.now)) least most greedy) (frame_ways text next)
+frame_ways text (Turns' body turns p next) = behind (turns_ways text body.now turns) (frame_ways text next)
+
+-- The ways of a turn and what is behind it.
+abbrev pub turn_ways : List ℕ → Turn → Ways Held
+turn_ways text turn = behind (last_ways text (pattern_of turn.body.now)) (frame_ways text turn.rest.now)
 
 -- What came of trying ways: the first of them, or that there is none, whatever is held before. While
 -- nothing was found no group is set.

@@ -1,5 +1,5 @@
 -- What groups hold after settings, of which the newest comes first.
-use Rattle.std.specs.Prelude.{List, [], ◌∷◌}
+use Rattle.std.specs.Prelude.{ℕ, List, [], ◌∷◌}
 use Rattle.hc_ways.specs.Kept.{Held, nothing_held, with_group}
 use Rattle.hc_match.specs.declared.captures.Captures.{Captures}
 use Rattle.hc_match.specs.declared.captures.Setting.{Setting}
@@ -12,3 +12,7 @@ held_over held (setting ∷ settings) = with_group setting.group setting.span (h
 -- What the groups hold.
 abbrev pub captured : Captures → Held
 captured captures = held_over nothing_held captures.settings.items
+
+-- The group is set to what stands between these places.
+abbrev pub set_to : ℕ → ℕ → ℕ → Setting
+set_to group start end = record { group = group; span = record { start = start; end = end } }

@@ -4,7 +4,7 @@ ghost use Rattle.hc_match.specs.Settings.{captured};
 ghost use Rattle.hc_ways.specs.Kept.{first_match};
 
 use crate::captures::Captures;
-use crate::straight::{self, Searched};
+use crate::search::{self, Searched};
 use crate::table;
 use hc_base::NoMemory;
 use hc_pattern::Pat;
@@ -22,7 +22,7 @@ use std::alloc::Global;
 pub fn first_match(alloc: Global, pat: &Pat, text: &[u8]) -> Result<Option<Captures>, NoMemory>
     ensures { IfOk result (λ found. option_map captured found ≡ first_match text.now (pattern_of pat.now)) }
 {
-    match straight::first_match(alloc, pat, text)? {
+    match search::first_match(alloc, pat, text)? {
         Searched::Match(captures) => Ok(Some(captures)),
         Searched::NoMatch => Ok(None),
         Searched::GaveUp => table::first_match(alloc, pat, text),

@@ -4,11 +4,13 @@
 mod captures;
 mod failures;
 mod find;
+mod frame;
 mod groups;
 mod moves;
 mod paths;
 mod program;
 mod run;
+mod search;
 mod single;
 mod start;
 mod straight;

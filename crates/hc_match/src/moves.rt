@@ -1,4 +1,5 @@
-ghost use Rattle.std.specs.Prelude.{◌≡◌, ℕ, ◌+◌, ◌^◌, ◌<◌, ◌==◌, Some, [], if◌then◌else◌, slice_get, IsTrue};
+ghost use Rattle.std.specs.Prelude.{◌≡◌, ℕ, ◌+◌, ◌^◌, ◌<◌, ◌==◌, Some, [], if◌then◌else◌};
+ghost use Rattle.std.specs.Prelude.{slice_get, IsTrue};
 ghost use Rattle.hc_pattern.specs.Bits.{has_byte};
 ghost use Rattle.hc_ways.specs.Ways.{meets};
 ghost use Rattle.hc_match.specs.Program.{IsMeaning, Kept, Meaning, kept_past, step_ways};
@@ -32,7 +33,8 @@ pub fn next_move(steps: &[Step], text: &[u8], place: u32, at: usize) -> Move
 
 fn move_of(step: Step, text: &[u8], at: usize) -> Move
     ensures { (meaning : Meaning) (kept : Kept)
-        → step_ways text.now meaning step at kept ≡ move_ways meaning result at kept (kept_past (Some step) at kept) }
+        → step_ways text.now meaning step at kept
+        ≡ move_ways meaning result at kept (kept_past (Some step) at kept) }
 {
     match step {
         Step::Done => Move::Done,
@@ -52,7 +54,8 @@ fn move_of(step: Step, text: &[u8], at: usize) -> Move
 
 // On to the step where the test holds.
 fn on_if(holds: bool, step: u32, at: usize) -> Move
-    ensures { (meaning : Meaning) (before kept : Kept) → move_ways meaning result at before kept ≡ (if holds then meaning step at kept else []) }
+    ensures { (meaning : Meaning) (before kept : Kept)
+        → move_ways meaning result at before kept ≡ (if holds then meaning step at kept else []) }
 {
     if !holds {
         return Move::Fail;
@@ -67,7 +70,8 @@ fn on_if(holds: bool, step: u32, at: usize) -> Move
 // On to the step, one byte further, where the byte fits.
 fn further_if(fits: bool, step: u32, at: usize) -> Move
     requires { IsTrue fits → at < 2 ^ 63 }
-    ensures { (meaning : Meaning) (before kept : Kept) → move_ways meaning result at before kept ≡ (if fits then meaning step (at + 1) kept else []) }
+    ensures { (meaning : Meaning) (before kept : Kept)
+        → move_ways meaning result at before kept ≡ (if fits then meaning step (at + 1) kept else []) }
 {
     if !fits {
         return Move::Fail;

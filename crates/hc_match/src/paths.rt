@@ -61,7 +61,8 @@ impl Search {
 
     /// Begins anew, and keeps the failures.
     pub fn begin(&mut self, step: u32, at: usize)
-        ensures { (steps : List Step) (meaning : Meaning) → AllFail meaning self.old.failures → IsSearch steps meaning step at self.new }
+        ensures { (steps : List Step) (meaning : Meaning) → AllFail meaning self.old.failures
+            → IsSearch steps meaning step at self.new }
     {
         self.step = step;
         self.at = at;
@@ -71,7 +72,8 @@ impl Search {
     /// Searches to the end: whether a way was found.
     pub fn run(&mut self, steps: &[Step], text: &[u8]) -> Result<bool, NoMemory>
         ensures { IfOk result (λ found. (meaning : Meaning) (start from : ℕ) → Means text.now steps.now meaning
-            → IsSearch steps.now meaning start from self.old → HasEnded steps.now meaning start from found self.new) }
+            → IsSearch steps.now meaning start from self.old
+            → HasEnded steps.now meaning start from found self.new) }
     {
         let mut status = Status::Trying;
         'turns: for _ in 0..u64::MAX {
@@ -88,7 +90,8 @@ impl Search {
     // Tries the pair where it is.
     fn forward(&mut self, steps: &[Step], text: &[u8]) -> Result<Status, NoMemory>
         ensures { IfOk result (λ status. (meaning : Meaning) (start from : ℕ) → Means text.now steps.now meaning
-            → IsSearch steps.now meaning start from self.old → Stands steps.now meaning start from status self.new) }
+            → IsSearch steps.now meaning start from self.old
+            → Stands steps.now meaning start from status self.new) }
     {
         if self.failures.has(self.step, self.at) {
             return Ok(Status::Failing);
@@ -139,7 +142,8 @@ impl Search {
     /// What the groups hold at the end of a way from this place.
     pub fn captures(&self, alloc: Global, steps: &[Step], from: usize) -> Result<Captures, NoMemory>
         ensures { IfOk result (λ captures. captured captures
-            ≡ with_group 0 (record { start = from; end = self.now.at }) (kept_now steps.now self.now.passed.items).held) }
+            ≡ with_group 0 (record { start = from; end = self.now.at })
+            (kept_now steps.now self.now.passed.items).held) }
     {
         let (Ok(start), Ok(end)) = (u32::try_from(from), u32::try_from(self.at)) else {
             return Err(NoMemory);

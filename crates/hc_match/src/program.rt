@@ -1,4 +1,5 @@
-ghost use Rattle.std.specs.Prelude.{◌≡◌, ℕ, ◌++◌, ◌∷◌, ◌<◌, ◌≤◌, List, [], length, slice_get, IfOk, IsTrue};
+ghost use Rattle.std.specs.Prelude.{◌≡◌, ℕ, ◌++◌, ◌∷◌, ◌<◌, ◌≤◌, List, [], length};
+ghost use Rattle.std.specs.Prelude.{slice_get, IfOk, IsTrue};
 ghost use Rattle.hc_pattern.specs.Pattern.{pattern_of};
 ghost use Rattle.hc_ways.specs.Ways.{any_turns, repeated, stop, turns_then, turns_up_to};
 ghost use Rattle.hc_match.specs.Program.{Compiles, HasMeaning, kept_ways, takes_a_byte, turn_step};
@@ -34,7 +35,8 @@ impl Program {
     /// The program of a pattern, and the place that it begins at. Where a repeat without upper
     /// number has a body that can be empty, the answer is that memory is refused.
     pub fn of(alloc: Global, pat: &Pat) -> Result<(Program, u32), NoMemory>
-        ensures { IfOk result (λ made. (text : List ℕ) → HasMeaning text made.0.steps.items made.1 (kept_ways text (pattern_of pat.now))) }
+        ensures { IfOk result (λ made. (text : List ℕ)
+            → HasMeaning text made.0.steps.items made.1 (kept_ways text (pattern_of pat.now))) }
     {
         let mut program = Program {
             steps: Vec::new(alloc),
@@ -53,7 +55,8 @@ impl Program {
 
     // Adds a step, and gives its place.
     fn emit(&mut self, step: Step) -> Result<u32, NoMemory>
-        ensures { IfOk result (λ place. (place ≡ length self.old.steps.items) × (self.new.steps.items ≡ self.old.steps.items ++ step ∷ [])) }
+        ensures { IfOk result (λ place. (place ≡ length self.old.steps.items)
+            × (self.new.steps.items ≡ self.old.steps.items ++ step ∷ [])) }
     {
         let Ok(place) = u32::try_from(self.steps.len()) else {
             return Err(NoMemory);
@@ -68,7 +71,8 @@ impl Program {
         requires { next < length self.old.steps.items }
         ensures within { IfOk result (λ place. place < length self.new.steps.items) }
         ensures longer { IfOk result (λ place. length self.old.steps.items ≤ length self.new.steps.items) }
-        ensures ways { IfOk result (λ place. (text : List ℕ) → Compiles text self.old.steps.items self.new.steps.items
+        ensures ways { IfOk result (λ place. (text : List ℕ)
+            → Compiles text self.old.steps.items self.new.steps.items
             (kept_ways text (pattern_of pat.now)) next place) }
     {
         match pat {
@@ -113,7 +117,8 @@ impl Program {
         requires { next < length self.old.steps.items }
         ensures within { IfOk result (λ place. place < length self.new.steps.items) }
         ensures longer { IfOk result (λ place. length self.old.steps.items ≤ length self.new.steps.items) }
-        ensures ways { IfOk result (λ place. (text : List ℕ) → Compiles text self.old.steps.items self.new.steps.items
+        ensures ways { IfOk result (λ place. (text : List ℕ)
+            → Compiles text self.old.steps.items self.new.steps.items
             (repeated (length text) (kept_ways text (pattern_of body.now.value)) least most greedy) next place) }
     {
         match most {
@@ -138,7 +143,8 @@ impl Program {
         requires { next < length self.old.steps.items }
         ensures within { IfOk result (λ place. place < length self.new.steps.items) }
         ensures longer { IfOk result (λ place. length self.old.steps.items ≤ length self.new.steps.items) }
-        ensures ways { IfOk result (λ place. (text : List ℕ) → Compiles text self.old.steps.items self.new.steps.items
+        ensures ways { IfOk result (λ place. (text : List ℕ)
+            → Compiles text self.old.steps.items self.new.steps.items
             (turns_then (kept_ways text (pattern_of body.now.value)) count stop) next place) }
     {
         let mut place = next;
@@ -160,7 +166,8 @@ impl Program {
         requires { next < length self.old.steps.items }
         ensures within { IfOk result (λ place. place < length self.new.steps.items) }
         ensures longer { IfOk result (λ place. length self.old.steps.items ≤ length self.new.steps.items) }
-        ensures ways { IfOk result (λ place. (text : List ℕ) → Compiles text self.old.steps.items self.new.steps.items
+        ensures ways { IfOk result (λ place. (text : List ℕ)
+            → Compiles text self.old.steps.items self.new.steps.items
             (turns_up_to greedy (kept_ways text (pattern_of body.now.value)) most) next place) }
     {
         let mut place = next;
@@ -178,7 +185,8 @@ impl Program {
         requires { next < length self.old.steps.items }
         ensures within { IfOk result (λ place. place < length self.new.steps.items) }
         ensures longer { IfOk result (λ place. length self.old.steps.items ≤ length self.new.steps.items) }
-        ensures ways { IfOk result (λ place. (text : List ℕ) → Compiles text self.old.steps.items self.new.steps.items
+        ensures ways { IfOk result (λ place. (text : List ℕ)
+            → Compiles text self.old.steps.items self.new.steps.items
             (any_turns greedy (kept_ways text (pattern_of body.now.value)) (length text)) next place) }
     {
         if !takes_a_byte(body) {

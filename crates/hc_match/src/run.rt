@@ -1,11 +1,13 @@
 //! Repeats of one byte: the bytes that fit are counted, and no turn is tried by itself.
-ghost use Rattle.std.specs.Prelude.{◌≡◌, ℕ, ◌+◌, ◌≤◌, ◌<◌, Bool, List, [], length, max, slice_get, IfSome, IfNone, IsTrue};
+ghost use Rattle.std.specs.Prelude.{◌≡◌, ℕ, ◌+◌, ◌≤◌, ◌<◌, Bool, List, [], length, max};
+ghost use Rattle.std.specs.Prelude.{slice_get, IfSome, IfNone, IsTrue};
 ghost use Rattle.hc_pattern.specs.Bits.{has_byte};
 ghost use Rattle.hc_pattern.specs.Pattern.{pattern_of};
 ghost use Rattle.hc_ways.specs.Ways.{Ways, behind, meets, repeated, step_where};
 ghost use Rattle.hc_ways.specs.Kept.{Held, last_ways};
-ghost use Rattle.hc_match.specs.Runs.{ends, further_turns, run_length};
+ghost use Rattle.hc_match.specs.Runs.{ends, further_turns, run_length, run_ways};
 
+use crate::frame::Turns;
 use crate::single::is_in_class;
 use hc_pattern::{ByteSet, Pat};
 
@@ -29,18 +31,16 @@ pub fn one_byte(pat: &Pat) -> Option<ByteSet>
 }
 
 /// What a repeat of these bytes takes from this place on, if there are enough of them.
-pub fn run_of(text: &[u8], set: ByteSet, least: u16, most: Option<u16>, at: usize) -> Option<Run>
+pub fn run_of(text: &[u8], set: ByteSet, turns: Turns, at: usize) -> Option<Run>
     ensures some { IfSome result (λ run. (greedy : Bool) (next : Ways Held) (held : Held)
-        → behind (repeated (length text.now) (step_where text.now (has_byte set)) least most greedy) next at held
-        ≡ ends greedy next run.first run.more held) }
-    ensures none { IfNone result ((greedy : Bool) (held : Held)
-        → repeated (length text.now) (step_where text.now (has_byte set)) least most greedy at held ≡ []) }
+        → behind (run_ways text.now set turns greedy) next at held ≡ ends greedy next run.first run.more held) }
+    ensures none { IfNone result ((greedy : Bool) (held : Held) → run_ways text.now set turns greedy at held ≡ []) }
     ensures within { IfSome result (λ run. run.first + run.more ≤ max at (length text.now)) }
 {
-    let Some(further) = further_turns(text, least, most) else {
+    let Some(further) = further_turns(text, turns.least, turns.most) else {
         return None;
     };
-    let least = usize::from(least);
+    let least = usize::from(turns.least);
     if fitting(text, set, at, least) != least {
         return None;
     }

@@ -1,5 +1,6 @@
 //! Patterns of one node, and the fronts of sequences: tested in place.
-ghost use Rattle.std.specs.Prelude.{◌≡◌, ◌+◌, ◌<◌, ◌==◌, [], length, slice_get, IfSome, IfNone, IsTrue};
+ghost use Rattle.std.specs.Prelude.{◌≡◌, ◌+◌, ◌<◌, ◌==◌, [], length, slice_get, IfSome, IfNone};
+ghost use Rattle.std.specs.Prelude.{IsTrue};
 ghost use Rattle.hc_pattern.specs.Bits.{has_byte};
 ghost use Rattle.hc_pattern.specs.Pattern.{pattern_of};
 ghost use Rattle.hc_ways.specs.Ways.{meets, stop};
@@ -19,7 +20,8 @@ pub struct Rest<'p> {
 /// single node at its end. None where one of them doesn't fit.
 pub fn past_front<'p>(text: &[u8], pat: &'p Pat, at: usize) -> Option<Rest<'p>>
     ensures some { IfSome result (λ rest. (held : Held)
-        → last_ways text.now (pattern_of rest.pat.now) rest.at held ≡ last_ways text.now (pattern_of pat.now) at held) }
+        → last_ways text.now (pattern_of rest.pat.now) rest.at held
+        ≡ last_ways text.now (pattern_of pat.now) at held) }
     ensures none { IfNone result ((held : Held) → last_ways text.now (pattern_of pat.now) at held ≡ []) }
 {
     let mut rest = pat;
@@ -52,7 +54,8 @@ pub fn is_single(pat: &Pat) -> bool
 /// Where the one way of a single node ends, if it has one here.
 pub fn single_end(text: &[u8], pat: &Pat, at: usize) -> Option<usize>
     requires { IsTrue (is_single (pattern_of pat.now)) }
-    ensures some { IfSome result (λ end. (held : Held) → last_ways text.now (pattern_of pat.now) at held ≡ stop end held) }
+    ensures some { IfSome result (λ end. (held : Held)
+        → last_ways text.now (pattern_of pat.now) at held ≡ stop end held) }
     ensures none { IfNone result ((held : Held) → last_ways text.now (pattern_of pat.now) at held ≡ []) }
 {
     match pat {

@@ -1,8 +1,5 @@
-use Rattle.std.proofs.Common.{◌∙◌, Some, None, get_or, take, sym, ap}
+use Rattle.hc_match.proofs.Common.{◌∙◌, Some, None, get_or, take, sym, ap, kept_past, nothing_kept, kept_now, past, Passed}
 use Rattle.std.proofs.lemmas.List.Sums.{fold_more}
-use Rattle.hc_match.specs.Program.{kept_past, nothing_kept}
-use Rattle.hc_match.specs.Pairs.{kept_now, past}
-use Rattle.hc_match.specs.declared.paths.Passed.{Passed}
 use Rattle.hc_match.proofs.paths.groups_of.Goals as goal
 
 pub pairs-preserved-in_default-step_at : goal.pairs-preserved-in_default-step_at

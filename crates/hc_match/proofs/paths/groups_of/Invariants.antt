@@ -1,5 +1,4 @@
-use Rattle.std.proofs.Common.{◌≡◌, take}
-use Rattle.hc_match.specs.Pairs.{kept_in, kept_now}
+use Rattle.hc_match.proofs.Common.{◌≡◌, take, kept_in, kept_now}
 use Rattle.hc_match.proofs.paths.groups_of.Given as goal
 
 abbrev pub invariant-pairs : goal.invariant-pairs

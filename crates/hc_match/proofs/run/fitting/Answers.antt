@@ -1,6 +1,4 @@
-use Rattle.std.proofs.Common.{arith, refl}
-use Rattle.hc_pattern.specs.Bits.{has_byte}
-use Rattle.hc_match.specs.Runs.{run_length}
+use Rattle.hc_match.proofs.Common.{arith, refl, has_byte, run_length}
 use Rattle.hc_match.proofs.Runs.{one_fits}
 use Rattle.hc_match.proofs.run.fitting.Goals as goal
 

@@ -1,6 +1,4 @@
-use Rattle.std.proofs.Common.{◌≡◌, ◌+◌, ◌-◌, ◌≤◌, length, max}
-use Rattle.hc_pattern.specs.Bits.{has_byte}
-use Rattle.hc_match.specs.Runs.{run_length}
+use Rattle.hc_match.proofs.Common.{◌≡◌, ◌+◌, ◌-◌, ◌≤◌, length, max, has_byte, run_length}
 use Rattle.hc_match.proofs.run.fitting.Given as goal
 
 abbrev pub invariant-bytes : goal.invariant-bytes

@@ -1,6 +1,4 @@
-use Rattle.std.proofs.Common.{◌≡◌}
-use Rattle.hc_pattern.specs.Pattern.{pattern_of}
-use Rattle.hc_ways.specs.Kept.{Held, last_ways}
+use Rattle.hc_match.proofs.Common.{◌≡◌, pattern_of, Held, last_ways}
 use Rattle.hc_match.proofs.single.past_front.Given as goal
 
 abbrev pub invariant-front : goal.invariant-front

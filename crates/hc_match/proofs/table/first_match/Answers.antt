@@ -1,7 +1,4 @@
-use Rattle.std.proofs.Common.{◌+◌, ◌∙◌, Some, length, sym, ap}
-use Rattle.hc_pattern.specs.Pattern.{pattern_of}
-use Rattle.hc_match.specs.Program.{HasMeaning, Meaning, Means, kept_ways}
-use Rattle.hc_match.specs.Pairs.{AllFail, Fails}
+use Rattle.hc_match.proofs.Common.{◌+◌, ◌∙◌, Some, length, sym, ap, pattern_of, HasMeaning, Meaning, Means, kept_ways, AllFail, Fails}
 use Rattle.hc_match.proofs.Matching.{ended, found_here, found_match, no_match}
 use Rattle.hc_match.proofs.Places.{none_here}
 use Rattle.hc_match.proofs.table.first_match.Goals as goal

@@ -1,8 +1,4 @@
-use Rattle.std.proofs.Common.{◌≡◌, ◌+◌, ◌-◌, length}
-use Rattle.hc_pattern.specs.Pattern.{pattern_of}
-use Rattle.hc_ways.specs.Kept.{first_match, match_among}
-use Rattle.hc_match.specs.Program.{Meaning, Means}
-use Rattle.hc_match.specs.Pairs.{AllFail}
+use Rattle.hc_match.proofs.Common.{◌≡◌, ◌+◌, ◌-◌, length, pattern_of, first_match, match_among, Meaning, Means, AllFail}
 use Rattle.hc_match.proofs.table.first_match.Given as goal
 
 abbrev pub invariant-loop-from : goal.invariant-loop-from

@@ -1,6 +1,4 @@
-use Rattle.std.proofs.Common.{◌≡◌, drop}
-use Rattle.hc_match.specs.Settings.{held_over}
-use Rattle.hc_ways.specs.Kept.{nothing_held}
+use Rattle.hc_match.proofs.Common.{◌≡◌, drop, held_over, nothing_held}
 use Rattle.hc_match.proofs.captures.Captures.get.Given as goal
 
 abbrev pub invariant-loop-setting : goal.invariant-loop-setting

@@ -1,5 +1,4 @@
-use Rattle.std.proofs.Common.{◌<◌, ◌/◌, length, arith}
-use Rattle.std.proofs.lemmas.List.{get_or_read}
+use Rattle.hc_match.proofs.Common.{◌<◌, ◌/◌, length, arith, get_or_read}
 use Rattle.hc_match.proofs.PairTable.{number_set}
 use Rattle.hc_match.proofs.failures.Failures.set_bit.Goals as goal
 

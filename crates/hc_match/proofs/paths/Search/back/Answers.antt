@@ -1,6 +1,4 @@
-use Rattle.std.proofs.Common.{None}
-use Rattle.hc_match.specs.Pairs.{IsPair}
-use Rattle.hc_match.specs.declared.paths.Passed.{Passed}
+use Rattle.hc_match.proofs.Common.{None, IsPair, Passed}
 use Rattle.hc_match.proofs.PairSearch.{failed_more, fails_back, leads_other, reached_pop, reached_push}
 use Rattle.hc_match.proofs.paths.Search.back.Goals as goal
 

@@ -1,5 +1,4 @@
-use Rattle.hc_match.specs.Pairs.{IsPair}
-use Rattle.hc_match.specs.declared.paths.Passed.{Passed}
+use Rattle.hc_match.proofs.Common.{IsPair, Passed}
 use Rattle.hc_match.specs.declared.moves.Move.TheVariants.{Done, Fail, Next}
 use Rattle.hc_match.proofs.PairSearch.{moved, reached_push}
 use Rattle.hc_match.proofs.paths.Search.forward.Goals as goal

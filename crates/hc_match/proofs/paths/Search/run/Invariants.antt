@@ -1,6 +1,4 @@
-use Rattle.std.proofs.Common.{ℕ}
-use Rattle.hc_match.specs.Program.{Meaning, Means}
-use Rattle.hc_match.specs.Pairs.{IsSearch, Stands}
+use Rattle.hc_match.proofs.Common.{ℕ, Meaning, Means, IsSearch, Stands}
 use Rattle.hc_match.proofs.paths.Search.run.Given as goal
 
 abbrev pub invariant-turns : goal.invariant-turns

@@ -1,12 +1,6 @@
-use Rattle.std.proofs.Common.{◌≡◌, suc, ◌+◌, unwrap_or, ◌∷◌, ◌-◌, ◌≤◌, ◌∙◌, [], length, nat_eq, refl, sym, ap, lt-ltb, le-ltb, arith}
-use Rattle.std.proofs.lemmas.List.{length-append}
-use Rattle.hc_pattern.specs.Bits.{has_byte}
-use Rattle.hc_pattern.specs.Pattern.{pattern_of}
-use Rattle.hc_ways.specs.Ways.{any_turns, behind, either, grouped, none, step_where, stop, stop_where, turns_then, turns_up_to}
-use Rattle.hc_match.specs.Program.{keeping_held, kept_ways, takes_a_byte}
+use Rattle.hc_match.proofs.Common.{◌≡◌, suc, ◌+◌, unwrap_or, ◌∷◌, ◌-◌, ◌≤◌, ◌∙◌, [], length, nat_eq, refl, sym, ap, lt-ltb, le-ltb, arith, length-append, has_byte, pattern_of, any_turns, behind, either, grouped, none, step_where, stop, stop_where, turns_then, turns_up_to, keeping_held, kept_ways, takes_a_byte, is_alt, is_byte, is_cat, is_class, is_empty, is_finish, is_group, is_repeat, is_start}
 use Rattle.hc_match.proofs.Bytes.{moves}
 use Rattle.hc_match.proofs.Compiled.{compiled_any, compiled_as, compiled_behind, compiled_either, compiled_group, compiled_none, compiled_nothing, compiled_preferred, compiled_step, emitted, ok_behind, ok_turns}
-use Rattle.hc_match.proofs.Nodes.{is_alt, is_byte, is_cat, is_class, is_empty, is_finish, is_group, is_repeat, is_start}
 use Rattle.hc_match.proofs.program.Program.+compile.Goals as goal
 
 pub compile-returns-in-Empty-clause-ways : goal.compile-returns-in-Empty-clause-ways

@@ -1,7 +1,4 @@
-use Rattle.std.proofs.Common.{ℕ, ◌<◌, ◌≤◌, List, length}
-use Rattle.hc_pattern.specs.Pattern.{pattern_of}
-use Rattle.hc_ways.specs.Ways.{stop, turns_then, turns_up_to}
-use Rattle.hc_match.specs.Program.{Compiles, kept_ways}
+use Rattle.hc_match.proofs.Common.{ℕ, ◌<◌, ◌≤◌, List, length, pattern_of, stop, turns_then, turns_up_to, Compiles, kept_ways}
 use Rattle.hc_match.proofs.program.Program.+compile.Given as goal
 
 abbrev pub invariant-turns-loop : goal.invariant-turns-loop

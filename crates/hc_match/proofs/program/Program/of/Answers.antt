@@ -1,6 +1,4 @@
-use Rattle.std.proofs.Common.{◌++◌, ◌∷◌, ◌∙◌, [], length, ap}
-use Rattle.hc_pattern.specs.Pattern.{pattern_of}
-use Rattle.hc_match.specs.Program.{kept_ways}
+use Rattle.hc_match.proofs.Common.{◌++◌, ◌∷◌, ◌∙◌, [], length, ap, pattern_of, kept_ways}
 use Rattle.hc_match.specs.declared.program.Step.TheVariants.{Done}
 use Rattle.hc_match.proofs.Compiled.{whole}
 use Rattle.hc_match.proofs.program.Program.of.Goals as goal

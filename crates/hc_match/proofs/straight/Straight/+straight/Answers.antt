@@ -1,13 +1,4 @@
-use Rattle.std.proofs.Common.{Some, ◌≡◌, ◌+◌, ◌-◌, true, false, arith, ap, ◌∙◌, subst, sym, length}
-use Rattle.hc_pattern.specs.Bits.{has_byte}
-use Rattle.hc_pattern.specs.declared.pat.Pat.{fold-roll-Pat}
-use Rattle.hc_pattern.specs.declared.pat.Pat.TheVariants.{rolls-Alt, rolls-Cat, rolls-Group}
-use Rattle.hc_pattern.specs.Pattern.{Pattern, node_view, pattern_of, alt, cat, group}
-use Rattle.hc_ways.specs.Kept.{last_ways, with_group}
-use Rattle.hc_ways.specs.Ways.{behind, step_where}
-use Rattle.hc_match.specs.Frames.{Says, frame_ways}
-use Rattle.hc_match.specs.Runs.{ends}
-use Rattle.hc_match.specs.Settings.{held_over}
+use Rattle.hc_match.proofs.Common.{Some, [], nat_lt, if◌then◌else◌, ◌≡◌, ◌+◌, ◌-◌, true, false, arith, ap, ◌∙◌, subst, sym, length, has_byte, is_alt, is_cat, is_group, pattern_of, alt, cat, group, last_ways, with_group, behind, step_where, Says, frame_ways, preferring, turns_ways, ends, held_over}
 use Rattle.hc_match.proofs.Runs.{longest_first, longest_gone, shortest_first, shortest_gone}
 use Rattle.hc_match.proofs.Saying.{any_turn_is, both_is, either_is, first_turn_is, further_turn_is, group_is, only_way, said, said_before, run_of_is, same_way, second_is, set_over}
 use Rattle.hc_match.proofs.straight.Straight.+straight.Goals as goal
@@ -23,7 +14,7 @@ close-returns-clause-says t c held =
 pub node-returns-in-Cat-clause-says : goal.node-returns-in-Cat-clause-says
 node-returns-in-Cat-clause-says t c =
     let text = c.args.text.now in
-    let is : pattern_of c.args.pat.now ≡ cat (pattern_of c.in-Cat.first.value) (pattern_of c.in-Cat.second.value) = ap pattern_of (c.in-Cat.is ∙ sym (rolls-Cat c.in-Cat.first c.in-Cat.second)) ∙ fold-roll-Pat Pattern node_view _ in
+    let is : pattern_of c.args.pat.now ≡ cat (pattern_of c.in-Cat.first.value) (pattern_of c.in-Cat.second.value) = ap pattern_of c.in-Cat.is ∙ is_cat c.in-Cat.first c.in-Cat.second in
     said c.pattern.result c.pattern.new.self _ _
     (both_is text (pattern_of c.args.pat.now) (pattern_of c.in-Cat.first.value) (pattern_of c.in-Cat.second.value) (pattern_of c.deref-in-Cat.result.now) (pattern_of c.deref.result.now)
     (frame_ways text c.args.next.now) c.args.at is (ap pattern_of c.deref-in-Cat.ensures) (ap pattern_of c.deref.ensures))
@@ -31,7 +22,7 @@ node-returns-in-Cat-clause-says t c =
 
 pub node-returns-in-Failed-clause-says : goal.node-returns-in-Failed-clause-says
 node-returns-in-Failed-clause-says t c =
-    let is : pattern_of c.args.pat.now ≡ alt (pattern_of c.in-Alt.first.value) (pattern_of c.in-Alt.second.value) = ap pattern_of (c.in-Alt.is ∙ sym (rolls-Alt c.in-Alt.first c.in-Alt.second)) ∙ fold-roll-Pat Pattern node_view _ in
+    let is : pattern_of c.args.pat.now ≡ alt (pattern_of c.in-Alt.first.value) (pattern_of c.in-Alt.second.value) = ap pattern_of c.in-Alt.is ∙ is_alt c.in-Alt.first c.in-Alt.second in
     let text = c.args.text.now in
     let next = frame_ways text c.args.next.now in
     let none = rw c.in-Failed.is at c.in_ok-tried-in-Alt.ensures.says in
@@ -42,7 +33,7 @@ node-returns-in-Failed-clause-says t c =
 
 pub node-returns-in_default-clause-says : goal.node-returns-in_default-clause-says
 node-returns-in_default-clause-says t c =
-    let is : pattern_of c.args.pat.now ≡ alt (pattern_of c.in-Alt.first.value) (pattern_of c.in-Alt.second.value) = ap pattern_of (c.in-Alt.is ∙ sym (rolls-Alt c.in-Alt.first c.in-Alt.second)) ∙ fold-roll-Pat Pattern node_view _ in
+    let is : pattern_of c.args.pat.now ≡ alt (pattern_of c.in-Alt.first.value) (pattern_of c.in-Alt.second.value) = ap pattern_of c.in-Alt.is ∙ is_alt c.in-Alt.first c.in-Alt.second in
     let text = c.args.text.now in
     let next = frame_ways text c.args.next.now in
     let first = pattern_of c.deref-in-Alt.result.now in
@@ -53,7 +44,7 @@ node-returns-in_default-clause-says t c =
 
 pub node-returns-in-Group-clause-says : goal.node-returns-in-Group-clause-says
 node-returns-in-Group-clause-says t c =
-    let is : pattern_of c.args.pat.now ≡ group c.in-Group.group (pattern_of c.in-Group.body.value) = ap pattern_of (c.in-Group.is ∙ sym (rolls-Group c.in-Group.group c.in-Group.body)) ∙ fold-roll-Pat Pattern node_view _ in
+    let is : pattern_of c.args.pat.now ≡ group c.in-Group.group (pattern_of c.in-Group.body.value) = ap pattern_of c.in-Group.is ∙ is_group c.in-Group.group c.in-Group.body in
     let text = c.args.text.now in
     said c.pattern-in-Group.result c.pattern-in-Group.new.self _ _
     (group_is text (pattern_of c.args.pat.now) (pattern_of c.in-Group.body.value) (pattern_of c.deref-in-Group.result.now) c.in-Group.group
@@ -72,46 +63,60 @@ pattern-returns-clause-says t c =
     said c.node.result c.node.new.self _ _
     (same_way (last_ways text (pattern_of c.in-Some.rest.pat.now)) (last_ways text (pattern_of c.args.pat.now)) (frame_ways text c.args.next.now) c.in-Some.rest.at c.args.at c.in-Some.ensures.some) c.node.ensures.says
 
-pub turns-returns-then-least-gt0-clause-says : goal.turns-returns-then-least-gt0-clause-says
-turns-returns-then-least-gt0-clause-says t c =
+pub turns-returns-then-turns-gt0-clause-says : goal.turns-returns-then-turns-gt0-clause-says
+turns-returns-then-turns-gt0-clause-says t c =
     let text = c.args.text.now in
+    let body = c.args.body.now in
+    let turns = c.args.turns in
+    let ways = last_ways text (pattern_of body) in
+    let next = frame_ways text c.args.next.now in
     said c.pattern.result c.pattern.new.self _ _
-    (first_turn_is (length text) (last_ways text (pattern_of c.args.body.now)) (frame_ways text c.args.next.now) c.args.least c.saturating_sub.result c.args.most c.one_less.result c.args.greedy c.args.at c.if-least-gt0.true (sym c.if-is_less.ensures) c.saturating_sub.ensures c.one_less.ensures) c.pattern.ensures.says
+    (λ held. ap (λ rest. behind ways (behind (turns_ways text body rest) next) c.args.at held) c.behind_one.ensures
+    ∙ first_turn_is (length text) ways next turns.least turns.most turns.greedy c.args.at c.if-turns-gt0.true (sym c.if-are_none.ensures) held)
+    c.pattern.ensures.says
 
 pub turns-returns-then-is_some-clause-says : goal.turns-returns-then-is_some-clause-says
 turns-returns-then-is_some-clause-says t c =
     let text = c.args.text.now in
+    let body = c.args.body.now in
+    let turns = c.args.turns in
+    let ways = last_ways text (pattern_of body) in
+    let next = frame_ways text c.args.next.now in
     said c.prefer.result c.prefer.new.self _ _
-    (further_turn_is (length text) (last_ways text (pattern_of c.args.body.now)) (frame_ways text c.args.next.now) c.args.least c.saturating_sub.result c.args.most c.one_less.result c.args.greedy c.args.at
-    c.if-least-gt0.false c.saturating_sub.ensures c.one_less.ensures c.if-eq.ensures c.if-is_some.ensures)
+    (λ held. ap (λ rest. preferring turns.greedy (behind ways (behind (turns_ways text body rest) next)) next c.args.at held) c.behind_one.ensures
+    ∙ further_turn_is (length text) ways next turns.least turns.most turns.greedy c.args.at c.if-turns-gt0.false c.if-eq.ensures c.if-is_some.ensures held)
     c.prefer.ensures.says
 
 pub turns-returns-clause-says : goal.turns-returns-clause-says
 turns-returns-clause-says t c =
     let text = c.args.text.now in
+    let body = c.args.body.now in
+    let turns = c.args.turns in
+    let ways = last_ways text (pattern_of body) in
+    let next = frame_ways text c.args.next.now in
     said c.prefer-2.result c.prefer-2.new.self _ _
-    (any_turn_is text (pattern_of c.args.body.now) (frame_ways text c.args.next.now) c.args.least c.saturating_sub.result c.args.most c.one_less.result c.args.greedy c.args.at
-    c.if-least-gt0.false c.saturating_sub.ensures c.one_less.ensures c.if-is_some.ensures)
+    (λ held. ap (λ rest. preferring turns.greedy (behind ways (λ end held. if nat_lt c.args.at end then behind (turns_ways text body rest) next end held else [])) next c.args.at held) c.behind_one.ensures
+    ∙ any_turn_is text (pattern_of body) next turns.least turns.most turns.greedy c.args.at c.if-turns-gt0.false c.if-is_some.ensures held)
     c.prefer-2.ensures.says
 
-pub repeat-returns-then-greedy-clause-says : goal.repeat-returns-then-greedy-clause-says
-repeat-returns-then-greedy-clause-says t c =
+pub repeat-returns-then-turns-clause-says : goal.repeat-returns-then-turns-clause-says
+repeat-returns-then-turns-clause-says t c =
     let text = c.args.text.now in
     let next = frame_ways text c.args.next.now in
     let run = c.in-Some-run_of.run' in
     said c.longest_first.result c.longest_first.new.self _ _
-    (run_of_is (length text) (last_ways text (pattern_of c.args.body.now)) (step_where text (has_byte c.in-Some.set)) next c.args.least c.args.most c.args.greedy c.args.at (ends true next run.first run.more)
-    (c.in-Some.ensures text) (λ held. rw (← c.if-greedy.true) (c.in-Some-run_of.ensures.some c.args.greedy next held)))
+    (run_of_is (length text) (last_ways text (pattern_of c.args.body.now)) (step_where text (has_byte c.in-Some.set)) next c.args.turns.least c.args.turns.most c.args.turns.greedy c.args.at (ends true next run.first run.more)
+    (c.in-Some.ensures text) (λ held. rw (← c.if-turns.true) (c.in-Some-run_of.ensures.some c.args.turns.greedy next held)))
     c.longest_first.ensures.says
 
-pub repeat-returns-else-greedy-clause-says : goal.repeat-returns-else-greedy-clause-says
-repeat-returns-else-greedy-clause-says t c =
+pub repeat-returns-else-turns-clause-says : goal.repeat-returns-else-turns-clause-says
+repeat-returns-else-turns-clause-says t c =
     let text = c.args.text.now in
     let next = frame_ways text c.args.next.now in
     let run = c.in-Some-run_of.run' in
     said c.shortest_first.result c.shortest_first.new.self _ _
-    (run_of_is (length text) (last_ways text (pattern_of c.args.body.now)) (step_where text (has_byte c.in-Some.set)) next c.args.least c.args.most c.args.greedy c.args.at (ends false next run.first run.more)
-    (c.in-Some.ensures text) (λ held. rw (← c.if-greedy.false) (c.in-Some-run_of.ensures.some c.args.greedy next held)))
+    (run_of_is (length text) (last_ways text (pattern_of c.args.body.now)) (step_where text (has_byte c.in-Some.set)) next c.args.turns.least c.args.turns.most c.args.turns.greedy c.args.at (ends false next run.first run.more)
+    (c.in-Some.ensures text) (λ held. rw (← c.if-turns.false) (c.in-Some-run_of.ensures.some c.args.turns.greedy next held)))
     c.shortest_first.ensures.says
 
 pub longest_first-ends-preserved : goal.longest_first-ends-preserved

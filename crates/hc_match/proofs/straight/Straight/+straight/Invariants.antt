@@ -1,7 +1,4 @@
-use Rattle.std.proofs.Common.{◌≡◌, ◌≤◌, ◌+◌, ◌*◌, [], true, false}
-use Rattle.hc_ways.specs.Kept.{Held}
-use Rattle.hc_match.specs.Frames.{frame_ways}
-use Rattle.hc_match.specs.Runs.{ends}
+use Rattle.hc_match.proofs.Common.{◌≡◌, ◌≤◌, ◌+◌, ◌*◌, [], true, false, Held, frame_ways, ends}
 use Rattle.hc_match.proofs.straight.Straight.+straight.Given as goal
 
 abbrev pub decreases-go_on : goal.decreases-go_on

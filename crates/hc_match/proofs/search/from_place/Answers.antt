@@ -1,9 +1,6 @@
-use Rattle.std.proofs.Common.{ap}
-use Rattle.hc_pattern.specs.Pattern.{pattern_of}
-use Rattle.hc_ways.specs.Kept.{last_ways}
-use Rattle.hc_ways.proofs.Behind.{stop-behind}
+use Rattle.hc_match.proofs.Common.{ap, pattern_of, last_ways, stop-behind}
 use Rattle.hc_match.proofs.Saying.{said}
-use Rattle.hc_match.proofs.straight.Straight.from_place.Goals as goal
+use Rattle.hc_match.proofs.search.from_place.Goals as goal
 
 pub returns : goal.returns
 returns c =

@@ -1,7 +1,5 @@
-use Rattle.std.proofs.Common.{◌≡◌, ◌-◌, []}
-use Rattle.hc_pattern.specs.Pattern.{pattern_of}
-use Rattle.hc_ways.specs.Kept.{first_match, match_among}
-use Rattle.hc_match.proofs.straight.first_match.Given as goal
+use Rattle.hc_match.proofs.Common.{◌≡◌, ◌-◌, [], pattern_of, first_match, match_among}
+use Rattle.hc_match.proofs.search.first_match.Given as goal
 
 abbrev pub invariant-loop-from : goal.invariant-loop-from
 invariant-loop-from l = record {

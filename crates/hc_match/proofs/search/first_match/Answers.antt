@@ -1,7 +1,6 @@
-use Rattle.hc_pattern.specs.Pattern.{pattern_of}
-use Rattle.hc_ways.specs.Kept.{first_match, nothing_held}
+use Rattle.hc_match.proofs.Common.{pattern_of, first_match, nothing_held}
 use Rattle.hc_match.proofs.Places.{later}
-use Rattle.hc_match.proofs.straight.first_match.Goals as goal
+use Rattle.hc_match.proofs.search.first_match.Goals as goal
 
 pub loop-from-preserved : goal.loop-from-preserved
 loop-from-preserved c =

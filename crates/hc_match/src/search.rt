@@ -1,0 +1,90 @@
+//! A straight search from each place of a text.
+ghost use Rattle.std.specs.Prelude.{◌≡◌, [], IfOk, IfSome};
+ghost use Rattle.hc_pattern.specs.Pattern.{pattern_of};
+ghost use Rattle.hc_ways.specs.Kept.{first_match, held_by, last_ways, match_among, nothing_held};
+ghost use Rattle.hc_match.specs.Single.{BeginsIn};
+ghost use Rattle.hc_match.specs.Settings.{captured, held_over};
+ghost use Rattle.hc_match.specs.Frames.{Says, Tells};
+
+use crate::captures::{Captures, Setting};
+use crate::frame::{Frame, Trial, Tried};
+use crate::single::is_in_class;
+use crate::start::{begins_at_start, first_bytes};
+use crate::straight::Straight;
+use hc_base::NoMemory;
+use hc_pattern::{ByteSet, Pat};
+use std::alloc::Global;
+
+/// What came of a search.
+#[derive(Drop)]
+pub enum Searched {
+    Match(Captures),
+    NoMatch,
+    /// The steps were used up.
+    GaveUp,
+}
+
+// A search has so many steps: each takes a call, and so they bound the stack.
+const MOST_STEPS: u32 = 4096;
+
+/// The first match, where so many steps are enough.
+pub fn first_match(alloc: Global, pat: &Pat, text: &[u8]) -> Result<Searched, NoMemory>
+    ensures { IfOk result (λ searched. Tells searched (first_match text.now (pattern_of pat.now))) }
+{
+    let mut search = Straight {
+        steps: MOST_STEPS,
+        end: 0,
+        settings: Vec::new(alloc),
+    };
+    let starts = first_bytes(pat);
+    for from in 0..places(pat, text) {
+        match from_place(&mut search, text, pat, starts, from)? {
+            Tried::Matched => return Ok(Searched::Match(captures(search, from)?)),
+            Tried::Failed => {}
+            Tried::GaveUp => return Ok(Searched::GaveUp),
+        }
+    }
+    Ok(Searched::NoMatch)
+}
+
+// At how many places a match may begin.
+fn places(pat: &Pat, text: &[u8]) -> usize
+    ensures { match_among text.now (pattern_of pat.now) result 0 ≡ first_match text.now (pattern_of pat.now) }
+{
+    if begins_at_start(pat) {
+        1
+    } else {
+        text.len() + 1
+    }
+}
+
+// The pattern from this place, where its first byte may be one of these alone.
+fn from_place(
+    search: &mut Straight,
+    text: &[u8],
+    pat: &Pat,
+    starts: Option<ByteSet>,
+    from: usize,
+) -> Trial
+    requires unset { search.old.settings.items ≡ [] }
+    requires starts { IfSome starts (λ set. BeginsIn set (pattern_of pat.now)) }
+    ensures { IfOk result (λ tried. Says tried search.new (last_ways text.now (pattern_of pat.now) from)) }
+{
+    if let Some(set) = starts {
+        if !is_in_class(text, from, set) {
+            return Ok(Tried::Failed);
+        }
+    }
+    search.pattern(text, pat, &Frame::End, from)
+}
+
+// What the groups hold after a match from this place.
+fn captures(search: Straight, from: usize) -> Result<Captures, NoMemory>
+    ensures { IfOk result (λ captures. captured captures
+        ≡ held_by from (record { end = search.end; held = held_over nothing_held search.settings.items })) }
+{
+    let whole = Setting::to(0, from, search.end)?;
+    let mut settings = search.settings;
+    settings.insert(0, whole)?;
+    Ok(Captures::of(settings))
+}
