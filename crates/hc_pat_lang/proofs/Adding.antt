@@ -1,11 +1,5 @@
 -- How a machine grows by what is pushed.
-use Rattle.std.proofs.Common.{◌≡◌, ℕ, ◌+◌, ◌<◌, ◌≤◌, ◌⊎◌, List, [], ◌∷◌, ◌++◌, true, false, refl, sym, ◌∙◌, ap, subst, inl, inr, arith}
-use Rattle.std.specs.List.{Contains}
-use Rattle.std.proofs.lemmas.List.Elements.{Contains-append_left, Contains-push, Contains-push_cases}
-use Rattle.hc_dfa.specs.Automata.{Automaton, next_state, is_final}
-use Rattle.hc_dfa.specs.Machines.{Steps}
-use Rattle.hc_dfa.specs.declared.machine.ReadingStep.{ReadingStep}
-use Rattle.hc_dfa.specs.declared.machine.SilentStep.{SilentStep}
+use Rattle.hc_pat_lang.proofs.Common.{◌≡◌, ℕ, ◌+◌, ◌≤◌, ◌⊎◌, List, [], ◌∷◌, ◌++◌, true, false, refl, sym, ◌∙◌, ap, subst, inl, inr, arith, Contains, Contains-append_left, Contains-push, Contains-push_cases, Automaton, next_state, is_final, Steps, Reads, ReadingStep, SilentStep}
 use Rattle.hc_pat_lang.specs.Added.{IsMore, AddsReading, AddsSilent, AddsFinals, IsExitBelow, LeadsBelow, LeadsOn, IsRowBelow, IsFinalBelow, IsRun}
 use Rattle.hc_pat_lang.specs.declared.table.Lead.{Lead}
 
@@ -36,6 +30,18 @@ more_pushed {A} old mid new y Is Later more pushed kept here split = record {
     back : (x : A) → Contains (mid ++ y ∷ []) x → Contains new x
     back x = subst (λ (xs : List A). Contains xs x) (sym pushed)
 
+pub silent_pushed : (old mid new : Steps) (step : SilentStep) (Is Later : SilentStep → Type 0) → AddsSilent old mid Is → new ≡ record mid { silent = mid.silent ++ step ∷ [] }
+    → ((x : SilentStep) → Is x → Later x) → Later step → ((x : SilentStep) → Later x → Is x ⊎ (step ≡ x)) → AddsSilent old new Later
+silent_pushed old mid new step Is Later before pushed kept here split =
+    let same = before.same in
+    record { same = cc; more = more_pushed _ _ _ step Is Later before.more (ap (λ (m : Steps). m.silent) pushed) kept here split }
+
+pub finals_pushed : (old mid new : Steps) (state : ℕ) (Is Later : ℕ → Type 0) → AddsFinals old mid Is → new ≡ record mid { finals = mid.finals ++ state ∷ [] }
+    → ((x : ℕ) → Is x → Later x) → Later state → ((x : ℕ) → Later x → Is x ⊎ (state ≡ x)) → AddsFinals old new Later
+finals_pushed old mid new state Is Later before pushed kept here split =
+    let same = before.same in
+    record { same = cc; more = more_pushed _ _ _ state Is Later before.more (ap (λ (m : Steps). m.finals) pushed) kept here split }
+
 -- ---- reading steps
 
 pub reads_more : (old mid new : Steps) (Leads More All : ℕ → ℕ → ℕ → Type 0) → AddsReading old mid Leads → AddsReading mid new More
@@ -54,6 +60,23 @@ reads_more old mid new Leads More All first second left right split = record {
   ];
 }
 
+-- What is there of a list that gets one more, and of a list that is the same.
+pub reads_same : (m n : Steps) (i byte j : ℕ) → m.reading ≡ n.reading → Reads m i byte j → Reads n i byte j
+reads_same m n i byte j same is = (let among = rw same at is.among in search)
+
+pub reads_kept : (m n : Steps) (step : ReadingStep) (i byte j : ℕ) → n.reading ≡ m.reading ++ step ∷ [] → Reads m i byte j → Reads n i byte j
+reads_kept m n step i byte j pushed is = (let among : Contains n.reading is.step = rw pushed (Contains-append_left m.reading (step ∷ []) is.step is.among) in search)
+
+-- What is more leads so in other words.
+pub reads_as : (old new : Steps) (Leads Other : ℕ → ℕ → ℕ → Type 0) → AddsReading old new Leads
+    → ((from byte to : ℕ) → Leads from byte to → Other from byte to) → ((from byte to : ℕ) → Other from byte to → Leads from byte to) → AddsReading old new Other
+reads_as old new Leads Other adds to from = record {
+  same = adds.same;
+  keeps = adds.keeps;
+  adds = λ i byte j is. adds.adds i byte j (from i byte j is);
+  only = λ i byte j reads. elim (adds.only i byte j reads) [ inl before ↦ inl before | inr is ↦ inr (to i byte j is) ];
+}
+
 -- The step leads so.
 pub record IsBy (step : ReadingStep) (from byte to : ℕ) : Type 0 where
   pub leaves : step.from ≡ from
@@ -61,41 +84,18 @@ pub record IsBy (step : ReadingStep) (from byte to : ℕ) : Type 0 where
   pub high : byte ≤ step.high
   pub enters : step.to ≡ to
 
-pub reads_pushed : (old new : Steps) (step : ReadingStep) → new ≡ record old { reading = old.reading ++ step ∷ [] } → AddsReading old new (IsBy step)
-reads_pushed old new step pushed = record {
-  same = pushed ∙ ap (λ (steps : List ReadingStep). record old { reading = steps }) (sym steps);
-  keeps = λ from byte to reads. record {
-    step = reads.step;
-    among = back reads.step (Contains-append_left old.reading (step ∷ []) reads.step reads.among);
-    leaves = reads.leaves;
-    low = reads.low;
-    high = reads.high;
-    enters = reads.enters;
-  };
-  adds = λ from byte to by. record {
-    step = step;
-    among = back step (Contains-push old.reading step);
-    leaves = by.leaves;
-    low = by.low;
-    high = by.high;
-    enters = by.enters;
-  };
-  only = λ from byte to reads. elim (Contains-push_cases old.reading step reads.step (subst (λ (xs : List ReadingStep). Contains xs reads.step) steps reads.among)) [
-    | inl before ↦ inl (record { step = reads.step; among = before; leaves = reads.leaves; low = reads.low; high = reads.high; enters = reads.enters })
-    | inr e ↦ inr (record {
-      leaves = ap (λ (s : ReadingStep). s.from) e ∙ reads.leaves;
-      low = (let f = ap (λ (s : ReadingStep). s.low) e in let l = reads.low in omega arith);
-      high = (let f = ap (λ (s : ReadingStep). s.high) e in let h = reads.high in omega arith);
-      enters = ap (λ (s : ReadingStep). s.to) e ∙ reads.enters;
-    })
-  ];
-}
-  where
-    steps : new.reading ≡ old.reading ++ step ∷ []
-    steps = ap (λ (m : Steps). m.reading) pushed
+pub reads_cases : (m n : Steps) (step : ReadingStep) (i byte j : ℕ) → n.reading ≡ m.reading ++ step ∷ [] → Reads n i byte j → Reads m i byte j ⊎ IsBy step i byte j
+reads_cases m n step i byte j pushed is = (let cases = Contains-push_cases m.reading step is.step (rw pushed at is.among) in grind arith)
 
-    back : (x : ReadingStep) → Contains (old.reading ++ step ∷ []) x → Contains new.reading x
-    back x = subst (λ (xs : List ReadingStep). Contains xs x) (sym steps)
+pub reads_pushed : (old new : Steps) (step : ReadingStep) → new ≡ record old { reading = old.reading ++ step ∷ [] } → AddsReading old new (IsBy step)
+reads_pushed old new step pushed =
+    let steps : new.reading ≡ old.reading ++ step ∷ [] = ap (λ (m : Steps). m.reading) pushed in
+    record {
+      same = cc;
+      keeps = λ from byte to reads. reads_kept old new step from byte to steps reads;
+      adds = λ from byte to by. record { step = step; among = rw steps (Contains-push old.reading step); leaves = by.leaves; low = by.low; high = by.high; enters = by.enters };
+      only = λ from byte to reads. reads_cases old new step from byte to steps reads;
+    }
 
 -- ---- rows of an automaton
 
@@ -105,105 +105,31 @@ pub run_added : (a : Automaton) (lead : Lead) (low at last : ℕ) (old mid new :
     → step ≡ record { from = lead.from; low = at; high = last; to = lead.offset + next_state a lead.state at }
     → AddsReading old new (LeadsBelow a lead low (last + 1))
 run_added a lead low at last old mid new step before pushed run within is =
-    reads_more old mid new _ _ _ before (reads_pushed mid new step pushed)
-    (λ from byte to leads. record { leaves = leads.leaves; above = leads.above; below = (let b = leads.below in let r = run.some in omega arith); enters = leads.enters })
-    (λ from byte to by.
-    let low_is : step.low ≡ at = ap (λ (s : ReadingStep). s.low) is in
-    let high_is : step.high ≡ last = ap (λ (s : ReadingStep). s.high) is in
-    let above : at ≤ byte = (let l = by.low in omega arith) in
-    let below : byte ≤ last = (let h = by.high in omega arith) in
-    record {
-      leaves = sym by.leaves ∙ ap (λ (s : ReadingStep). s.from) is;
-      above = omega arith;
-      below = omega arith;
-      enters = sym by.enters ∙ ap (λ (s : ReadingStep). s.to) is ∙ ap (λ (n : ℕ). lead.offset + n) (sym (run.alike byte above below));
-    })
-    (λ from byte to leads.
-    let cases : (byte < at) ⊎ (at ≤ byte) = grind arith in
-    elim cases [
-      | inl less ↦ inl (record { leaves = leads.leaves; above = leads.above; below = less; enters = leads.enters })
-      | inr more ↦ inr (
-          let below : byte ≤ last = (let b = leads.below in omega arith) in
-          record {
-            leaves = ap (λ (s : ReadingStep). s.from) is ∙ sym leads.leaves;
-            low = (let e = ap (λ (s : ReadingStep). s.low) is in omega arith);
-            high = (let e = ap (λ (s : ReadingStep). s.high) is in omega arith);
-            enters = ap (λ (s : ReadingStep). s.to) is ∙ ap (λ (n : ℕ). lead.offset + n) (sym (run.alike byte more below)) ∙ sym leads.enters;
-          })
-    ])
+    reads_more old mid new _ _ _ before (reads_pushed mid new _ (rw is at pushed)) (λ from byte to leads. let some = run.some in grind arith)
+    (λ from byte to by. let alike = run.alike byte by.low by.high in grind arith) (λ from byte to leads. let alike = run.alike byte in grind arith)
 
 -- A row more.
 pub row_added : (a : Automaton) (offset count : ℕ) (old mid new : Steps) → AddsReading old mid (IsRowBelow a offset count)
     → AddsReading mid new (LeadsOn a (record { from = offset + count; state = count; offset = offset }) 0 255) → AddsReading old new (IsRowBelow a offset (count + 1))
 row_added a offset count old mid new before added =
-    reads_more old mid new _ _ _ before added
-    (λ from byte to row. record { state = row.state; below = (let b = row.below in omega arith); leads = row.leads })
-    (λ from byte to leads. record { state = count; below = omega arith; leads = leads })
-    (λ from byte to row.
-    let cases : (row.state < count) ⊎ (row.state ≡ count) = (let b = row.below in grind arith) in
-    elim cases [
-      | inl less ↦ inl (record { state = row.state; below = less; leads = row.leads })
-      | inr e ↦ inr (subst (λ (s : ℕ). LeadsOn a (record { from = offset + s; state = s; offset = offset }) 0 255 from byte to) e row.leads)
-    ])
+    reads_more old mid new _ _ _ before added (λ from byte to is. grind arith) (λ from byte to leads. record { state = count; below = omega arith; leads = leads }) (λ from byte to is. grind arith)
 
 -- ---- final states of an automaton
 
-final_cases : (a : Automaton) (offset count : ℕ) (x : ℕ) → IsFinalBelow a offset (count + 1) x → IsFinalBelow a offset count x ⊎ ((is_final a count ≡ true) × (offset + count ≡ x))
-final_cases a offset count x is =
-    let cases : (is.state < count) ⊎ (is.state ≡ count) = (let b = is.below in grind arith) in
-    elim cases [
-      | inl less ↦ inl (record { state = is.state; below = less; here = is.here; final = is.final })
-      | inr e ↦ inr (subst (λ (s : ℕ). is_final a s ≡ true) e is.final, (let h = is.here in omega arith))
-    ]
-
-final_later : (a : Automaton) (offset count : ℕ) (x : ℕ) → IsFinalBelow a offset count x → IsFinalBelow a offset (count + 1) x
-final_later a offset count x is = record { state = is.state; below = (let b = is.below in omega arith); here = is.here; final = is.final }
-
 pub final_passed : (a : Automaton) (offset count : ℕ) (old mid : Steps) → AddsFinals old mid (IsFinalBelow a offset count) → is_final a count ≡ false → AddsFinals old mid (IsFinalBelow a offset (count + 1))
-final_passed a offset count old mid before isnt = record {
-  same = before.same;
-  more = more_as _ _ _ _ before.more (final_later a offset count)
-      (λ x is. elim (final_cases a offset count x is) [ inl less ↦ less | inr here ↦ absurd (let f = isnt in let t = here.0 in cc) ]);
-}
+final_passed a offset count old mid before isnt = record { same = before.same; more = more_as _ _ _ _ before.more (λ x is. grind arith) (λ x is. grind arith) }
 
 pub final_added : (a : Automaton) (offset count : ℕ) (old mid new : Steps) → AddsFinals old mid (IsFinalBelow a offset count) → is_final a count ≡ true
     → new ≡ record mid { finals = mid.finals ++ (offset + count) ∷ [] } → AddsFinals old new (IsFinalBelow a offset (count + 1))
 final_added a offset count old mid new before is pushed =
-    let finals : new.finals ≡ mid.finals ++ (offset + count) ∷ [] = ap (λ (m : Steps). m.finals) pushed in
-    record {
-      same = pushed ∙ ap (λ (m : Steps). record m { finals = mid.finals ++ (offset + count) ∷ [] }) before.same ∙ ap (λ (xs : List ℕ). record old { finals = xs }) (sym finals);
-      more = more_pushed _ _ _ (offset + count) _ _ before.more finals (final_later a offset count)
-          (record { state = count; below = omega arith; here = refl; final = is })
-          (λ x later. elim (final_cases a offset count x later) [ inl less ↦ inl less | inr here ↦ inr here.1 ]);
-    }
+    finals_pushed old mid new _ _ _ before pushed (λ x is. grind arith) (record { state = count; below = omega arith; here = refl; final = is }) (λ x is. grind arith)
 
 -- ---- silent steps from final states
 
-exit_later : (a : Automaton) (end count : ℕ) (step : SilentStep) → IsExitBelow a end count step → IsExitBelow a end (count + 1) step
-exit_later a end count step is = record { leaves = final_later a 0 count step.from is.leaves; enters = is.enters }
-
 pub exit_passed : (a : Automaton) (end count : ℕ) (old mid : Steps) → AddsSilent old mid (IsExitBelow a end count) → is_final a count ≡ false → AddsSilent old mid (IsExitBelow a end (count + 1))
-exit_passed a end count old mid before isnt = record {
-  same = before.same;
-  more = more_as _ _ _ _ before.more (exit_later a end count)
-      (λ step is. elim (final_cases a 0 count step.from is.leaves) [
-        | inl less ↦ record { leaves = less; enters = is.enters }
-        | inr here ↦ absurd (let f = isnt in let t = here.0 in cc)
-      ]);
-}
+exit_passed a end count old mid before isnt = record { same = before.same; more = more_as _ _ _ _ before.more (λ step is. grind arith) (λ step is. grind arith) }
 
 pub exit_added : (a : Automaton) (end count : ℕ) (old mid new : Steps) → AddsSilent old mid (IsExitBelow a end count) → is_final a count ≡ true
     → new ≡ record mid { silent = mid.silent ++ record { from = count; to = end } ∷ [] } → AddsSilent old new (IsExitBelow a end (count + 1))
 exit_added a end count old mid new before is pushed =
-    let step : SilentStep = record { from = count; to = end } in
-    let silent : new.silent ≡ mid.silent ++ step ∷ [] = ap (λ (m : Steps). m.silent) pushed in
-    record {
-      same = pushed ∙ ap (λ (m : Steps). record m { silent = mid.silent ++ step ∷ [] }) before.same ∙ ap (λ (xs : List SilentStep). record old { silent = xs }) (sym silent);
-      more = more_pushed _ _ _ step _ _ before.more silent (exit_later a end count)
-          (record { leaves = record { state = count; below = omega arith; here = omega arith; final = is }; enters = refl })
-          (λ x later. elim (final_cases a 0 count x.from later.leaves) [
-            | inl less ↦ inl (record { leaves = less; enters = later.enters })
-            | inr here ↦ inr (let from : count ≡ x.from = (let h = here.1 in omega arith) in let to : end ≡ x.to = sym later.enters in
-                let both : step ≡ record { from = x.from; to = x.to } = cc in both)
-          ]);
-    }
+    silent_pushed old mid new _ _ _ before pushed (λ step is. grind arith) (record { leaves = record { state = count; below = omega arith; here = omega arith; final = is }; enters = refl }) (λ step is. grind arith)

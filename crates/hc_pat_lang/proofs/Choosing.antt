@@ -1,24 +1,9 @@
 -- The ways with a chosen turn through a marked text, by those of the pattern through the text without marks.
-use Rattle.std.proofs.Common.{◌≡◌, ℕ, zero, suc, ◌-◌, ◌<◌, ◌≤◌, ◌⊎◌, Bool, true, false, List, [], ◌∷◌, ◌++◌, length, if◌then◌else◌, nat_lt, nat_eq, Some, None, slice_get, refl, sym, ◌∙◌, ap, subst, inl, inr, arith, eqb-true}
-use Rattle.std.specs.List.{AllByRecursion, Contains}
-use Rattle.std.proofs.lemmas.List.Elements.{Contains-append_left, Contains-push}
-use Rattle.hc_base.specs.declared.place.Span.{Span}
-use Rattle.hc_pattern.specs.Pattern.{Pattern, empty, byte, class, start, finish, cat, alt, group, repeat}
-use Rattle.hc_ways.specs.Ways.{Way, Ways, none, stop, behind, either, closed, grouped, preferred, moving, any_turns, turns_up_to, turns_then}
-use Rattle.hc_ways.specs.Kept.{Turns, all_ways, with_turn}
-use Rattle.hc_ways.proofs.Behind.{behind-behind, behind-preferred, behind-stop, turn_or_next}
-use Rattle.hc_ways.proofs.Turns.{Bounded, any_turns_is, bounded}
-use Rattle.hc_pat_lang.specs.Fragments.{Exists}
-use Rattle.hc_pat_lang.specs.Turned.{chosen_any, chosen_behind, chosen_then, chosen_up_to, chosen_ways, part_ways, seen}
-use Rattle.hc_pat_lang.specs.declared.gates.Part.{Part}
-use Rattle.hc_pat_lang.specs.declared.gates.Part.TheVariants.{Outside, Inside}
-use Rattle.hc_pat_lang.proofs.Parts.{exists_as, exists_with, exists_left, exists_right, exists_cases, to_flat, from_flat, to_mapped, to_filtered, from_filtered, exists_among, among_exists}
-use Rattle.hc_pat_lang.proofs.Seeing.{Grown, IsSeen, Sees, SeesOn, sees_any, sees_moving, sees_part, sees_then, sees_up_to}
+use Rattle.hc_pat_lang.proofs.Common.{◌≡◌, ℕ, zero, suc, ◌-◌, ◌≤◌, Bool, true, false, List, [], ◌∷◌, ◌++◌, length, if◌then◌else◌, nat_lt, nat_eq, Some, None, slice_get, refl, sym, ◌∙◌, ap, subst, inl, inr, arith, eqb-true, Contains, Contains-append_left, Contains-push, Span, Pattern, cat, alt, group, repeat, Way, Ways, none, behind, either, closed, grouped, preferred, moving, any_turns, turns_up_to, turns_then, Turns, all_ways, with_turn, behind-behind, behind-preferred, behind-stop, turn_or_next, Bounded, any_turns_is, bounded, Exists, chosen_any, chosen_behind, chosen_then, chosen_up_to, chosen_ways, part_ways, seen, GroupPart, Outside, Inside}
+use Rattle.hc_pat_lang.proofs.Parts.{some_filtered, some_mapped, exists_as, exists_with, exists_left, exists_right, exists_cases, to_flat, from_flat, some_preferred, some_turn_or_next}
+use Rattle.hc_pat_lang.proofs.Seeing.{Grown, IsSeen, seen_over, Sees, SeesOn, sees_any, sees_moving, sees_part, sees_then, sees_up_to}
 
-pub all_among : {A : Type 0} (P : A → Type 0) (xs : List A) (x : A) → AllByRecursion P xs → Contains xs x → P x
-all_among {A} P xs x all among = (exists_among (λ (y : A). P x) xs (exists_with P (λ (y : A). y ≡ x) (λ (y : A). P x) xs all (λ y here e. subst P e here) (among_exists (λ (y : A). y ≡ x) xs x among refl))).2
-
-module _ (marked text : List ℕ) (same : length marked ≡ length text) (reads : (part : Part) (k b : ℕ) → seen part marked k ≡ Some b → slice_get text k ≡ Some b) (number : ℕ) where
+module _ (marked text : List ℕ) (same : length marked ≡ length text) (reads : (part : GroupPart) (k b : ℕ) → seen part marked k ≡ Some b → slice_get text k ≡ Some b) (number : ℕ) where
   abbrev pub SeenOutside : ℕ → ℕ → Type 0
   SeenOutside at end = SeesOn Outside marked text same (reads Outside) at end
 
@@ -50,18 +35,16 @@ module _ (marked text : List ℕ) (same : length marked ≡ length text) (reads 
   pub fresh : (other : Turns) (x : ℕ × Span) → Contains other x → false ≡ false
   fresh other x among = refl
 
-  chosen_later : (at : ℕ) (held : Turns) (way later : Way Turns) → Grown text way.end way.held later → Chosen at way → SeenOutside way.end later.end → Chosen at later
-  chosen_later at held way later grown chosen seen_on = record {
+  chosen_later : (at : ℕ) (way later : Way Turns) → way.end ≤ later.end → ((x : ℕ × Span) → Contains way.held x → Contains later.held x) → Chosen at way → SeenOutside way.end later.end → Chosen at later
+  chosen_later at way later ordered keeps chosen seen_on = record {
     span = chosen.span;
     begins = chosen.begins;
     runs = chosen.runs;
-    ends = (let a = chosen.ends in let b = grown.ordered in omega arith);
+    ends = (let a = chosen.ends in omega arith);
     before = chosen.before;
     inside = chosen.inside;
-    after = λ k past below.
-        let cases : (k < way.end) ⊎ (way.end ≤ k) = grind arith in
-        elim cases [ inl less ↦ chosen.after k past less | inr more ↦ seen_on k more below ];
-    turn = grown.keeps _ chosen.turn;
+    after = seen_over Outside marked text same (reads Outside) chosen.span.end way.end later.end chosen.after seen_on;
+    turn = keeps _ chosen.turn;
   }
 
   chosen_earlier : (at : ℕ) (way later : Way Turns) → at ≤ way.end → SeenOutside at way.end → Chosen way.end later → Chosen at later
@@ -70,9 +53,7 @@ module _ (marked text : List ℕ) (same : length marked ≡ length text) (reads 
     begins = (let a = chosen.begins in omega arith);
     runs = chosen.runs;
     ends = chosen.ends;
-    before = λ k past below.
-        let cases : (k < way.end) ⊎ (way.end ≤ k) = grind arith in
-        elim cases [ inl less ↦ seen_on k past less | inr more ↦ chosen.before k more below ];
+    before = seen_over Outside marked text same (reads Outside) at way.end chosen.span.start seen_on chosen.before;
     inside = chosen.inside;
     after = chosen.after;
     turn = chosen.turn;
@@ -85,7 +66,7 @@ module _ (marked text : List ℕ) (same : length marked ≡ length text) (reads 
         (exists_with (Grown text at other) _ _ (b1 at other) (first.grown at other within)
         (λ way grown here.
         exists_with (Grown text way.end way.held) _ _ (b2 way.end way.held) (second.grown way.end way.held grown.within)
-        (λ later on there. (chosen_later at other way later on here.0 there.0.0, there.1))
+        (λ later on there. (chosen_later at way later on.ordered on.keeps here.0 there.0.0, there.1))
         (here.1 grown.within way.held))
         (chosen at one other
         (λ end. end ≤ length text → (held : Turns) → Exists (λ (later : Way Turns). IsSeen Outside marked text same (reads Outside) end later × P later.end) (b2 end held)) within
@@ -108,19 +89,15 @@ module _ (marked text : List ℕ) (same : length marked ≡ length text) (reads 
 
   to_moving : (a b : Ways Turns) → ToChosen a b → ToChosen (moving a) (moving b)
   to_moving a b chosen at one other P within some =
-      to_filtered _ (λ way. nat_lt at way.end) (b at other)
+      (some_filtered _ (λ way. nat_lt at way.end) (b at other)).1
       (exists_as _ _ (b at other) (λ way here. ((here.0, here.1.0), here.1.1))
-      (chosen at one other (λ end. P end × (nat_lt at end ≡ true)) within (from_filtered _ (λ way. nat_lt at way.end) (a at one) some)))
-
-  to_turn : (P : Way Turns → Type 0) (greedy : Bool) (turn : Ways Turns) (at : ℕ) (held : Turns) → Exists P (turn at held) → Exists P (preferred greedy turn at held)
-  to_turn P true turn at held some = exists_left P (turn at held) (stop at held) some
-  to_turn P false turn at held some = inr some
+      (chosen at one other (λ end. P end × (nat_lt at end ≡ true)) within ((some_filtered _ (λ way. nat_lt at way.end) (a at one)).0 some)))
 
   to_up_to : (greedy : Bool) (l a b : Ways Turns) (most : ℕ) → SeesAll l b → ToChosen a b → ToChosen (chosen_up_to greedy l a most) (turns_up_to greedy b most)
   to_up_to greedy l a b zero first chosen at one other P within some = absurd some
   to_up_to greedy l a b (suc most) first chosen at one other P within some =
-      to_turn _ greedy (behind b (turns_up_to greedy b most)) at other
-      (to_behind l a _ _ b _ first chosen (sees_up_to Outside marked text same (reads Outside) greedy l b most first) (to_up_to greedy l a b most first chosen) at one other P within some)
+      (some_preferred _ greedy (behind b (turns_up_to greedy b most)) at other).1
+      (inl (to_behind l a _ _ b _ first chosen (sees_up_to Outside marked text same (reads Outside) greedy l b most first) (to_up_to greedy l a b most first chosen) at one other P within some))
 
   to_then : (l a b : Ways Turns) (least : ℕ) (rest chosen_rest others : Ways Turns) → SeesAll l b → ToChosen a b → SeesAll rest others → ToChosen chosen_rest others
       → ToChosen (chosen_then l a least rest chosen_rest) (turns_then b least others)
@@ -135,17 +112,17 @@ module _ (marked text : List ℕ) (same : length marked ≡ length text) (reads 
     abbrev rest : Ways Turns
     rest = any_turns greedy l (length marked)
 
-    pub others_is : others ≡ preferred greedy (behind (moving b) others)
+    others_is : others ≡ preferred greedy (behind (moving b) others)
     others_is = any_turns_is text greedy b all_bounded
 
     pub sees_rest : SeesAll rest others
     sees_rest = subst (λ (n : ℕ). SeesAll rest (any_turns greedy b n)) same (sees_any Outside marked text same (reads Outside) greedy l b (length marked) all_first)
 
-    pub sees_moved : SeesAll (moving l) (moving b)
+    sees_moved : SeesAll (moving l) (moving b)
     sees_moved = sees_moving Outside marked text same (reads Outside) l b all_first
 
     to_others : (P : Way Turns → Type 0) (at : ℕ) (held : Turns) → Exists P (behind (moving b) others at held) → Exists P (others at held)
-    to_others P at held some = subst (λ (w : Ways Turns). Exists P (w at held)) (sym others_is) (to_turn P greedy (behind (moving b) others) at held some)
+    to_others P at held some = subst (λ (w : Ways Turns). Exists P (w at held)) (sym others_is) ((some_preferred P greedy (behind (moving b) others) at held).1 (inl some))
 
     to_any_here : ToChosen a b → ToChosen (behind (moving a) rest) others
     to_any_here chosen at one other P within some = to_others _ at other (to_first (moving l) (moving a) rest rest (moving b) others sees_moved (to_moving a b chosen) sees_rest at one other P within some)
@@ -154,24 +131,15 @@ module _ (marked text : List ℕ) (same : length marked ≡ length text) (reads 
     to_any_from zero chosen at one other P within some =
         to_any_here chosen at one other P within (subst (λ (w : Ways Turns). Exists (λ (way : Way Turns). P way.end) (w at one)) (behind-stop (behind (moving a) rest)) some)
     to_any_from (suc k) chosen at one other P within some =
-        by_greed greedy (subst (λ (w : Ways Turns). Exists (λ (way : Way Turns). P way.end) (w at one))
-        (behind-preferred greedy (behind (moving l) (any_turns greedy l k)) (behind (moving a) rest)
-        ∙ ap (λ (w : Ways Turns). turn_or_next greedy w (behind (moving a) rest)) (behind-behind (moving l) (any_turns greedy l k) (behind (moving a) rest))) some)
-        (λ turned. to_others _ at other (to_second (moving l) (moving a) rest _ (moving b) others sees_moved (to_any_from k chosen) at one other P within turned))
-      where
-        by_greed : (g : Bool) → Exists (λ (way : Way Turns). P way.end) (turn_or_next g (behind (moving l) (behind (any_turns greedy l k) (behind (moving a) rest))) (behind (moving a) rest) at one)
-            → (Exists (λ (way : Way Turns). P way.end) (behind (moving l) (behind (any_turns greedy l k) (behind (moving a) rest)) at one) → Exists (λ (way : Way Turns). Chosen at way × P way.end) (others at other))
-            → Exists (λ (way : Way Turns). Chosen at way × P way.end) (others at other)
-        by_greed true here next = elim (exists_cases _ (behind (moving l) (behind (any_turns greedy l k) (behind (moving a) rest)) at one) (behind (moving a) rest at one) here) [
-          | inl turned ↦ next turned
+        let next = behind (moving a) rest in
+        let more = behind (any_turns greedy l k) next in
+        let same_ways = behind-preferred greedy (behind (moving l) (any_turns greedy l k)) next ∙ ap (λ (w : Ways Turns). turn_or_next greedy w next) (behind-behind (moving l) (any_turns greedy l k) next) in
+        elim ((some_turn_or_next _ greedy (behind (moving l) more) next at one).0 (subst (λ (w : Ways Turns). Exists (λ (way : Way Turns). P way.end) (w at one)) same_ways some)) [
+          | inl turned ↦ to_others _ at other (to_second (moving l) (moving a) rest more (moving b) others sees_moved (to_any_from k chosen) at one other P within turned)
           | inr own ↦ to_any_here chosen at one other P within own
         ]
-        by_greed false here next = elim (exists_cases _ (behind (moving a) rest at one) (behind (moving l) (behind (any_turns greedy l k) (behind (moving a) rest)) at one) here) [
-          | inl own ↦ to_any_here chosen at one other P within own
-          | inr turned ↦ next turned
-        ]
 
-    pub to_any : ToChosen a b → ToChosen (chosen_any greedy l a (length marked)) others
+    to_any : ToChosen a b → ToChosen (chosen_any greedy l a (length marked)) others
     to_any chosen = to_any_from (length marked) chosen
 
   to_if : (v : Bool) (a b : Ways Turns) → ToChosen a b → ToChosen (if v then none else a) (if v then none else b)
@@ -184,27 +152,15 @@ module _ (marked text : List ℕ) (same : length marked ≡ length text) (reads 
     where
       inner : ToChosen (chosen_ways number marked body) (grouped with_turn own (all_ways text body))
       inner at one other P within some =
-          to_mapped _ (closed with_turn own at) (all_ways text body at other)
+          (some_mapped _ (closed with_turn own at) (all_ways text body at other)).1
           (exists_as _ _ (all_ways text body at other)
-          (λ way here. (
-            record {
-              span = here.0.span;
-              begins = here.0.begins;
-              runs = here.0.runs;
-              ends = here.0.ends;
-              before = here.0.before;
-              inside = here.0.inside;
-              after = here.0.after;
-              turn = Contains-append_left way.held _ _ here.0.turn;
-            },
-            here.1,
-          ))
+          (λ way here. (chosen_later at way (closed with_turn own at way) (omega arith) (λ x. Contains-append_left way.held _ x) here.0 (λ k past below. absurd (omega arith)), here.1))
           (chosen at one other P within some))
 
       whole : own ≡ number → ToChosen (part_ways Inside marked body) (grouped with_turn own (all_ways text body))
       whole same_number at one other P within some =
           let sees = sees_part Inside marked text same (reads Inside) body in
-          to_mapped _ (closed with_turn own at) (all_ways text body at other)
+          (some_mapped _ (closed with_turn own at) (all_ways text body at other)).1
           (exists_with (Grown text at other) _ _ (all_ways text body at other) (sees.grown at other within)
           (λ way grown here. (
             record {
@@ -229,11 +185,6 @@ module _ (marked text : List ℕ) (same : length marked ≡ length text) (reads 
       by_test false e at one other P within some = inner at one other P within some
 
   pub to_chosen : (pattern : Pattern) → ToChosen (chosen_ways number marked pattern) (all_ways text pattern)
-  to_chosen empty = λ at one other P within some. absurd some
-  to_chosen (byte b) = λ at one other P within some. absurd some
-  to_chosen (class set) = λ at one other P within some. absurd some
-  to_chosen start = λ at one other P within some. absurd some
-  to_chosen finish = λ at one other P within some. absurd some
   to_chosen (cat first second) = to_behind _ _ _ _ _ _ (sees_all first) (to_chosen first) (sees_all second) (to_chosen second)
   to_chosen (alt first second) = λ at one other P within some. elim (exists_cases _ (chosen_ways number marked first at one) (chosen_ways number marked second at one) some) [
     | inl here ↦ exists_left _ (all_ways text first at other) (all_ways text second at other) (to_chosen first at one other P within here)
@@ -248,3 +199,4 @@ module _ (marked text : List ℕ) (same : length marked ≡ length text) (reads 
       to_if (nat_lt most least) _ _
       (to_then _ _ _ least _ _ _ (sees_all body) (to_chosen body) (sees_up_to Outside marked text same (reads Outside) greedy _ _ (most - least) (sees_all body))
       (to_up_to greedy _ _ _ (most - least) (sees_all body) (to_chosen body)))
+  to_chosen _ = λ at one other P within some. absurd some

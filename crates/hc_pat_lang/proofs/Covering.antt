@@ -1,16 +1,7 @@
 -- The first match is one of the ways.
-use Rattle.std.proofs.Common.{◌≡◌, ℕ, zero, suc, ◌+◌, ◌<◌, ◌≤◌, ◌⊎◌, Bool, List, [], ◌∷◌, length, map, if◌then◌else◌, slice_index_or, Option, Some, None, refl, sym, ◌∙◌, ap, subst, inl, inr, arith}
-use Rattle.std.specs.Prelude.{IsSome}
-use Rattle.std.specs.List.{Contains}
+use Rattle.hc_pat_lang.proofs.Common.{◌≡◌, ℕ, zero, suc, ◌+◌, ◌<◌, ◌≤◌, ◌⊎◌, List, [], ◌∷◌, length, map, slice_index_or, Option, Some, None, refl, sym, ◌∙◌, ap, subst, inl, inr, arith, IsSome, Contains, eqb_tells, Span, TextSet, Pattern, Way, Held, Turns, all_ways, first_match, first_of, held_after, held_by, last_of_turns, match_among, match_at, nothing_held, with_group, MayHold}
 use Rattle.std.specs.Option.{option_map, option_or}
-use Rattle.std.proofs.lemmas.Bool.Decides.{eqb_tells}
-use Rattle.hc_base.specs.declared.place.Span.{Span}
-use Rattle.hc_dfa.specs.Texts.{TextSet}
-use Rattle.hc_pattern.specs.Pattern.{Pattern}
-use Rattle.hc_ways.specs.Ways.{Way}
-use Rattle.hc_ways.specs.Kept.{Held, Turns, all_ways, first_match, first_of, held_after, held_by, last_of_turns, match_among, match_at, nothing_held, with_group}
 use Rattle.hc_ways.proofs.LastTurns.{are_last_turns}
-use Rattle.hc_pat_lang.specs.Found.{MayHold, piece}
 use Rattle.hc_pat_lang.specs.Found.MayHold.{whole, turn, unset}
 use Rattle.hc_pat_lang.specs.Laws.{CoversMatch, IsFoundByMatch, held_text}
 
@@ -94,30 +85,17 @@ after_turns number [] held = inr ((λ span among. let w = among.1 in omega arith
 after_turns number (first ∷ turns) held = elim (after_turns number turns (with_group first.0 first.1 held)) [
   | inl later ↦ inl (record { span = later.span; among = (suc later.among.0, (let w = later.among.1 in omega arith), later.among.2); is = later.is })
   | inr none ↦ elim (eqb_tells number first.0) [
-    | inl own ↦ inl (record {
-      span = first.1;
-      among = (0, omega arith, (let e : first.0 ≡ number = sym own.1 in ap (λ (n : ℕ). (n, first.1)) e));
-      is = none.1 ∙ ap (λ (v : Bool). if v then Some first.1 else held number) own.0;
-    })
-    | inr other ↦ inr (
-      (λ span among. not_among number first turns other.1 none.0 span among.0 among.1 among.2),
-      none.1 ∙ ap (λ (v : Bool). if v then Some first.1 else held number) other.0,
-    )
+    | inl own ↦ inl (record { span = first.1; among = (0, omega arith, rw own.1 refl); is = rw own.0 at none.1 })
+    | inr other ↦ inr ((λ span among. not_among number first turns other.1 none.0 span among.0 among.1 among.2), rw other.0 at none.1)
   ]
 ]
 
 may_hold : (text : List ℕ) (from : ℕ) (way : Way Turns) (number : ℕ) → MayHold text from way number (held_text text (held_by from (last_of_turns way) number))
 may_hold text from way number = elim (eqb_tells number 0) [
-  | inl zero_is ↦
-      subst (λ (v : Bool). MayHold text from way number (held_text text (if v then Some (record { start = from; end = way.end }) else held_after nothing_held way.held number))) (sym zero_is.0)
-      (subst (λ (n : ℕ). MayHold text from way n (piece text (record { start = from; end = way.end }))) (sym zero_is.1) whole)
+  | inl is ↦ rw is.1 whole
   | inr other ↦
       let past : 0 < number = (let o = other.1 in grind arith) in
-      subst (λ (v : Bool). MayHold text from way number (held_text text (if v then Some (record { start = from; end = way.end }) else held_after nothing_held way.held number))) (sym other.0)
-      (elim (after_turns number way.held nothing_held) [
-        | inl own ↦ subst (λ (o : Option Span). MayHold text from way number (held_text text o)) (sym own.is) (turn past own.among)
-        | inr none ↦ subst (λ (o : Option Span). MayHold text from way number (held_text text o)) (sym none.1) (unset past none.0)
-      ])
+      rw other.0 (elim (after_turns number way.held nothing_held) [ inl own ↦ rw own.is (turn past own.among) | inr none ↦ rw none.1 (unset past none.0) ])
 ]
 
 module _ (pattern : Pattern) (set : TextSet) (text : List ℕ) where

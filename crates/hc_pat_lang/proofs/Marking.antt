@@ -1,24 +1,12 @@
 -- The ways of a pattern with a given turn of the group, through a text in which the bytes of this turn are marked.
-use Rattle.std.proofs.Common.{◌≡◌, ℕ, zero, suc, ◌+◌, ◌-◌, ◌<◌, ◌≤◌, ◌⊎◌, Bool, true, false, List, [], ◌∷◌, ◌++◌, length, if◌then◌else◌, nat_lt, nat_eq, Some, None, slice_get, refl, sym, ap, subst, inl, inr, arith, eq-eqb, ltb-true, lt-ltb}
-use Rattle.std.specs.List.{Contains}
-use Rattle.std.proofs.lemmas.List.Elements.{Contains-push_cases}
-use Rattle.hc_base.specs.declared.place.Span.{Span}
-use Rattle.hc_pattern.specs.Bits.{has_byte}
-use Rattle.hc_pattern.specs.Pattern.{Pattern, empty, byte, class, start, finish, cat, alt, group, repeat}
-use Rattle.hc_ways.specs.Ways.{Way, Ways, none, stop, behind, either, meets, closed, grouped, preferred, moving, any_turns, turns_up_to, turns_then}
-use Rattle.hc_ways.specs.Kept.{Turns, all_ways, with_turn}
-use Rattle.hc_ways.proofs.Behind.{behind-behind, behind-preferred, turn_or_next}
-use Rattle.hc_ways.proofs.Turns.{Bounded, any_turns_is, bounded, enough_turns}
-use Rattle.hc_pat_lang.specs.Fragments.{Exists}
-use Rattle.hc_pat_lang.specs.Turned.{chosen_any, chosen_behind, chosen_then, chosen_up_to, chosen_ways, part_ways, seen}
-use Rattle.hc_pat_lang.specs.declared.gates.Part.{Part}
-use Rattle.hc_pat_lang.specs.declared.gates.Part.TheVariants.{Outside, Inside}
+use Rattle.hc_pat_lang.proofs.Common.{◌≡◌, ℕ, zero, suc, ◌+◌, ◌-◌, ◌<◌, ◌≤◌, ◌⊎◌, Bool, true, false, List, [], ◌∷◌, ◌++◌, length, if◌then◌else◌, nat_lt, nat_eq, Some, None, slice_get, refl, sym, ◌∙◌, ap, subst, inl, inr, arith, eq-eqb, ltb-true, lt-ltb, Contains, Contains-push_cases, Span, has_byte, Pattern, empty, byte, class, start, finish, cat, alt, group, repeat, Way, Ways, none, stop, behind, either, meets, closed, grouped, preferred, moving, any_turns, turns_up_to, turns_then, Turns, all_ways, with_turn, behind-behind, behind-preferred, Bounded, any_turns_is, bounded, enough_turns, Exists, chosen_any, chosen_behind, chosen_then, chosen_up_to, chosen_ways, part_ways, seen, GroupPart, Outside, Inside}
 use Rattle.hc_pat_lang.proofs.Bounds.{bounded_part}
-use Rattle.hc_pat_lang.proofs.Choosing.{SeenOutside, SeesAll, all_among, fresh, sees_all, sees_rest}
-use Rattle.hc_pat_lang.proofs.Parts.{exists_as, exists_left, exists_right, exists_cases, to_flat, from_flat, from_mapped, to_filtered, from_filtered, exists_among, among_exists}
+use Rattle.hc_pat_lang.proofs.Choosing.{SeenOutside, SeesAll, fresh, sees_all, sees_rest}
+use Rattle.hc_pat_lang.proofs.Parts.{some_filtered, some_mapped, all_among, exists_as, exists_left, exists_right, exists_cases, if_exists, is_among, on_right, some_is, some_preferred, some_turn_or_next, to_flat, from_flat, exists_among, among_exists}
+use Rattle.std.proofs.lemmas.List.Elements.{Contains-append_cases}
 use Rattle.hc_pat_lang.proofs.Seeing.{Grown, sees_any, sees_moving, sees_part, sees_then, sees_up_to}
 
-module _ (marked text : List ℕ) (same : length marked ≡ length text) (reads : (part : Part) (k b : ℕ) → seen part marked k ≡ Some b → slice_get text k ≡ Some b) (number : ℕ) (span : Span)
+module _ (marked text : List ℕ) (same : length marked ≡ length text) (reads : (part : GroupPart) (k b : ℕ) → seen part marked k ≡ Some b → slice_get text k ≡ Some b) (number : ℕ) (span : Span)
     (outside : (k : ℕ) → (k < span.start) ⊎ (span.end ≤ k) → seen Outside marked k ≡ slice_get text k) (inside : (k : ℕ) → span.start ≤ k → k < span.end → seen Inside marked k ≡ slice_get text k) where
   abbrev All : Ways Turns → Ways Turns → Type 1
   All a b = SeesAll marked text same reads number a b
@@ -30,48 +18,28 @@ module _ (marked text : List ℕ) (same : length marked ≡ length text) (reads 
   abbrev FromChosen : Ways Turns → Ways Turns → Type 0
   FromChosen a b = (at : ℕ) (one other : Turns) (way : Way Turns) → at ≤ length text → Contains (b at other) way → Contains way.held (number, span) → Contains other (number, span) ⊎ Exists (Ends way.end) (a at one)
 
-  from_none : (b : Ways Turns) → ((at : ℕ) (other : Turns) (way : Way Turns) → Contains (b at other) way → way.held ≡ other) → FromChosen none b
-  from_none b held at one other way within among turn = inl (subst (λ (h : Turns). Contains h (number, span)) (held at other way among) turn)
+  kept_same : (v : Bool) (end : ℕ) (other : Turns) (way : Way Turns) → Contains (if v then stop end other else []) way → Contains way.held (number, span) → Contains other (number, span)
+  kept_same v end other way among turn = (let found = if_exists (λ (w : Way Turns). w ≡ way) _ v (some_is _ way among) in rw (← found.1) at turn)
 
-  stops_held : (v : Bool) (end : ℕ) (other : Turns) (way : Way Turns) → Contains (if v then stop end other else []) way → way.held ≡ other
-  stops_held true end other way among = elim (among_exists (λ (w : Way Turns). w ≡ way) (stop end other) way among refl) [
-    | inl e ↦ sym (ap (λ (w : Way Turns). w.held) e)
-    | inr isnt ↦ absurd isnt
+  from_test : (test : ℕ → Bool) (far : ℕ → ℕ) → FromChosen none (λ at held. if test at then stop (far at) held else [])
+  from_test test far at one other way within among turn = inl (kept_same (test at) (far at) other way among turn)
+
+  from_turn : (greedy : Bool) (turn : Ways Turns) (at : ℕ) (other : Turns) (way : Way Turns) → Contains (preferred greedy turn at other) way → Contains way.held (number, span)
+      → Contains other (number, span) ⊎ Contains (turn at other) way
+  from_turn greedy turn at other way among kept = elim ((some_preferred (λ (w : Way Turns). w ≡ way) greedy turn at other).0 (some_is _ way among)) [
+    | inl turned ↦ inr (is_among (turn at other) way turned)
+    | inr own ↦ inl (rw (← own) at kept)
   ]
-  stops_held false end other way among = absurd (let w = among.1 in omega arith)
-
-  from_turn : (greedy : Bool) (turn : Ways Turns) (at : ℕ) (other : Turns) (way : Way Turns) → Contains (preferred greedy turn at other) way → (way.held ≡ other) ⊎ Contains (turn at other) way
-  from_turn greedy turn at other way among = by_greed greedy among
-    where
-      in_turn : Exists (λ (w : Way Turns). w ≡ way) (turn at other) → Contains (turn at other) way
-      in_turn some = let found = exists_among _ (turn at other) some in subst (λ (w : Way Turns). Contains (turn at other) w) found.2 found.1
-
-      by_greed : (g : Bool) → Contains (preferred g turn at other) way → (way.held ≡ other) ⊎ Contains (turn at other) way
-      by_greed true here = elim (exists_cases _ (turn at other) (stop at other) (among_exists (λ (w : Way Turns). w ≡ way) (turn at other ++ stop at other) way here refl)) [
-        | inl turned ↦ inr (in_turn turned)
-        | inr own ↦ elim own [ inl e ↦ inl (sym (ap (λ (w : Way Turns). w.held) e)) | inr isnt ↦ absurd isnt ]
-      ]
-      by_greed false here = elim (among_exists (λ (w : Way Turns). w ≡ way) (record { end = at; held = other } ∷ turn at other) way here refl) [
-        | inl e ↦ inl (sym (ap (λ (w : Way Turns). w.held) e))
-        | inr turned ↦ inr (in_turn turned)
-      ]
 
   -- ---- one behind the other
 
-  record Split (b1 b2 : Ways Turns) (at : ℕ) (other : Turns) (way : Way Turns) : Type 0 where
-    pub middle : Way Turns
-    pub first : Contains (b1 at other) middle
-    pub second : Contains (b2 middle.end middle.held) way
-
-  split : (b1 b2 : Ways Turns) (at : ℕ) (other : Turns) (way : Way Turns) → Contains (behind b1 b2 at other) way → Split b1 b2 at other way
+  split : (b1 b2 : Ways Turns) (at : ℕ) (other : Turns) (way : Way Turns) → Contains (behind b1 b2 at other) way → (middle : Way Turns) × Contains (b1 at other) middle × Contains (b2 middle.end middle.held) way
   split b1 b2 at other way among =
-      let found = exists_among _ (b1 at other) (from_flat (λ (w : Way Turns). w ≡ way) (λ (w : Way Turns). b2 w.end w.held) (b1 at other) (among_exists (λ (w : Way Turns). w ≡ way) (behind b1 b2 at other) way among refl)) in
-      let last = exists_among _ (b2 found.0.end found.0.held) found.2 in
-      record { middle = found.0; first = found.1; second = subst (λ (w : Way Turns). Contains (b2 found.0.end found.0.held) w) last.2 last.1 }
+      let found = exists_among _ (b1 at other) (from_flat (λ (w : Way Turns). w ≡ way) (λ (w : Way Turns). b2 w.end w.held) (b1 at other) (some_is _ way among)) in
+      (found.0, found.1, is_among _ way found.2)
 
   put_behind : (a b : Ways Turns) (at middle end : ℕ) (one : Turns) → Exists (Ends middle) (a at one) → ((held : Turns) → Exists (Ends end) (b middle held)) → Exists (Ends end) (behind a b at one)
-  put_behind a b at middle end one first second =
-      to_flat _ (λ (w : Way Turns). b w.end w.held) (a at one) (exists_as _ _ (a at one) (λ way e. subst (λ (n : ℕ). Exists (Ends end) (b n way.held)) (sym e) (second way.held)) first)
+  put_behind a b at middle end one first second = to_flat _ (λ (w : Way Turns). b w.end w.held) (a at one) (exists_as _ _ (a at one) (λ way e. rw e (second way.held)) first)
 
   module _ (l1 a1 l2 a2 b1 b2 : Ways Turns) (first : All l1 b1) (chosen : FromChosen a1 b1) (at : ℕ) (one other : Turns) (way : Way Turns) (within : at ≤ length text)
       (grown : (middle : Way Turns) → Contains (b1 at other) middle → Contains (b2 middle.end middle.held) way → Grown text middle.end middle.held way)
@@ -94,16 +62,13 @@ module _ (marked text : List ℕ) (same : length marked ≡ length text) (reads 
         elim (chooses middle among later found.0.held) [
           | inl kept ↦ from_first middle among later kept
           | inr there ↦ inr (exists_right _ (behind a1 l2 at one) (behind l1 a2 at one)
-              (to_flat _ (λ (w : Way Turns). a2 w.end w.held) (l1 at one) (among_exists _ _ found.0 found.1 (subst (λ (n : ℕ). Exists (Ends way.end) (a2 n found.0.held)) (sym found.2) there))))
+              (to_flat _ (λ (w : Way Turns). a2 w.end w.held) (l1 at one) (among_exists _ _ found.0 found.1 (rw found.2 there))))
         ]
 
     from_parts : Contains (behind b1 b2 at other) way → Contains way.held (number, span) → Contains other (number, span) ⊎ Exists (Ends way.end) (chosen_behind l1 a1 l2 a2 at one)
     from_parts among turn =
         let parts = split b1 b2 at other way among in
-        elim ((grown parts.middle parts.first parts.second).new (number, span) turn) [
-          | inl kept ↦ from_first parts.middle parts.first parts.second kept
-          | inr own ↦ from_second parts.middle parts.first parts.second own.0
-        ]
+        elim ((grown parts.0 parts.1 parts.2).new (number, span) turn) [ inl kept ↦ from_first parts.0 parts.1 parts.2 kept | inr own ↦ from_second parts.0 parts.1 parts.2 own.0 ]
 
   sees_end : (l b : Ways Turns) → All l b → (middle way : Way Turns) → middle.end ≤ length text → Contains (b middle.end middle.held) way → SeenOutside marked text same reads number middle.end way.end → (held : Turns) → Exists (Ends way.end) (l middle.end held)
   sees_end l b all middle way within among seen_on held = all.from middle.end held middle.held (λ end. end ≡ way.end) within (among_exists _ _ way among ((seen_on, fresh marked text same reads number way.held), refl))
@@ -118,10 +83,10 @@ module _ (marked text : List ℕ) (same : length marked ≡ length text) (reads 
       among turn
 
   from_up_to : (greedy : Bool) (l a b : Ways Turns) (most : ℕ) → All l b → FromChosen a b → FromChosen (chosen_up_to greedy l a most) (turns_up_to greedy b most)
-  from_up_to greedy l a b zero first chosen = from_none stop (λ at other way among. stops_held true at other way among)
+  from_up_to greedy l a b zero first chosen = from_test (λ at. true) (λ at. at)
   from_up_to greedy l a b (suc most) first chosen = λ at one other way within among turn.
-      elim (from_turn greedy (behind b (turns_up_to greedy b most)) at other way among) [
-        | inl held ↦ inl (subst (λ (h : Turns). Contains h (number, span)) held turn)
+      elim (from_turn greedy (behind b (turns_up_to greedy b most)) at other way among turn) [
+        | inl before ↦ inl before
         | inr turned ↦ from_behind l a _ _ b _ first chosen (sees_up_to Outside marked text same (reads Outside) greedy l b most first) (from_up_to greedy l a b most first chosen) at one other way within turned turn
       ]
 
@@ -135,17 +100,14 @@ module _ (marked text : List ℕ) (same : length marked ≡ length text) (reads 
 
   moved_past : (b : Ways Turns) (at : ℕ) (other : Turns) (way : Way Turns) → Contains (moving b at other) way → Contains (b at other) way × (at < way.end)
   moved_past b at other way among =
-      let found = exists_among _ (b at other) (from_filtered (λ (w : Way Turns). w ≡ way) (λ w. nat_lt at w.end) (b at other) (among_exists (λ (w : Way Turns). w ≡ way) (moving b at other) way among refl)) in
-      (subst (λ (w : Way Turns). Contains (b at other) w) found.2.0 found.1, subst (λ (w : Way Turns). at < w.end) found.2.0 (ltb-true at found.0.end found.2.1))
+      let found = exists_among _ (b at other) ((some_filtered (λ (w : Way Turns). w ≡ way) (λ w. nat_lt at w.end) (b at other)).0 (some_is _ way among)) in
+      let less = ltb-true at found.0.end found.2.1 in
+      (rw found.2.0 at found.1, rw found.2.0 at less)
 
   from_moving : (a b : Ways Turns) → FromChosen a b → FromChosen (moving a) (moving b)
   from_moving a b chosen at one other way within among turn =
       let moved = moved_past b at other way among in
-      elim (chosen at one other way within moved.0 turn) [
-        | inl before ↦ inl before
-        | inr here ↦ inr (to_filtered _ (λ w. nat_lt at w.end) (a at one)
-            (exists_as _ _ (a at one) (λ w e. (e, subst (λ (n : ℕ). nat_lt at n ≡ true) (sym e) (lt-ltb at way.end moved.1))) here))
-      ]
+      on_right (λ here. (some_filtered _ (λ w. nat_lt at w.end) (a at one)).1 (exists_as _ _ (a at one) (λ w e. (e, rw e (lt-ltb at way.end moved.1))) here)) (chosen at one other way within moved.0 turn)
 
   module _ (greedy : Bool) (l a b : Ways Turns) (first : All l b) (chosen : FromChosen a b) (bounded_marked : Bounded (length marked) l) where
     abbrev rest : Ways Turns
@@ -157,75 +119,59 @@ module _ (marked text : List ℕ) (same : length marked ≡ length text) (reads 
     rest_is : rest ≡ preferred greedy (behind (moving l) rest)
     rest_is = any_turns_is marked greedy l bounded_marked
 
-    stop_in : (P : Way Turns → Type 0) (g : Bool) (turn : Ways Turns) (at : ℕ) (held : Turns) → P (record { end = at; held = held }) → Exists P (preferred g turn at held)
-    stop_in P true turn at held here = exists_right P (turn at held) (stop at held) (inl here)
-    stop_in P false turn at held here = inl here
-
     to_result : (at end : ℕ) (one : Turns) → Exists (Ends end) (chosen_behind (moving l) (moving a) rest result at one) → Exists (Ends end) (result at one)
-    to_result at end one some = elim (exists_cases _ (behind (moving a) rest at one) (behind (moving l) result at one) some) [
-      | inl own ↦ to_flat _ (λ (w : Way Turns). behind (moving a) rest w.end w.held) (rest at one)
-          (subst (λ (w : Ways Turns). Exists (λ (way : Way Turns). Exists (Ends end) (behind (moving a) rest way.end way.held)) (w at one)) (sym rest_is) (stop_in _ greedy (behind (moving l) rest) at one own))
-      | inr turned ↦
-          subst (λ (w : Ways Turns). Exists (Ends end) (behind w (behind (moving a) rest) at one)) (sym rest_is)
-          (subst (λ (w : Ways Turns). Exists (Ends end) (w at one)) (sym (behind-preferred greedy (behind (moving l) rest) (behind (moving a) rest)))
-          (by_greed greedy (subst (λ (w : Ways Turns). Exists (Ends end) (w at one)) (sym (behind-behind (moving l) rest (behind (moving a) rest))) turned)))
-    ]
-      where
-        by_greed : (g : Bool) → Exists (Ends end) (behind (behind (moving l) rest) (behind (moving a) rest) at one) → Exists (Ends end) (turn_or_next g (behind (behind (moving l) rest) (behind (moving a) rest)) (behind (moving a) rest) at one)
-        by_greed true here = exists_left _ (behind (behind (moving l) rest) (behind (moving a) rest) at one) (behind (moving a) rest at one) here
-        by_greed false here = exists_right _ (behind (moving a) rest at one) (behind (behind (moving l) rest) (behind (moving a) rest) at one) here
+    to_result at end one some =
+        let next = behind (moving a) rest in
+        elim (exists_cases _ (next at one) (behind (moving l) result at one) some) [
+          | inl own ↦ to_flat _ (λ (w : Way Turns). next w.end w.held) (rest at one)
+              (subst (λ (w : Ways Turns). Exists (λ (way : Way Turns). Exists (Ends end) (next way.end way.held)) (w at one)) (sym rest_is) ((some_preferred _ greedy (behind (moving l) rest) at one).1 (inr own)))
+          | inr turned ↦ subst (λ (w : Ways Turns). Exists (Ends end) (w at one)) (sym (ap (λ (w : Ways Turns). behind w next) rest_is ∙ behind-preferred greedy (behind (moving l) rest) next))
+              ((some_turn_or_next _ greedy (behind (behind (moving l) rest) next) next at one).1 (inl (subst (λ (w : Ways Turns). Exists (Ends end) (w at one)) (sym (behind-behind (moving l) rest next)) turned)))
+        ]
 
     from_any_by : (k at : ℕ) (one other : Turns) (way : Way Turns) → at ≤ length text → length text ≤ at + k → Contains (any_turns greedy b k at other) way → Contains way.held (number, span) → Contains other (number, span) ⊎ Exists (Ends way.end) (result at one)
-    from_any_by zero at one other way within enough among turn = inl (subst (λ (h : Turns). Contains h (number, span)) (stops_held true at other way among) turn)
-    from_any_by (suc k) at one other way within enough among turn = elim (from_turn greedy (behind (moving b) (any_turns greedy b k)) at other way among) [
-      | inl held ↦ inl (subst (λ (h : Turns). Contains h (number, span)) held turn)
+    from_any_by zero at one other way within enough among turn = inl (kept_same true at other way among turn)
+    from_any_by (suc k) at one other way within enough among turn = elim (from_turn greedy (behind (moving b) (any_turns greedy b k)) at other way among turn) [
+      | inl before ↦ inl before
       | inr turned ↦
           let moved = sees_moving Outside marked text same (reads Outside) l b first in
           let in_text = λ (middle : Way Turns) (here : Contains (moving b at other) middle). let w : middle.end ≤ length text = (all_among _ _ middle (moved.grown at other within) here).within in w in
           let fewer = sees_any Outside marked text same (reads Outside) greedy l b k first in
-          elim (from_parts (moving l) (moving a) rest result (moving b) (any_turns greedy b k) moved (from_moving a b chosen) at one other way within
+          on_right (to_result at way.end one) (from_parts (moving l) (moving a) rest result (moving b) (any_turns greedy b k) moved (from_moving a b chosen) at one other way within
           (λ middle here there. all_among _ _ way (fewer.grown middle.end middle.held (in_text middle here)) there)
           (λ middle here there seen_on held.
           subst (λ (ws : List (Way Turns)). Exists (Ends way.end) ws) (enough_turns (length marked) greedy l bounded_marked k middle.end held (let p = (moved_past b at other middle here).1 in omega arith))
           (sees_end (any_turns greedy l k) (any_turns greedy b k) fewer middle way (in_text middle here) there seen_on held))
           (λ middle here there held. from_any_by k middle.end held middle.held way (in_text middle here) (let p = (moved_past b at other middle here).1 in omega arith) there turn)
-          turned turn) [
-            | inl before ↦ inl before
-            | inr here ↦ inr (to_result at way.end one here)
-          ]
+          turned turn)
     ]
 
     from_any : FromChosen (chosen_any greedy l a (length marked)) (any_turns greedy b (length text))
     from_any at one other way within among turn = from_any_by (length text) at one other way within (omega arith) among turn
 
   from_if : (v : Bool) (a b : Ways Turns) → FromChosen a b → FromChosen (if v then none else a) (if v then none else b)
-  from_if true a b chosen = from_none none (λ at other way among. absurd (let w = among.1 in omega arith))
+  from_if true a b chosen = λ at one other way within among turn. absurd (let w = among.1 in omega arith)
   from_if false a b chosen = chosen
 
   from_group : (own : ℕ) (body : Pattern) → FromChosen (chosen_ways number marked body) (all_ways text body)
       → FromChosen (chosen_ways number marked (group own body)) (grouped with_turn own (all_ways text body))
   from_group own body chosen at one other way within among turn =
-      let found = exists_among _ (all_ways text body at other) (from_mapped (λ (w : Way Turns). w ≡ way) (closed with_turn own at) (all_ways text body at other)
-      (among_exists (λ (w : Way Turns). w ≡ way) (grouped with_turn own (all_ways text body) at other) way among refl)) in
+      let found = exists_among _ (all_ways text body at other) ((some_mapped (λ (w : Way Turns). w ≡ way) (closed with_turn own at) (all_ways text body at other)).0 (some_is _ way among)) in
       let own_span : Span = record { start = at; end = found.0.end } in
-      let kept : Contains (found.0.held ++ (own, own_span) ∷ []) (number, span) = subst (λ (w : Way Turns). Contains w.held (number, span)) (sym found.2) turn in
+      let kept : Contains (found.0.held ++ (own, own_span) ∷ []) (number, span) = rw (← found.2) at turn in
       let ends : found.0.end ≡ way.end = ap (λ (w : Way Turns). w.end) found.2 in
-      elim (Contains-push_cases found.0.held (own, own_span) (number, span) kept) [
-        | inl before ↦ elim (chosen at one other found.0 within found.1 before) [
-          | inl old ↦ inl old
-          | inr here ↦ inr (subst (λ (n : ℕ). Exists (Ends n) (chosen_ways number marked (group own body) at one)) ends (by_test found.0.end (nat_eq own number) (inr here)))
-        ]
+      rw (← ends) (elim (Contains-push_cases found.0.held (own, own_span) (number, span) kept) [
+        | inl before ↦ on_right (λ here. by_test found.0.end (nat_eq own number) (inr here)) (chosen at one other found.0 within found.1 before)
         | inr is ↦
             let same_number : own ≡ number = ap (λ (t : ℕ × Span). t.0) is in
             let begins : at ≡ span.start = ap (λ (t : ℕ × Span). t.1.start) is in
             let runs : found.0.end ≡ span.end = ap (λ (t : ℕ × Span). t.1.end) is in
-            inr (subst (λ (n : ℕ). Exists (Ends n) (chosen_ways number marked (group own body) at one)) ends
-            (by_test found.0.end (nat_eq own number) (inl (
+            inr (by_test found.0.end (nat_eq own number) (inl (
               eq-eqb own number same_number,
               (sees_part Inside marked text same (reads Inside) body).from at one other (λ end. end ≡ found.0.end) within
                   (among_exists _ _ found.0 found.1 (((λ k past below. inside k (omega arith) (omega arith)), (λ x also. refl)), refl)),
-            ))))
-      ]
+            )))
+      ])
     where
       by_test : (end : ℕ) (v : Bool) → ((v ≡ true) × Exists (Ends end) (part_ways Inside marked body at one)) ⊎ Exists (Ends end) (chosen_ways number marked body at one)
           → Exists (Ends end) ((if v then either (part_ways Inside marked body) (chosen_ways number marked body) else chosen_ways number marked body) at one)
@@ -235,26 +181,16 @@ module _ (marked text : List ℕ) (same : length marked ≡ length text) (reads 
       by_test end false (inr inner) = inner
 
   pub from_chosen : (pattern : Pattern) → FromChosen (chosen_ways number marked pattern) (all_ways text pattern)
-  from_chosen empty = from_none stop (λ at other way among. stops_held true at other way among)
-  from_chosen (byte b) = from_none _ (λ at other way among. stops_held (meets (λ c. nat_eq c b) (slice_get text at)) (at + 1) other way among)
-  from_chosen (class set) = from_none _ (λ at other way among. stops_held (meets (has_byte set) (slice_get text at)) (at + 1) other way among)
-  from_chosen start = from_none _ (λ at other way among. stops_held (nat_eq at 0) at other way among)
-  from_chosen finish = from_none _ (λ at other way among. stops_held (nat_eq at (length text)) at other way among)
+  from_chosen empty = from_test (λ at. true) (λ at. at)
+  from_chosen (byte b) = from_test (λ at. meets (λ c. nat_eq c b) (slice_get text at)) (λ at. at + 1)
+  from_chosen (class set) = from_test (λ at. meets (has_byte set) (slice_get text at)) (λ at. at + 1)
+  from_chosen start = from_test (λ at. nat_eq at 0) (λ at. at)
+  from_chosen finish = from_test (λ at. nat_eq at (length text)) (λ at. at)
   from_chosen (cat first second) = from_behind _ _ _ _ _ _ (sees_all marked text same reads number first) (from_chosen first) (sees_all marked text same reads number second) (from_chosen second)
   from_chosen (alt first second) = λ at one other way within among turn.
-      elim (exists_cases _ (all_ways text first at other) (all_ways text second at other) (among_exists (λ (w : Way Turns). w ≡ way) (all_ways text first at other ++ all_ways text second at other) way among refl)) [
-        | inl here ↦
-            let found = exists_among _ _ here in
-            elim (from_chosen first at one other way within (subst (λ (w : Way Turns). Contains (all_ways text first at other) w) found.2 found.1) turn) [
-              | inl before ↦ inl before
-              | inr some ↦ inr (exists_left _ (chosen_ways number marked first at one) (chosen_ways number marked second at one) some)
-            ]
-        | inr here ↦
-            let found = exists_among _ _ here in
-            elim (from_chosen second at one other way within (subst (λ (w : Way Turns). Contains (all_ways text second at other) w) found.2 found.1) turn) [
-              | inl before ↦ inl before
-              | inr some ↦ inr (exists_right _ (chosen_ways number marked first at one) (chosen_ways number marked second at one) some)
-            ]
+      elim (Contains-append_cases (all_ways text first at other) (all_ways text second at other) way among) [
+        | inl here ↦ on_right (exists_left _ (chosen_ways number marked first at one) (chosen_ways number marked second at one)) (from_chosen first at one other way within here turn)
+        | inr here ↦ on_right (exists_right _ (chosen_ways number marked first at one) (chosen_ways number marked second at one)) (from_chosen second at one other way within here turn)
       ]
   from_chosen (group own body) = from_group own body (from_chosen body)
   from_chosen (repeat body least None greedy) =

@@ -1,10 +1,11 @@
 -- Lists: what holds of some element, of all, and at a place.
-use Rattle.std.proofs.Common.{◌≡◌, ◌≢◌, ℕ, zero, suc, ◌+◌, ◌<◌, ◌≤◌, ◌⊎◌, Bool, true, false, List, [], ◌∷◌, ◌++◌, length, drop, map, filter, if◌then◌else◌, Some, None, slice_get, slice_set, refl, sym, ◌∙◌, ap, subst, inl, inr, arith}
-use Rattle.std.proofs.lemmas.Option.{slice_get-get_or}
-use Rattle.std.specs.List.{AllByRecursion, Contains, flat_map}
-use Rattle.hc_pat_lang.specs.Fragments.{Exists}
+use Rattle.hc_pat_lang.proofs.Common.{◌≡◌, ℕ, zero, suc, ◌+◌, ◌<◌, ◌≤◌, ◌⊎◌, Bool, true, false, List, [], ◌∷◌, ◌++◌, length, drop, map, filter, if◌then◌else◌, Some, None, slice_get, refl, sym, ◌∙◌, ap, subst, inl, inr, arith, slice_get-get_or, ◌↔◌, AllByRecursion, Contains, flat_map, Exists, Option, meets, turn_or_next, Way, Ways, preferred, stop}
 
 -- ---- some element
+
+pub on_right : {A B C : Type 0} → (B → C) → A ⊎ B → A ⊎ C
+on_right f (inl first) = inl first
+on_right f (inr second) = inr (f second)
 
 pub exists_as : {A : Type 0} (P Q : A → Type 0) (xs : List A) → ((x : A) → P x → Q x) → Exists P xs → Exists Q xs
 exists_as P Q [] to some = some
@@ -40,35 +41,38 @@ pub from_flat : {A B : Type 0} (P : B → Type 0) (f : A → List B) (xs : List 
 from_flat P f [] some = some
 from_flat P f (x ∷ xs) some = elim (exists_cases P (f x) (flat_map f xs) some) [ inl here ↦ inl here | inr later ↦ inr (from_flat P f xs later) ]
 
-pub to_mapped : {A B : Type 0} (P : B → Type 0) (f : A → B) (xs : List A) → Exists (λ x. P (f x)) xs → Exists P (map f xs)
-to_mapped P f [] some = some
-to_mapped P f (x ∷ xs) (inl here) = inl here
-to_mapped P f (x ∷ xs) (inr later) = inr (to_mapped P f xs later)
+pub some_mapped : {A B : Type 0} (P : B → Type 0) (f : A → B) (xs : List A) → Exists P (map f xs) ↔ Exists (λ x. P (f x)) xs
+some_mapped P f [] = ((λ some. some), (λ some. some))
+some_mapped P f (x ∷ xs) = (let later = some_mapped P f xs in ((λ some. on_right later.0 some), (λ some. on_right later.1 some)))
 
-pub from_mapped : {A B : Type 0} (P : B → Type 0) (f : A → B) (xs : List A) → Exists P (map f xs) → Exists (λ x. P (f x)) xs
-from_mapped P f [] some = some
-from_mapped P f (x ∷ xs) (inl here) = inl here
-from_mapped P f (x ∷ xs) (inr later) = inr (from_mapped P f xs later)
+pub some_filtered : {A : Type 0} (P : A → Type 0) (test : A → Bool) (xs : List A) → Exists P (filter test xs) ↔ Exists (λ x. P x × (test x ≡ true)) xs
+some_filtered P test [] = ((λ some. some), (λ some. some))
+some_filtered {A} P test (x ∷ xs) = by_test (test x) refl (some_filtered P test xs)
+  where
+    by_test : (v : Bool) → test x ≡ v → Exists P (filter test xs) ↔ Exists (λ (y : A). P y × (test y ≡ true)) xs
+        → Exists P (if v then x ∷ filter test xs else filter test xs) ↔ ((P x × (test x ≡ true)) ⊎ Exists (λ (y : A). P y × (test y ≡ true)) xs)
+    by_test true is later = (
+      (λ some. elim some [ inl here ↦ inl (here, is) | inr there ↦ inr (later.0 there) ]),
+      (λ some. elim some [ inl here ↦ inl here.0 | inr there ↦ inr (later.1 there) ]),
+    )
+    by_test false is later = ((λ some. inr (later.0 some)), (λ some. elim some [ inl here ↦ absurd (let e = here.1 in cc) | inr there ↦ later.1 there ]))
 
-to_filtered_step : {A : Type 0} (P : A → Type 0) (x : A) (xs : List A) (v : Bool) → (P x × (v ≡ true)) ⊎ Exists P xs → Exists P (if v then x ∷ xs else xs)
-to_filtered_step P x xs true (inl here) = inl here.0
-to_filtered_step P x xs true (inr later) = inr later
-to_filtered_step P x xs false (inl here) = absurd (let f = here.1 in cc)
-to_filtered_step P x xs false (inr later) = later
+pub exists_if : {A : Type 0} (P : A → Type 0) (x : A) (v : Bool) → v ≡ true → P x → Exists P (if v then x ∷ [] else [])
+exists_if P x true is here = inl here
+exists_if P x false is here = absurd (let f = is in cc)
 
-pub to_filtered : {A : Type 0} (P : A → Type 0) (test : A → Bool) (xs : List A) → Exists (λ x. P x × (test x ≡ true)) xs → Exists P (filter test xs)
-to_filtered P test [] some = some
-to_filtered P test (x ∷ xs) (inl here) = to_filtered_step P x (filter test xs) (test x) (inl here)
-to_filtered P test (x ∷ xs) (inr later) = to_filtered_step P x (filter test xs) (test x) (inr (to_filtered P test xs later))
+pub if_exists : {A : Type 0} (P : A → Type 0) (x : A) (v : Bool) → Exists P (if v then x ∷ [] else []) → (v ≡ true) × P x
+if_exists P x true (inl here) = (refl, here)
+if_exists P x true (inr none) = absurd none
+if_exists P x false none = absurd none
 
-from_filtered_step : {A : Type 0} (P : A → Type 0) (x : A) (xs : List A) (v : Bool) → Exists P (if v then x ∷ xs else xs) → (P x × (v ≡ true)) ⊎ Exists P xs
-from_filtered_step P x xs true (inl here) = inl (here, refl)
-from_filtered_step P x xs true (inr later) = inr later
-from_filtered_step P x xs false some = inr some
-
-pub from_filtered : {A : Type 0} (P : A → Type 0) (test : A → Bool) (xs : List A) → Exists P (filter test xs) → Exists (λ x. P x × (test x ≡ true)) xs
-from_filtered P test [] some = some
-from_filtered P test (x ∷ xs) some = elim (from_filtered_step P x (filter test xs) (test x) some) [ inl here ↦ inl here | inr later ↦ inr (from_filtered P test xs later) ]
+-- A turn, or none: which of them is preferred tells nothing.
+pub some_preferred : {K : Type 0} (P : Way K → Type 0) (greedy : Bool) (turn : Ways K) (at : ℕ) (held : K) → Exists P (preferred greedy turn at held) ↔ (Exists P (turn at held) ⊎ P (record { end = at; held = held }))
+some_preferred P true turn at held = (
+  (λ some. elim (exists_cases P (turn at held) (stop at held) some) [ inl turned ↦ inl turned | inr here ↦ elim here [ inl is ↦ inr is | inr none ↦ absurd none ] ]),
+  (λ either. elim either [ inl turned ↦ exists_left P (turn at held) (stop at held) turned | inr is ↦ exists_right P (turn at held) (stop at held) (inl is) ]),
+)
+some_preferred P false turn at held = ((λ some. elim some [ inl is ↦ inr is | inr turned ↦ inl turned ]), (λ either. elim either [ inl turned ↦ inr turned | inr is ↦ inl is ]))
 
 pub exists_among : {A : Type 0} (P : A → Type 0) (xs : List A) → Exists P xs → (x : A) × Contains xs x × P x
 exists_among P [] some = absurd some
@@ -85,31 +89,49 @@ at_place P (y ∷ ys) x (suc k) at is = inr (at_place P ys x k at is)
 pub among_exists : {A : Type 0} (P : A → Type 0) (xs : List A) (x : A) → Contains xs x → P x → Exists P xs
 among_exists P xs x among is = at_place P xs x among.0 (slice_get-get_or xs among.0 x among.1 ∙ ap Some among.2) is
 
+pub some_is : {A : Type 0} (xs : List A) (x : A) → Contains xs x → Exists (λ (y : A). y ≡ x) xs
+some_is {A} xs x among = among_exists (λ (y : A). y ≡ x) xs x among refl
+
+pub is_among : {A : Type 0} (xs : List A) (x : A) → Exists (λ (y : A). y ≡ x) xs → Contains xs x
+is_among {A} xs x some = (let found = exists_among (λ (y : A). y ≡ x) xs some in rw found.2 at found.1)
+
+pub some_turn_or_next : {K : Type 0} (P : Way K → Type 0) (greedy : Bool) (a b : Ways K) (at : ℕ) (held : K) → Exists P (turn_or_next greedy a b at held) ↔ (Exists P (a at held) ⊎ Exists P (b at held))
+some_turn_or_next P true a b at held = (
+  exists_cases P (a at held) (b at held),
+  (λ either. elim either [ inl first ↦ exists_left P (a at held) (b at held) first | inr next ↦ exists_right P (a at held) (b at held) next ]),
+)
+some_turn_or_next P false a b at held = (
+  (λ some. elim (exists_cases P (b at held) (a at held) some) [ inl next ↦ inr next | inr first ↦ inl first ]),
+  (λ either. elim either [ inl first ↦ exists_right P (b at held) (a at held) first | inr next ↦ exists_left P (b at held) (a at held) next ]),
+)
+
 -- ---- all elements
 
-pub all_append : {A : Type 0} (P : A → Type 0) (xs ys : List A) → AllByRecursion P xs → AllByRecursion P ys → AllByRecursion P (xs ++ ys)
-all_append P [] ys first later = later
-all_append P (x ∷ xs) ys first later = (first.0, all_append P xs ys first.1 later)
+pub all_among : {A : Type 0} (P : A → Type 0) (xs : List A) (x : A) → AllByRecursion P xs → Contains xs x → P x
+all_among {A} P xs x all among = (exists_among (λ (y : A). P x) xs (exists_with P (λ (y : A). y ≡ x) (λ (y : A). P x) xs all (λ y here e. rw e at here) (some_is xs x among))).2
 
-pub all_flat : {A B : Type 0} (P : A → Type 0) (Q : B → Type 0) (f : A → List B) (xs : List A) → AllByRecursion P xs → ((x : A) → P x → AllByRecursion Q (f x)) → AllByRecursion Q (flat_map f xs)
-all_flat P Q f [] all each = tt
-all_flat P Q f (x ∷ xs) all each = all_append Q (f x) (flat_map f xs) (each x all.0) (all_flat P Q f xs all.1 each)
+pub all_if : {A : Type 0} (P : A → Type 0) (x : A) (v : Bool) → (v ≡ true → P x) → AllByRecursion P (if v then x ∷ [] else [])
+all_if P x true here = (here refl, tt)
+all_if P x false here = tt
 
-pub all_mapped : {A B : Type 0} (P : A → Type 0) (Q : B → Type 0) (f : A → B) (xs : List A) → AllByRecursion P xs → ((x : A) → P x → Q (f x)) → AllByRecursion Q (map f xs)
-all_mapped P Q f [] all each = tt
-all_mapped P Q f (x ∷ xs) all each = (each x all.0, all_mapped P Q f xs all.1 each)
-
-all_filtered_step : {A : Type 0} (P : A → Type 0) (x : A) (xs : List A) (v : Bool) → P x → AllByRecursion P xs → AllByRecursion P (if v then x ∷ xs else xs)
-all_filtered_step P x xs true here later = (here, later)
-all_filtered_step P x xs false here later = later
-
-pub all_filtered : {A : Type 0} (P : A → Type 0) (test : A → Bool) (xs : List A) → AllByRecursion P xs → AllByRecursion P (filter test xs)
-all_filtered P test [] all = tt
-all_filtered P test (x ∷ xs) all = all_filtered_step P x (filter test xs) (test x) all.0 (all_filtered P test xs all.1)
+-- Of those that pass the test.
+pub all_passed : {A : Type 0} (P : A → Type 0) (test : A → Bool) (xs : List A) → AllByRecursion P xs → AllByRecursion (λ (x : A). P x × (test x ≡ true)) (filter test xs)
+all_passed P test [] all = tt
+all_passed {A} P test (x ∷ xs) all = by_test (test x) refl (all_passed P test xs all.1)
+  where
+    by_test : (v : Bool) → test x ≡ v → AllByRecursion (λ (y : A). P y × (test y ≡ true)) (filter test xs) → AllByRecursion (λ (y : A). P y × (test y ≡ true)) (if v then x ∷ filter test xs else filter test xs)
+    by_test true is later = ((all.0, is), later)
+    by_test false is later = later
 
 pub all_as : {A : Type 0} (P Q : A → Type 0) (xs : List A) → ((x : A) → P x → Q x) → AllByRecursion P xs → AllByRecursion Q xs
 all_as P Q [] to all = tt
 all_as P Q (x ∷ xs) to all = (to x all.0, all_as P Q xs to all.1)
+
+-- ---- tests
+
+pub meets_some : (test : ℕ → Bool) (sight : Option ℕ) → meets test sight ≡ true → (byte : ℕ) × (sight ≡ Some byte) × (test byte ≡ true)
+meets_some test None is = absurd (let f = is in cc)
+meets_some test (Some byte) is = (byte, refl, is)
 
 -- ---- places
 
@@ -118,27 +140,11 @@ get_left [] ys i x at = absurd (let f = at in cc)
 get_left (y ∷ xs) ys zero x at = at
 get_left (y ∷ xs) ys (suc i) x at = get_left xs ys i x at
 
-pub get_last : {A : Type 0} (xs : List A) (x : A) → slice_get (xs ++ x ∷ []) (length xs) ≡ Some x
-get_last [] x = refl
-get_last (y ∷ xs) x = get_last xs x
-
 pub get_cases : {A : Type 0} (xs : List A) (y : A) (i : ℕ) (x : A) → slice_get (xs ++ y ∷ []) i ≡ Some x → (slice_get xs i ≡ Some x) ⊎ ((i ≡ length xs) × (y ≡ x))
 get_cases [] y zero x at = inr (refl, let e : y ≡ x = cc in e)
 get_cases [] y (suc i) x at = absurd (let f = at in cc)
 get_cases (z ∷ xs) y zero x at = inl at
 get_cases (z ∷ xs) y (suc i) x at = elim (get_cases xs y i x at) [ inl before ↦ inl before | inr last ↦ inr (ap suc last.0, last.1) ]
-
-pub get_other : {A : Type 0} (xs : List A) (n i : ℕ) (y : A) → i ≢ n → slice_get (slice_set xs n y) i ≡ slice_get xs i
-get_other [] n i y other = refl
-get_other (x ∷ xs) zero zero y other = absurd (other refl)
-get_other (x ∷ xs) zero (suc i) y other = refl
-get_other (x ∷ xs) (suc n) zero y other = refl
-get_other (x ∷ xs) (suc n) (suc i) y other = get_other xs n i y (λ e. other (ap suc e))
-
-pub get_same : {A : Type 0} (xs : List A) (n : ℕ) (y : A) → n < length xs → slice_get (slice_set xs n y) n ≡ Some y
-get_same [] n y below = absurd (omega arith)
-get_same (x ∷ xs) zero y below = refl
-get_same (x ∷ xs) (suc n) y below = get_same xs n y (omega arith)
 
 -- At a place a text ends, or goes on with a byte.
 pub record GoesOn (text : List ℕ) (at : ℕ) : Type 0 where

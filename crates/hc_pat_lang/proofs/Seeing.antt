@@ -1,16 +1,6 @@
 -- The ways of a part through a marked text, by those of the pattern through the text without marks.
-use Rattle.std.proofs.Common.{◌≡◌, ℕ, zero, suc, ◌+◌, ◌-◌, ◌<◌, ◌≤◌, ◌⊎◌, Bool, true, false, List, [], length, if◌then◌else◌, nat_lt, nat_eq, Option, Some, None, slice_get, refl, sym, ◌∙◌, ap, subst, inl, inr, arith}
-use Rattle.std.specs.List.{AllByRecursion, Contains}
-use Rattle.std.proofs.lemmas.List.Elements.{Contains-append_left, Contains-push, Contains-push_cases}
-use Rattle.hc_base.specs.declared.place.Span.{Span}
-use Rattle.hc_pattern.specs.Bits.{has_byte}
-use Rattle.hc_pattern.specs.Pattern.{Pattern, empty, byte, class, start, finish, cat, alt, group, repeat}
-use Rattle.hc_ways.specs.Ways.{Way, Ways, none, stop, behind, either, stop_where, step_where, meets, closed, grouped, preferred, moving, any_turns, turns_up_to, turns_then, repeated}
-use Rattle.hc_ways.specs.Kept.{Turns, all_ways, with_turn}
-use Rattle.hc_pat_lang.specs.Fragments.{Exists}
-use Rattle.hc_pat_lang.specs.Turned.{leaves_out, part_ways, seen, step_by}
-use Rattle.hc_pat_lang.specs.declared.gates.Part.{Part}
-use Rattle.hc_pat_lang.proofs.Parts.{exists_as, exists_with, exists_left, exists_right, exists_cases, to_flat, from_flat, to_mapped, from_mapped, to_filtered, from_filtered, exists_among, all_append, all_flat, all_mapped, all_filtered, all_as, goes_on}
+use Rattle.hc_pat_lang.proofs.Common.{◌≡◌, ℕ, zero, suc, ◌+◌, ◌-◌, ◌<◌, ◌≤◌, ◌⊎◌, Bool, true, false, List, [], length, if◌then◌else◌, nat_lt, nat_eq, Option, Some, None, slice_get, refl, sym, ◌∙◌, subst, inl, inr, arith, AllByRecursion, Contains, Contains-append_left, Contains-push, Contains-push_cases, Span, has_byte, Pattern, empty, byte, class, start, finish, cat, alt, group, repeat, Way, Ways, none, stop, behind, either, stop_where, step_where, meets, closed, grouped, preferred, moving, any_turns, turns_up_to, turns_then, repeated, Turns, all_ways, with_turn, Exists, leaves_out, part_ways, seen, step_by, GroupPart, Each-append, Each-filter, Each-flat_map, Each-map}
+use Rattle.hc_pat_lang.proofs.Parts.{some_filtered, some_mapped, exists_as, exists_with, exists_left, exists_right, exists_cases, to_flat, from_flat, exists_among, all_as, all_if, exists_if, if_exists, goes_on, meets_some}
 
 -- What a way from a place on has kept more lies behind the place, and before its end.
 pub record Grown (text : List ℕ) (at : ℕ) (held : Turns) (way : Way Turns) : Type 0 where
@@ -23,18 +13,12 @@ module _ (text : List ℕ) where
   grown_stop : (at : ℕ) (held : Turns) → at ≤ length text → Grown text at held (record { end = at; held = held })
   grown_stop at held within = record { ordered = omega arith; within = within; keeps = λ x among. among; new = λ x among. inl among }
 
-  pub grown_on : (at : ℕ) (held : Turns) (way later : Way Turns) → Grown text at held way → Grown text way.end way.held later → Grown text at held later
+  grown_on : (at : ℕ) (held : Turns) (way later : Way Turns) → Grown text at held way → Grown text way.end way.held later → Grown text at held later
   grown_on at held way later first second = record {
     ordered = (let a = first.ordered in let b = second.ordered in omega arith);
     within = second.within;
     keeps = λ x among. second.keeps x (first.keeps x among);
-    new = λ x among. elim (second.new x among) [
-      | inl before ↦ elim (first.new x before) [
-        | inl old ↦ inl old
-        | inr own ↦ inr (own.0, own.1, (let a = own.2 in let b = second.ordered in omega arith))
-      ]
-      | inr own ↦ inr ((let a = own.0 in let b = first.ordered in omega arith), own.1, own.2)
-    ];
+    new = λ x among. let last = second.new x among in let before = first.new x in let ends = second.ordered in let begins = first.ordered in grind arith;
   }
 
   grown_closed : (number at : ℕ) (held : Turns) (way : Way Turns) → Grown text at held way → Grown text at held (closed with_turn number at way)
@@ -42,17 +26,10 @@ module _ (text : List ℕ) where
     ordered = grown.ordered;
     within = grown.within;
     keeps = λ x among. Contains-append_left way.held _ x (grown.keeps x among);
-    new = λ x among. elim (Contains-push_cases way.held (number, record { start = at; end = way.end }) x among) [
-      | inl before ↦ grown.new x before
-      | inr own ↦ inr (
-          let o = grown.ordered in
-          let begins : at ≡ x.1.start = ap (λ (t : ℕ × Span). t.1.start) own in
-          let ends : way.end ≡ x.1.end = ap (λ (t : ℕ × Span). t.1.end) own in
-          (omega arith, omega arith, omega arith))
-    ];
+    new = λ x among. let last = Contains-push_cases way.held (number, record { start = at; end = way.end }) x among in let before = grown.new x in let ordered = grown.ordered in grind arith;
   }
 
-module _ (part : Part) (marked text : List ℕ) (same : length marked ≡ length text) (reads : (k b : ℕ) → seen part marked k ≡ Some b → slice_get text k ≡ Some b) where
+module _ (part : GroupPart) (marked text : List ℕ) (same : length marked ≡ length text) (reads : (k b : ℕ) → seen part marked k ≡ Some b → slice_get text k ≡ Some b) where
   -- The part sees what stands there.
   abbrev pub SeesOn : ℕ → ℕ → Type 0
   SeesOn at end = (k : ℕ) → at ≤ k → k < end → seen part marked k ≡ slice_get text k
@@ -60,6 +37,9 @@ module _ (part : Part) (marked text : List ℕ) (same : length marked ≡ length
   -- No turn is kept that the part leaves out.
   abbrev pub Fresh : Turns → Type 0
   Fresh held = (x : ℕ × Span) → Contains held x → leaves_out part x.0 ≡ false
+
+  pub seen_over : (at mid end : ℕ) → SeesOn at mid → SeesOn mid end → SeesOn at end
+  seen_over at mid end first second k past below = (let a = first k past in let b = second k in grind arith)
 
   abbrev pub IsSeen : ℕ → Way Turns → Type 0
   IsSeen at way = SeesOn at way.end × Fresh way.held
@@ -84,7 +64,7 @@ module _ (part : Part) (marked text : List ℕ) (same : length marked ≡ length
 
   sees_either : (a b c d : Ways Turns) → Sees a c → Sees b d → Sees (either a b) (either c d)
   sees_either a b c d left right = record {
-    grown = λ at held within. all_append _ (c at held) (d at held) (left.grown at held within) (right.grown at held within);
+    grown = λ at held within. Each-append _ (c at held) (d at held) (left.grown at held within) (right.grown at held within);
     to = λ at one other P within fresh some. elim (exists_cases _ (a at one) (b at one) some) [
       | inl here ↦ exists_left _ (c at other) (d at other) (left.to at one other P within fresh here)
       | inr here ↦ exists_right _ (c at other) (d at other) (right.to at one other P within fresh here)
@@ -95,13 +75,13 @@ module _ (part : Part) (marked text : List ℕ) (same : length marked ≡ length
     ];
   }
 
-  pub grown_behind : (c d : Ways Turns) → ((at : ℕ) (held : Turns) → at ≤ length text → AllByRecursion (Grown text at held) (c at held))
+  grown_behind : (c d : Ways Turns) → ((at : ℕ) (held : Turns) → at ≤ length text → AllByRecursion (Grown text at held) (c at held))
       → ((at : ℕ) (held : Turns) → at ≤ length text → AllByRecursion (Grown text at held) (d at held)) → (at : ℕ) (held : Turns) → at ≤ length text → AllByRecursion (Grown text at held) (behind c d at held)
   grown_behind c d first second at held within =
-      all_flat (Grown text at held) (Grown text at held) _ (c at held) (first at held within)
+      Each-flat_map (Grown text at held) (Grown text at held) _ (c at held) (first at held within)
       (λ way grown. all_as (Grown text way.end way.held) _ _ (λ later on. grown_on text at held way later grown on) (second way.end way.held grown.within))
 
-  pub sees_behind : (a b c d : Ways Turns) → Sees a c → Sees b d → Sees (behind a b) (behind c d)
+  sees_behind : (a b c d : Ways Turns) → Sees a c → Sees b d → Sees (behind a b) (behind c d)
   sees_behind a b c d one two = record {
     grown = grown_behind c d one.grown two.grown;
     to = λ at first other P within fresh some.
@@ -111,9 +91,7 @@ module _ (part : Part) (marked text : List ℕ) (same : length marked ≡ length
         exists_as _ _ (d way.end way.held)
         (λ later there. (
           (
-            (λ k past below.
-                let cases : (k < way.end) ⊎ (way.end ≤ k) = grind arith in
-                elim cases [ inl less ↦ here.0.0 k past less | inr more ↦ there.0.0 k more below ]),
+            seen_over at way.end later.end here.0.0 there.0.0,
             there.0.1,
           ),
           there.1,
@@ -140,15 +118,15 @@ module _ (part : Part) (marked text : List ℕ) (same : length marked ≡ length
 
   pub sees_moving : (a c : Ways Turns) → Sees a c → Sees (moving a) (moving c)
   sees_moving a c sees = record {
-    grown = λ at held within. all_filtered _ _ (c at held) (sees.grown at held within);
+    grown = λ at held within. Each-filter _ _ (c at held) (sees.grown at held within);
     to = λ at one other P within fresh some.
-        to_filtered _ (λ way. nat_lt at way.end) (c at other)
+        (some_filtered _ (λ way. nat_lt at way.end) (c at other)).1
         (exists_as _ _ (c at other) (λ way here. ((here.0, here.1.0), here.1.1))
-        (sees.to at one other (λ end. P end × (nat_lt at end ≡ true)) within fresh (from_filtered _ (λ way. nat_lt at way.end) (a at one) some)));
+        (sees.to at one other (λ end. P end × (nat_lt at end ≡ true)) within fresh ((some_filtered _ (λ way. nat_lt at way.end) (a at one)).0 some)));
     from = λ at one other P within some.
-        to_filtered _ (λ way. nat_lt at way.end) (a at one)
+        (some_filtered _ (λ way. nat_lt at way.end) (a at one)).1
         (sees.from at one other (λ end. P end × (nat_lt at end ≡ true)) within
-        (exists_as _ _ (c at other) (λ way here. (here.0.0, (here.0.1, here.1))) (from_filtered _ (λ way. nat_lt at way.end) (c at other) some)));
+        (exists_as _ _ (c at other) (λ way here. (here.0.0, (here.0.1, here.1))) ((some_filtered _ (λ way. nat_lt at way.end) (c at other)).0 some)));
   }
 
   sees_preferred : (greedy : Bool) (a c : Ways Turns) → Sees a c → Sees (preferred greedy a) (preferred greedy c)
@@ -178,85 +156,39 @@ module _ (part : Part) (marked text : List ℕ) (same : length marked ≡ length
 
   -- ---- places and bytes
 
-  stops_grown : (at : ℕ) (held : Turns) (v : Bool) → at ≤ length text → AllByRecursion (Grown text at held) (if v then stop at held else [])
-  stops_grown at held true within = (grown_stop text at held within, tt)
-  stops_grown at held false within = tt
-
-  stops_to : (at : ℕ) (one other : Turns) (P : ℕ → Type 0) (v : Bool) → Fresh other → Exists (λ (way : Way Turns). P way.end) (if v then stop at one else [])
-      → Exists (λ (way : Way Turns). IsSeen at way × P way.end) (if v then stop at other else [])
-  stops_to at one other P true fresh (inl here) = inl (((λ k past below. absurd (omega arith)), fresh), here)
-  stops_to at one other P true fresh (inr isnt) = absurd isnt
-  stops_to at one other P false fresh some = absurd some
-
-  stops_from : (at : ℕ) (one other : Turns) (P : ℕ → Type 0) (v : Bool) → Exists (λ (way : Way Turns). IsSeen at way × P way.end) (if v then stop at other else [])
-      → Exists (λ (way : Way Turns). P way.end) (if v then stop at one else [])
-  stops_from at one other P true (inl here) = inl here.1
-  stops_from at one other P true (inr isnt) = absurd isnt
-  stops_from at one other P false some = absurd some
+  -- One way, where a test says so.
+  sees_test : (one other : ℕ → Bool) (far : ℕ → ℕ) → ((at : ℕ) → at ≤ length text → other at ≡ true → (at ≤ far at) × (far at ≤ length text)) → ((at : ℕ) → one at ≡ true → (other at ≡ true) × SeesOn at (far at))
+      → ((at : ℕ) → other at ≡ true → SeesOn at (far at) → one at ≡ true) → Sees (λ at held. if one at then stop (far at) held else []) (λ at held. if other at then stop (far at) held else [])
+  sees_test one other far fits to from = record {
+    grown = λ at held within. all_if _ _ (other at) (λ is. let fit = fits at within is in record { ordered = fit.0; within = fit.1; keeps = λ x among. among; new = λ x among. inl among });
+    to = λ at one_held other_held P within fresh some. let found = if_exists _ _ (one at) some in let shown = to at found.0 in exists_if _ _ (other at) shown.0 ((shown.1, fresh), found.1);
+    from = λ at one_held other_held P within some. let found = if_exists _ _ (other at) some in exists_if _ _ (one at) (from at found.0 found.1.0.0) found.1.1;
+  }
 
   sees_stop_where : (test : ℕ → Bool) → Sees (stop_where test) (stop_where test)
-  sees_stop_where test = record {
-    grown = λ at held within. stops_grown at held (test at) within;
-    to = λ at one other P within fresh. stops_to at one other P (test at) fresh;
-    from = λ at one other P within. stops_from at one other P (test at);
-  }
-
-  step_grown : (at : ℕ) (held : Turns) (v : Bool) → (v ≡ true → at < length text) → AllByRecursion (Grown text at held) (if v then stop (at + 1) held else [])
-  step_grown at held true past = (record { ordered = omega arith; within = (let p = past refl in omega arith); keeps = λ x among. among; new = λ x among. inl among }, tt)
-  step_grown at held false past = tt
-
-  step_to : (test : ℕ → Bool) (at : ℕ) (one other : Turns) (P : ℕ → Type 0) (sight : Option ℕ) → seen part marked at ≡ sight → Fresh other
-      → Exists (λ (way : Way Turns). P way.end) (if meets test sight then stop (at + 1) one else []) → Exists (λ (way : Way Turns). IsSeen at way × P way.end) (if meets test (slice_get text at) then stop (at + 1) other else [])
-  step_to test at one other P None is fresh some = absurd some
-  step_to test at one other P (Some b) is fresh some =
-      subst (λ (o : Option ℕ). Exists (λ (way : Way Turns). IsSeen at way × P way.end) (if meets test o then stop (at + 1) other else [])) (sym (reads at b is)) (by_test (test b) some)
-    where
-      by_test : (v : Bool) → Exists (λ (way : Way Turns). P way.end) (if v then stop (at + 1) one else []) → Exists (λ (way : Way Turns). IsSeen at way × P way.end) (if v then stop (at + 1) other else [])
-      by_test true (inl here) = inl (
-        (
-          (λ k past below.
-              let e : at ≡ k = omega arith in
-              subst (λ (n : ℕ). seen part marked n ≡ slice_get text n) e (is ∙ sym (reads at b is))),
-          fresh,
-        ),
-        here,
-      )
-      by_test true (inr isnt) = absurd isnt
-      by_test false some = absurd some
-
-  step_from : (test : ℕ → Bool) (at : ℕ) (one other : Turns) (P : ℕ → Type 0) → Exists (λ (way : Way Turns). IsSeen at way × P way.end) (if meets test (slice_get text at) then stop (at + 1) other else [])
-      → Exists (λ (way : Way Turns). P way.end) (if meets test (seen part marked at) then stop (at + 1) one else [])
-  step_from test at one other P some = by_test (meets test (slice_get text at)) refl some
-    where
-      by_test : (v : Bool) → meets test (slice_get text at) ≡ v → Exists (λ (way : Way Turns). IsSeen at way × P way.end) (if v then stop (at + 1) other else [])
-          → Exists (λ (way : Way Turns). P way.end) (if meets test (seen part marked at) then stop (at + 1) one else [])
-      by_test true is (inl here) =
-          subst (λ (v : Bool). Exists (λ (way : Way Turns). P way.end) (if v then stop (at + 1) one else [])) (sym (ap (meets test) (here.0.0 at (omega arith) (omega arith)) ∙ is)) (inl here.1)
-      by_test true is (inr isnt) = absurd isnt
-      by_test false is none = absurd none
+  sees_stop_where test = sees_test test test (λ at. at) (λ at within is. omega arith) (λ at is. (is, (λ k past below. absurd (omega arith)))) (λ at is seen_on. is)
 
   sees_step : (test : ℕ → Bool) → Sees (step_by (seen part marked) test) (step_where text test)
-  sees_step test = record {
-    grown = λ at held within. step_grown at held (meets test (slice_get text at)) (λ is. elim (goes_on text at) [
-      | inl past ↦ absurd (let f = ap (meets test) past.0 in cc)
-      | inr on ↦ on.within
-    ]);
-    to = λ at one other P within fresh. step_to test at one other P (seen part marked at) refl fresh;
-    from = λ at one other P within. step_from test at one other P;
-  }
+  sees_step test = sees_test (λ at. meets test (seen part marked at)) (λ at. meets test (slice_get text at)) (λ at. at + 1)
+      (λ at within is. elim (goes_on text at) [ inl past ↦ absurd (let f = rw past.0 at is in cc) | inr on ↦ (let w = on.within in omega arith) ])
+      (λ at is.
+      let found = meets_some test (seen part marked at) is in
+      let here = reads at found.0 found.1 in
+      (rw here found.2, (λ k past below. let same : k ≡ at = omega arith in rw same (found.1 ∙ sym here))))
+      (λ at is seen_on. rw (seen_on at (omega arith) (omega arith)) is)
 
   sees_grouped : (number : ℕ) (v : Bool) (a c : Ways Turns) → leaves_out part number ≡ v → Sees a c → Sees (if v then none else grouped with_turn number a) (grouped with_turn number c)
   sees_grouped number true a c out sees = record {
-    grown = λ at held within. all_mapped _ _ (closed with_turn number at) (c at held) (sees.grown at held within) (λ way grown. grown_closed text number at held way grown);
+    grown = λ at held within. Each-map _ _ (closed with_turn number at) (c at held) (sees.grown at held within) (λ way grown. grown_closed text number at held way grown);
     to = λ at one other P within fresh some. absurd some;
     from = λ at one other P within some.
-        let found = exists_among _ (c at other) (from_mapped _ (closed with_turn number at) (c at other) some) in
+        let found = exists_among _ (c at other) ((some_mapped _ (closed with_turn number at) (c at other)).0 some) in
         absurd (let f = found.2.0.1 _ (Contains-push found.0.held (number, record { start = at; end = found.0.end })) in let g = out in cc);
   }
   sees_grouped number false a c out sees = record {
-    grown = λ at held within. all_mapped _ _ (closed with_turn number at) (c at held) (sees.grown at held within) (λ way grown. grown_closed text number at held way grown);
+    grown = λ at held within. Each-map _ _ (closed with_turn number at) (c at held) (sees.grown at held within) (λ way grown. grown_closed text number at held way grown);
     to = λ at one other P within fresh some.
-        to_mapped _ (closed with_turn number at) (c at other)
+        (some_mapped _ (closed with_turn number at) (c at other)).1
         (exists_as _ _ (c at other)
         (λ way here. (
           (
@@ -268,11 +200,11 @@ module _ (part : Part) (marked text : List ℕ) (same : length marked ≡ length
           ),
           here.1,
         ))
-        (sees.to at one other P within fresh (from_mapped _ (closed with_turn number at) (a at one) some)));
+        (sees.to at one other P within fresh ((some_mapped _ (closed with_turn number at) (a at one)).0 some)));
     from = λ at one other P within some.
-        to_mapped _ (closed with_turn number at) (a at one)
+        (some_mapped _ (closed with_turn number at) (a at one)).1
         (sees.from at one other P within
-        (exists_as _ _ (c at other) (λ way here. ((here.0.0, (λ x among. here.0.1 x (Contains-append_left way.held _ x among))), here.1)) (from_mapped _ (closed with_turn number at) (c at other) some)));
+        (exists_as _ _ (c at other) (λ way here. ((here.0.0, (λ x among. here.0.1 x (Contains-append_left way.held _ x among))), here.1)) ((some_mapped _ (closed with_turn number at) (c at other)).0 some)));
   }
 
   pub sees_part : (pattern : Pattern) → Sees (part_ways part marked pattern) (all_ways text pattern)

@@ -1,17 +1,6 @@
 -- Fragments of the ways with a chosen turn.
-use Rattle.std.proofs.Common.{◌≡◌, ℕ, zero, suc, ◌-◌, ◌||◌, Bool, true, false, List, [], ◌∷◌, length, if◌then◌else◌, nat_lt, nat_eq, Option, Some, None, refl, sym, ◌∙◌, ap, arith}
-use Rattle.std.specs.List.{flat_map}
-use Rattle.hc_pattern.specs.Pattern.{Pattern, empty, byte, class, start, finish, cat, alt, group, repeat}
-use Rattle.hc_ways.specs.Ways.{Way, Ways, none, behind, either, moving, preferred, any_turns}
-use Rattle.hc_ways.specs.Kept.{Turns}
-use Rattle.hc_ways.proofs.Behind.{same_ways}
-use Rattle.hc_pat_lang.specs.Fragments.{AreTurns, IsBelow, IsFragment, IsReady}
-use Rattle.hc_pat_lang.specs.Gates.{IsJoin}
-use Rattle.hc_pat_lang.specs.Turned.{chosen_behind, chosen_repeated, chosen_then, chosen_up_to, chosen_ways, has_turn, part_ways}
+use Rattle.hc_pat_lang.proofs.Common.{◌≡◌, ℕ, zero, suc, ◌-◌, ◌||◌, Bool, true, false, List, [], ◌∷◌, length, if◌then◌else◌, nat_lt, nat_eq, Option, Some, None, refl, sym, ◌∙◌, ap, arith, flat_map, Pattern, cat, alt, group, repeat, Way, Ways, none, behind, either, moving, preferred, any_turns, Turns, same_ways, AreTurns, IsBelow, IsFragment, IsReady, IsJoin, chosen_behind, chosen_repeated, chosen_then, chosen_up_to, chosen_ways, has_turn, part_ways, Gate, Inside, Node}
 use Rattle.hc_pat_lang.specs.declared.chosen.Turns.{Turns as Both}
-use Rattle.hc_pat_lang.specs.declared.gates.Gate.{Gate}
-use Rattle.hc_pat_lang.specs.declared.gates.Part.TheVariants.{Inside}
-use Rattle.hc_pat_lang.specs.declared.nodes.Node.{Node}
 use Rattle.hc_pat_lang.proofs.Fragmenting.{Grows, below_more, fragment_behind, fragment_grows, fragment_joined, fragment_later, fragment_preferred, grows_on, join_grows, join_ready, ready_later}
 
 -- ---- patterns without the group
@@ -51,11 +40,6 @@ neither true q e = absurd (let f = e in cc)
 neither false q e = (refl, e)
 
 pub no_turn : (number : ℕ) (text : List ℕ) (pattern : Pattern) → has_turn number pattern ≡ false → chosen_ways number text pattern ≡ none
-no_turn number text empty isnt = refl
-no_turn number text (byte b) isnt = refl
-no_turn number text (class set) isnt = refl
-no_turn number text start isnt = refl
-no_turn number text finish isnt = refl
 no_turn number text (cat first second) isnt =
     let both = neither (has_turn number first) (has_turn number second) isnt in
     none_behind _ _ _ _ (no_turn number text first both.0) (no_turn number text second both.1)
@@ -66,6 +50,7 @@ no_turn number text (group own body) isnt =
     let both = neither (nat_eq own number) (has_turn number body) isnt in
     ap (λ (v : Bool). if v then either (part_ways Inside text body) (chosen_ways number text body) else chosen_ways number text body) both.0 ∙ no_turn number text body both.1
 no_turn number text (repeat body least most greedy) isnt = none_repeated (length text) _ _ least most greedy (no_turn number text body isnt)
+no_turn number text _ isnt = refl
 
 -- Ways are left out only where none are chosen.
 pub needed_behind : (needs_first needs_second : Bool) (first first_chosen second second_chosen : Ways Turns) → (needs_second ≡ false → first_chosen ≡ none) → (needs_first ≡ false → second_chosen ≡ none)

@@ -1,27 +1,15 @@
 -- Texts without marks.
-use Rattle.std.proofs.Common.{◌≡◌, ℕ, zero, suc, ◌<◌, ◌↔◌, List, [], ◌∷◌, Some, slice_get, refl, sym, ◌∙◌, ap, inl, inr, arith}
-use Rattle.hc_dfa.specs.Texts.{IsText}
-use Rattle.hc_pattern.specs.Pattern.{Pattern}
-use Rattle.hc_ways.specs.Ways.{Way}
-use Rattle.hc_ways.specs.Kept.{Turns, all_ways}
-use Rattle.hc_pat_lang.specs.Found.{IsFound}
-use Rattle.hc_pat_lang.specs.Turned.{part_ways, seen, seen_at}
-use Rattle.hc_pat_lang.specs.declared.gates.Part.TheVariants.{Outside}
-use Rattle.hc_pat_lang.proofs.Looking.{Finds, plain_here}
-use Rattle.hc_pat_lang.proofs.Parts.{exists_among, among_exists, goes_on}
+use Rattle.hc_pat_lang.proofs.Common.{◌≡◌, ℕ, zero, suc, ◌↔◌, List, [], ◌∷◌, slice_get, refl, sym, ◌∙◌, IsText, Pattern, Way, Turns, all_ways, IsFound, part_ways, seen, Outside}
+use Rattle.hc_pat_lang.proofs.Looking.{Finds}
+use Rattle.hc_pat_lang.proofs.Parts.{exists_among, among_exists}
 use Rattle.hc_pat_lang.proofs.Seeing.{sees_part}
-
-byte_small : (text : List ℕ) (at byte : ℕ) → IsText text → slice_get text at ≡ Some byte → byte < 256
-byte_small [] at byte bytes is = absurd (let f = is in cc)
-byte_small (b ∷ bs) zero byte bytes is = (let e : b ≡ byte = cc in let s = bytes.0 in omega arith)
-byte_small (b ∷ bs) (suc at) byte bytes is = byte_small bs at byte bytes.1 is
+use Rattle.hc_pat_lang.proofs.Serving.{sees_plain}
 
 -- All is seen as it stands.
-pub plain_text : (text : List ℕ) → IsText text → (k : ℕ) → seen Outside text k ≡ slice_get text k
-plain_text text bytes k = elim (goes_on text k) [
-  | inl past ↦ ap (seen_at Outside) past.0 ∙ sym past.0
-  | inr on ↦ plain_here text k on (byte_small text k on.byte bytes on.here)
-]
+plain_text : (text : List ℕ) → IsText text → (k : ℕ) → seen Outside text k ≡ slice_get text k
+plain_text [] bytes k = refl
+plain_text (b ∷ bs) bytes zero = sees_plain b bytes.0
+plain_text (b ∷ bs) bytes (suc k) = plain_text bs bytes.1 k
 
 pub finds_plain : (pattern : Pattern) (text : List ℕ) → IsText text → Finds (λ other. part_ways Outside other pattern) text ↔ IsFound pattern text
 finds_plain pattern text bytes =

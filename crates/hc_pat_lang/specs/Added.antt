@@ -1,5 +1,5 @@
 -- What is added to a machine.
-use Rattle.std.specs.Prelude.{◌≡◌, ℕ, ◌+◌, ◌<◌, ◌≤◌, ◌⊎◌, List, true}
+use Rattle.std.specs.Prelude.{◌≡◌, ℕ, ◌+◌, ◌<◌, ◌≤◌, ◌⊎◌, Bool, List, true}
 use Rattle.std.specs.List.{Contains}
 use Rattle.hc_dfa.specs.Automata.{Automaton, states, next_state, is_final}
 use Rattle.hc_dfa.specs.Machines.{Steps, Reads}
@@ -63,6 +63,10 @@ pub record IsFinalBelow (a : Automaton) (offset count place : ℕ) : Type 0 wher
 
 abbrev pub IsFinal : Automaton → ℕ → ℕ → Type 0
 IsFinal a offset = IsFinalBelow a offset (states a)
+
+-- Of each byte behind `low`, up to and with `last`, the test has answered that it is met.
+abbrev pub AllBehind : (ℕ → Bool → Type 0) → ℕ → ℕ → Type 0
+AllBehind answers low last = (byte : ℕ) → low < byte → byte ≤ last → answers byte true
 
 -- The bytes from one on, up to and with another, lead where the first of them leads.
 pub record IsRun (a : Automaton) (state low high : ℕ) : Type 0 where

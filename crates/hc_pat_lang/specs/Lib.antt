@@ -10,3 +10,4 @@ pub mod Gates
 pub mod Fragments
 pub mod Matching
 pub mod Laws
+pub mod Walks

@@ -5,8 +5,9 @@ use Rattle.hc_pattern.specs.Pattern.{Pattern, empty, byte, class, start, finish,
 use Rattle.hc_pattern.specs.declared.set.ByteSet.{ByteSet}
 use Rattle.hc_ways.specs.Ways.{Ways, any_turns, behind, either, grouped, meets, moving, none, repeated, stop, stop_where, turns_then, turns_up_to}
 use Rattle.hc_ways.specs.Kept.{Turns, with_turn}
-use Rattle.hc_pat_lang.specs.declared.gates.Part.{Part}
-use Rattle.hc_pat_lang.specs.declared.gates.Part.TheVariants.{Outside, Inside, Without}
+use Rattle.hc_pat_lang.specs.declared.build.Times.{Times}
+use Rattle.hc_pat_lang.specs.declared.gates.GroupPart.{GroupPart}
+use Rattle.hc_pat_lang.specs.declared.gates.GroupPart.TheVariants.{Outside, Inside, Without}
 use Rattle.hc_pat_lang.specs.declared.nodes.Node.{Node}
 use Rattle.hc_pat_lang.specs.declared.nodes.Node.TheVariants.{Step, Marked}
 
@@ -18,29 +19,29 @@ abbrev pub marked_byte : ℕ → Option ℕ
 marked_byte letter = if nat_lt letter 256 then None else plain_byte (letter - 256)
 
 -- The byte that a part of the ways sees in a letter.
-abbrev pub seen_in : Part → ℕ → Option ℕ
+abbrev pub seen_in : GroupPart → ℕ → Option ℕ
 seen_in Outside letter = plain_byte letter
 seen_in Inside letter = marked_byte letter
 seen_in (Without number) letter = plain_byte letter
 
-abbrev pub seen_at : Part → Option ℕ → Option ℕ
+abbrev pub seen_at : GroupPart → Option ℕ → Option ℕ
 seen_at part None = None
 seen_at part (Some letter) = seen_in part letter
 
-abbrev pub seen : Part → List ℕ → ℕ → Option ℕ
+abbrev pub seen : GroupPart → List ℕ → ℕ → Option ℕ
 seen part text at = seen_at part (slice_get text at)
 
 -- One byte, where one is seen and meets the test.
 abbrev pub step_by : (ℕ → Option ℕ) → (ℕ → Bool) → Ways Turns
 step_by see test at held = if meets test (see at) then stop (at + 1) held else []
 
-abbrev pub leaves_out : Part → ℕ → Bool
+abbrev pub leaves_out : GroupPart → ℕ → Bool
 leaves_out Outside number = false
 leaves_out Inside number = false
 leaves_out (Without other) number = other == number
 
 -- The ways of the part.
-abbrev pub part_ways : Part → List ℕ → Pattern → Ways Turns
+abbrev pub part_ways : GroupPart → List ℕ → Pattern → Ways Turns
 part_ways part text empty = stop
 part_ways part text (byte b) = step_by (seen part text) (λ c. c == b)
 part_ways part text (class set) = step_by (seen part text) (has_byte set)
@@ -51,8 +52,11 @@ part_ways part text (alt first second) = either (part_ways part text first) (par
 part_ways part text (group number body) = if leaves_out part number then none else grouped with_turn number (part_ways part text body)
 part_ways part text (repeat body least most greedy) = repeated (length text) (part_ways part text body) least most greedy
 
+abbrev pub times_of : Pattern → Times → Pattern
+times_of body times = repeat body times.least times.most times.greedy
+
 -- The node for a byte that the part sees.
-abbrev pub step_node : Part → ByteSet → ℕ → Node
+abbrev pub step_node : GroupPart → ByteSet → ℕ → Node
 step_node Outside set to = Step set to
 step_node Inside set to = Marked set to
 step_node (Without number) set to = Step set to
@@ -114,6 +118,17 @@ chosen_ways number text (group own body) =
     else chosen_ways number text body
 chosen_ways number text (repeat body least most greedy) =
     chosen_repeated (length text) (part_ways Outside text body) (chosen_ways number text body) least most greedy
+
+-- Turns of a body, of which one is chosen.
+abbrev pub then_chosen : ℕ → ℕ → List ℕ → Pattern → Ways Turns → Ways Turns → Ways Turns
+then_chosen number count text body = chosen_then (part_ways Outside text body) (chosen_ways number text body) count
+
+abbrev pub up_to_chosen : Bool → ℕ → ℕ → List ℕ → Pattern → Ways Turns
+up_to_chosen greedy number count text body = chosen_up_to greedy (part_ways Outside text body) (chosen_ways number text body) count
+
+abbrev pub any_chosen : Bool → ℕ → List ℕ → Pattern → Ways Turns
+any_chosen greedy number text body =
+    chosen_any greedy (part_ways Outside text body) (chosen_ways number text body) (length text)
 
 -- The ways in which the marked bytes are what the group holds: the whole way, or one of its turns, or none where it has no turn.
 abbrev pub group_ways : ℕ → List ℕ → Pattern → Ways Turns

@@ -1,22 +1,32 @@
-ghost use Rattle.std.specs.Prelude.{◌≡◌, ◌-◌, ◌≤◌, ◌==◌, ℕ, Bool, IfOk, if◌then◌else◌, length};
+ghost use Rattle.std.specs.Prelude.{◌≡◌, ◌-◌, ◌≤◌, ◌==◌, ℕ, Bool, IfOk, if◌then◌else◌};
+ghost use Rattle.std.specs.Prelude.{length};
 ghost use Rattle.hc_pattern.specs.Bits.{has_byte};
-ghost use Rattle.hc_pattern.specs.Pattern.{pattern_of};
+ghost use Rattle.hc_pattern.specs.Pattern.{group, pattern_of};
 ghost use Rattle.hc_pat_lang.specs.Fragments.{IsFragment, IsReady};
-ghost use Rattle.hc_pat_lang.specs.Turned.{leaves_out, part_ways, seen, step_by};
-ghost use Rattle.hc_ways.specs.Kept.{with_turn};
-ghost use Rattle.hc_ways.specs.Ways.{any_turns, grouped, none, repeated, stop, turns_then, turns_up_to};
+ghost use Rattle.hc_pat_lang.specs.Turned.{part_ways, seen, step_by, times_of};
+ghost use Rattle.hc_ways.specs.Ways.{any_turns, stop, turns_then, turns_up_to};
 
-use crate::gates::{Gate, Part, Point};
+use crate::gates::{Gate, GroupPart, Point};
 use crate::nodes::{Node, Nodes};
 use hc_base::NoMemory;
 use hc_pattern::{ByteSet, Pat};
 
+/// How many turns of a repeat there are. Which of them are tried first doesn't matter here.
+#[derive(Clone, Copy)]
+pub struct Times {
+    pub least: u16,
+    pub most: Option<u16>,
+    pub greedy: bool,
+}
+
 impl Nodes {
-    /// Adds the nodes of these ways of a pattern, behind which stands what the exits take. The answer is where it begins.
+    /// Adds the nodes of these ways of a pattern, behind which stands what the exits take. The answer is
+    /// where it begins.
     #[cycle(build)]
-    pub fn build(&mut self, pat: &Pat, part: Part, exits: Gate) -> Result<Gate, NoMemory>
+    pub fn build(&mut self, pat: &Pat, part: GroupPart, exits: Gate) -> Result<Gate, NoMemory>
         requires { IsReady self.old.list.items exits }
-        ensures { IfOk result (IsFragment (λ text. part_ways part text (pattern_of pat.now)) exits self.old.list.items self.new.list.items) }
+        ensures { IfOk result (IsFragment (λ text. part_ways part text (pattern_of pat.now))
+            exits self.old.list.items self.new.list.items) }
     {
         match pat {
             Pat::Empty => Ok(exits),
@@ -37,31 +47,45 @@ impl Nodes {
             }
             Pat::Group(number, body) => self.group(*number, body, part, exits),
             Pat::Repeat(body, least, most, greedy) => {
-                self.repeat(body, *least, *most, *greedy, part, exits)
+                let times = Times {
+                    least: *least,
+                    most: *most,
+                    greedy: *greedy,
+                };
+                self.repeat(body, times, part, exits)
             }
         }
     }
 
-    fn byte(&mut self, byte: u8, part: Part, exits: Gate) -> Result<Gate, NoMemory>
+    fn byte(&mut self, byte: u8, part: GroupPart, exits: Gate) -> Result<Gate, NoMemory>
         requires { IsReady self.old.list.items exits }
-        ensures { IfOk result (IsFragment (λ text. step_by (seen part text) (λ c. c == byte)) exits self.old.list.items self.new.list.items) }
+        ensures { IfOk result (IsFragment (λ text. step_by (seen part text) (λ c. c == byte))
+            exits self.old.list.items self.new.list.items) }
     {
         let entries = self.step(ByteSet::empty().with(byte), part, exits)?;
         Ok(entries)
     }
 
-    fn class(&mut self, set: ByteSet, part: Part, exits: Gate) -> Result<Gate, NoMemory>
+    fn class(&mut self, set: ByteSet, part: GroupPart, exits: Gate) -> Result<Gate, NoMemory>
         requires { IsReady self.old.list.items exits }
-        ensures { IfOk result (IsFragment (λ text. step_by (seen part text) (has_byte set)) exits self.old.list.items self.new.list.items) }
+        ensures { IfOk result (IsFragment (λ text. step_by (seen part text) (has_byte set))
+            exits self.old.list.items self.new.list.items) }
     {
         let entries = self.step(set, part, exits)?;
         Ok(entries)
     }
 
     #[cycle(build)]
-    fn group(&mut self, number: u8, body: &Pat, part: Part, exits: Gate) -> Result<Gate, NoMemory>
+    fn group(
+        &mut self,
+        number: u8,
+        body: &Pat,
+        part: GroupPart,
+        exits: Gate,
+    ) -> Result<Gate, NoMemory>
         requires { IsReady self.old.list.items exits }
-        ensures { IfOk result (IsFragment (λ text. if leaves_out part number then none else grouped with_turn number (part_ways part text (pattern_of body.now))) exits self.old.list.items self.new.list.items) }
+        ensures { IfOk result (IsFragment (λ text. part_ways part text (group number (pattern_of body.now)))
+            exits self.old.list.items self.new.list.items) }
     {
         if part.leaves_out(number) {
             return Ok(Gate::nowhere());
@@ -70,31 +94,28 @@ impl Nodes {
         Ok(entries)
     }
 
-    /// Whether more turns or fewer are tried first doesn't matter here.
     #[cycle(build)]
     fn repeat(
         &mut self,
         body: &Pat,
-        least: u16,
-        most: Option<u16>,
-        greedy: bool,
-        part: Part,
+        times: Times,
+        part: GroupPart,
         exits: Gate,
     ) -> Result<Gate, NoMemory>
         requires { IsReady self.old.list.items exits }
-        ensures { IfOk result (IsFragment (λ text. repeated (length text) (part_ways part text (pattern_of body.now)) least most greedy)
+        ensures { IfOk result (IsFragment (λ text. part_ways part text (times_of (pattern_of body.now) times))
             exits self.old.list.items self.new.list.items) }
     {
-        match most {
+        match times.most {
             None => {
-                let more = self.any_turns(body, greedy, part, exits)?;
-                let entries = self.turns(body, least, part, more)?;
+                let more = self.any_turns(body, times.greedy, part, exits)?;
+                let entries = self.turns(body, times.least, part, more)?;
                 Ok(entries)
             }
-            Some(most) if most < least => Ok(Gate::nowhere()),
+            Some(most) if most < times.least => Ok(Gate::nowhere()),
             Some(most) => {
-                let more = self.turns_up_to(body, most - least, greedy, part, exits)?;
-                let entries = self.turns(body, least, part, more)?;
+                let more = self.turns_up_to(body, most - times.least, times.greedy, part, exits)?;
+                let entries = self.turns(body, times.least, part, more)?;
                 Ok(entries)
             }
         }
@@ -106,11 +127,12 @@ impl Nodes {
         &mut self,
         body: &Pat,
         count: u16,
-        part: Part,
+        part: GroupPart,
         exits: Gate,
     ) -> Result<Gate, NoMemory>
         requires { IsReady self.old.list.items exits }
-        ensures { IfOk result (IsFragment (λ text. turns_then (part_ways part text (pattern_of body.now)) count stop) exits self.old.list.items self.new.list.items) }
+        ensures { IfOk result (IsFragment (λ text. turns_then (part_ways part text (pattern_of body.now)) count stop)
+            exits self.old.list.items self.new.list.items) }
     {
         let mut gate = exits;
         for _turn in 0..count {
@@ -126,11 +148,13 @@ impl Nodes {
         body: &Pat,
         count: u16,
         _greedy: bool,
-        part: Part,
+        part: GroupPart,
         exits: Gate,
     ) -> Result<Gate, NoMemory>
         requires { IsReady self.old.list.items exits }
-        ensures { IfOk result (IsFragment (λ text. turns_up_to _greedy (part_ways part text (pattern_of body.now)) count) exits self.old.list.items self.new.list.items) }
+        ensures { IfOk result (IsFragment (λ text.
+            turns_up_to _greedy (part_ways part text (pattern_of body.now)) count)
+            exits self.old.list.items self.new.list.items) }
     {
         let mut gate = exits;
         for _turn in 0..count {
@@ -146,11 +170,12 @@ impl Nodes {
         &mut self,
         body: &Pat,
         _greedy: bool,
-        part: Part,
+        part: GroupPart,
         exits: Gate,
     ) -> Result<Gate, NoMemory>
         requires { IsReady self.old.list.items exits }
-        ensures { IfOk result (IsFragment (λ text. any_turns _greedy (part_ways part text (pattern_of body.now)) (length text))
+        ensures { IfOk result (IsFragment (λ text.
+            any_turns _greedy (part_ways part text (pattern_of body.now)) (length text))
             exits self.old.list.items self.new.list.items) }
     {
         let again = Point {

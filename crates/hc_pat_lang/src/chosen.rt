@@ -1,14 +1,17 @@
-ghost use Rattle.std.specs.Prelude.{◌≡◌, ◌-◌, ◌==◌, ◌≤◌, Bool, IfOk, List, ℕ, if◌then◌else◌, length};
-ghost use Rattle.hc_pattern.specs.Pattern.{pattern_of};
+ghost use Rattle.std.specs.Prelude.{◌≡◌, ◌-◌, ◌==◌, ◌≤◌, Bool, IfOk, List, ℕ};
+ghost use Rattle.std.specs.Prelude.{if◌then◌else◌, length};
+ghost use Rattle.hc_pattern.specs.Pattern.{group, pattern_of};
 ghost use Rattle.hc_pat_lang.specs.Fragments.{AreTurns, IsFragment, IsReady};
-ghost use Rattle.hc_pat_lang.specs.Turned.{chosen_any, chosen_repeated, chosen_then, chosen_up_to, chosen_ways, has_turn, part_ways};
+ghost use Rattle.hc_pat_lang.specs.Turned.{any_chosen, chosen_ways, has_turn, part_ways, then_chosen, times_of};
+ghost use Rattle.hc_pat_lang.specs.Turned.{up_to_chosen};
 ghost use Rattle.hc_pat_lang.specs.declared.gates.Gate.{Gate as G};
 ghost use Rattle.hc_pat_lang.specs.declared.nodes.Node.{Node as N};
 ghost use Rattle.hc_ways.specs.Kept.{Turns as Held};
-ghost use Rattle.hc_ways.specs.Ways.{Ways, any_turns, either, none, turns_up_to};
-ghost use Rattle.hc_pat_lang.specs.declared.gates.Part.TheVariants.{Inside, Outside};
+ghost use Rattle.hc_ways.specs.Ways.{Ways, any_turns, none, turns_up_to};
+ghost use Rattle.hc_pat_lang.specs.declared.gates.GroupPart.TheVariants.{Outside};
 
-use crate::gates::{Gate, Part};
+use crate::build::Times;
+use crate::gates::{Gate, GroupPart};
 use crate::nodes::Nodes;
 use hc_base::NoMemory;
 use hc_pattern::Pat;
@@ -46,7 +49,8 @@ impl Nodes {
     #[cycle(choose)]
     pub fn choose(&mut self, pat: &Pat, number: u8, exits: Gate) -> Result<Gate, NoMemory>
         requires { IsReady self.old.list.items exits }
-        ensures { IfOk result (IsFragment (λ text. chosen_ways number text (pattern_of pat.now)) exits self.old.list.items self.new.list.items) }
+        ensures { IfOk result (IsFragment (λ text. chosen_ways number text (pattern_of pat.now))
+            exits self.old.list.items self.new.list.items) }
     {
         match pat {
             Pat::Empty | Pat::Byte(_) | Pat::Class(_) | Pat::Start | Pat::Finish => {
@@ -68,7 +72,12 @@ impl Nodes {
             }
             Pat::Group(own, body) => self.choose_group(*own, body, number, exits),
             Pat::Repeat(body, least, most, greedy) => {
-                self.choose_repeat(body, *least, *most, *greedy, number, exits)
+                let times = Times {
+                    least: *least,
+                    most: *most,
+                    greedy: *greedy,
+                };
+                self.choose_repeat(body, times, number, exits)
             }
         }
     }
@@ -76,12 +85,14 @@ impl Nodes {
     /// Adds the nodes of a pattern only where they are needed.
     fn build_if(&mut self, needed: bool, pat: &Pat, exits: Gate) -> Result<Gate, NoMemory>
         requires { IsReady self.old.list.items exits }
-        ensures { IfOk result (IsFragment (λ text. if needed then part_ways Outside text (pattern_of pat.now) else none) exits self.old.list.items self.new.list.items) }
+        ensures { IfOk result (IsFragment (λ text.
+            if needed then part_ways Outside text (pattern_of pat.now) else none)
+            exits self.old.list.items self.new.list.items) }
     {
         if !needed {
             return Ok(Gate::nowhere());
         }
-        let entries = self.build(pat, Part::Outside, exits)?;
+        let entries = self.build(pat, GroupPart::Outside, exits)?;
         Ok(entries)
     }
 
@@ -94,13 +105,14 @@ impl Nodes {
         exits: Gate,
     ) -> Result<Gate, NoMemory>
         requires { IsReady self.old.list.items exits }
-        ensures { IfOk result (IsFragment (λ text. if own == number then either (part_ways Inside text (pattern_of body.now)) (chosen_ways number text (pattern_of body.now)) else chosen_ways number text (pattern_of body.now)) exits self.old.list.items self.new.list.items) }
+        ensures { IfOk result (IsFragment (λ text. chosen_ways number text (group own (pattern_of body.now)))
+            exits self.old.list.items self.new.list.items) }
     {
         let inner = self.choose(body, number, exits)?;
         if own != number {
             return Ok(inner);
         }
-        let whole = self.build(body, Part::Inside, exits)?;
+        let whole = self.build(body, GroupPart::Inside, exits)?;
         let entries = self.join(whole, inner)?;
         Ok(entries)
     }
@@ -109,26 +121,30 @@ impl Nodes {
     fn choose_repeat(
         &mut self,
         body: &Pat,
-        least: u16,
-        most: Option<u16>,
-        greedy: bool,
+        times: Times,
         number: u8,
         exits: Gate,
     ) -> Result<Gate, NoMemory>
         requires { IsReady self.old.list.items exits }
-        ensures { IfOk result (IsFragment (λ text. chosen_repeated (length text) (part_ways Outside text (pattern_of body.now)) (chosen_ways number text (pattern_of body.now)) least most greedy)
+        ensures { IfOk result (IsFragment (λ text. chosen_ways number text (times_of (pattern_of body.now) times))
             exits self.old.list.items self.new.list.items) }
     {
-        match most {
+        match times.most {
             None => {
-                let more = self.choose_any(body, greedy, number, exits)?;
-                let entries = self.choose_turns(body, least, number, more)?;
+                let more = self.choose_any(body, times.greedy, number, exits)?;
+                let entries = self.choose_turns(body, times.least, number, more)?;
                 Ok(entries)
             }
-            Some(most) if most < least => Ok(Gate::nowhere()),
+            Some(most) if most < times.least => Ok(Gate::nowhere()),
             Some(most) => {
-                let more = self.choose_up_to(body, most - least, greedy, number, exits)?;
-                let entries = self.choose_turns(body, least, number, more)?;
+                let more = self.choose_up_to(
+                    body,
+                    most - times.least,
+                    times.greedy,
+                    number,
+                    exits,
+                )?;
+                let entries = self.choose_turns(body, times.least, number, more)?;
                 Ok(entries)
             }
         }
@@ -145,15 +161,17 @@ impl Nodes {
     ) -> Result<Gate, NoMemory>
         requires all { IsReady self.old.list.items more.all }
         requires chosen { IsReady self.old.list.items more.chosen }
-        ensures { IfOk result (λ gate. (exits : G) (base : List N) (all chosen : List ℕ → Ways Held) → AreTurns all chosen exits base self.old.list.items more
-            → IsFragment (λ text. chosen_then (part_ways Outside text (pattern_of body.now)) (chosen_ways number text (pattern_of body.now)) count (all text) (chosen text)) exits base self.new.list.items gate) }
+        ensures { IfOk result (λ gate. (exits : G) (base : List N) (all chosen : List ℕ → Ways Held)
+            → AreTurns all chosen exits base self.old.list.items more
+            → IsFragment (λ text. then_chosen number count text (pattern_of body.now) (all text) (chosen text))
+            exits base self.new.list.items gate) }
     {
         let mut turns = more;
         for _turn in 0..count {
             let one = self.choose(body, number, turns.all)?;
-            let other = self.build(body, Part::Outside, turns.chosen)?;
+            let other = self.build(body, GroupPart::Outside, turns.chosen)?;
             let chosen = self.join(one, other)?;
-            let all = self.build(body, Part::Outside, turns.all)?;
+            let all = self.build(body, GroupPart::Outside, turns.all)?;
             turns = Turns { all, chosen };
         }
         Ok(turns.chosen)
@@ -170,8 +188,10 @@ impl Nodes {
         exits: Gate,
     ) -> Result<Turns, NoMemory>
         requires { IsReady self.old.list.items exits }
-        ensures { IfOk result (AreTurns (λ text. turns_up_to _greedy (part_ways Outside text (pattern_of body.now)) count)
-            (λ text. chosen_up_to _greedy (part_ways Outside text (pattern_of body.now)) (chosen_ways number text (pattern_of body.now)) count) exits self.old.list.items self.new.list.items) }
+        ensures { IfOk result (AreTurns (λ text.
+            turns_up_to _greedy (part_ways Outside text (pattern_of body.now)) count)
+            (λ text. up_to_chosen _greedy number count text (pattern_of body.now))
+            exits self.old.list.items self.new.list.items) }
     {
         let mut turns = Turns {
             all: exits,
@@ -179,9 +199,9 @@ impl Nodes {
         };
         for _turn in 0..count {
             let one = self.choose(body, number, turns.all)?;
-            let other = self.build(body, Part::Outside, turns.chosen)?;
+            let other = self.build(body, GroupPart::Outside, turns.chosen)?;
             let chosen = self.join(one, other)?;
-            let turn = self.build(body, Part::Outside, turns.all)?;
+            let turn = self.build(body, GroupPart::Outside, turns.all)?;
             let all = self.join(turn, exits)?;
             turns = Turns { all, chosen };
         }
@@ -198,12 +218,14 @@ impl Nodes {
         exits: Gate,
     ) -> Result<Turns, NoMemory>
         requires { IsReady self.old.list.items exits }
-        ensures { IfOk result (AreTurns (λ text. any_turns greedy (part_ways Outside text (pattern_of body.now)) (length text))
-            (λ text. chosen_any greedy (part_ways Outside text (pattern_of body.now)) (chosen_ways number text (pattern_of body.now)) (length text)) exits self.old.list.items self.new.list.items) }
+        ensures { IfOk result (AreTurns (λ text.
+            any_turns greedy (part_ways Outside text (pattern_of body.now)) (length text))
+            (λ text. any_chosen greedy number text (pattern_of body.now))
+            exits self.old.list.items self.new.list.items) }
     {
-        let all = self.any_turns(body, greedy, Part::Outside, exits)?;
+        let all = self.any_turns(body, greedy, GroupPart::Outside, exits)?;
         let turn = self.choose(body, number, Gate::nowhere().with_moved(all.moved))?;
-        let chosen = self.any_turns(body, greedy, Part::Outside, turn.alone())?;
+        let chosen = self.any_turns(body, greedy, GroupPart::Outside, turn.alone())?;
         Ok(Turns { all, chosen })
     }
 }

@@ -4,7 +4,7 @@ ghost use Rattle.hc_pat_lang.specs.Found.{IsFound};
 ghost use Rattle.hc_pat_lang.specs.Matching.{IsFull, LooksFor};
 ghost use Rattle.hc_pat_lang.specs.Sets.{AcceptsOnly};
 
-use crate::gates::{Gate, Part};
+use crate::gates::{Gate, GroupPart};
 use crate::nodes::{Node, Nodes};
 use crate::table::automaton_of;
 use hc_base::NoMemory;
@@ -18,7 +18,7 @@ pub fn matched(alloc: Global, pat: &Pat) -> Result<Dfa, NoMemory>
 {
     let every = every_byte();
     let mut nodes = Nodes::new(alloc, every)?;
-    let entries = nodes.build(pat, Part::Outside, Gate::anything())?;
+    let entries = nodes.build(pat, GroupPart::Outside, Gate::anything())?;
     let start = nodes.look_for(every, entries)?;
     let machine = nodes.machine(alloc, start)?;
     let made = automaton_of(alloc, &machine)?;

@@ -1,6 +1,7 @@
 ghost use Rattle.std.specs.Prelude.{◌≡◌, ◌||◌, ◌++◌, ◌∷◌, [], IfOk, if◌then◌else◌, length};
 ghost use Rattle.hc_pat_lang.specs.Fragments.{IsReady};
-ghost use Rattle.hc_pat_lang.specs.Gates.{IsJoin, IsFork, IsStep, alone_gate, anything, finish_gate, finish_point, nowhere, nowhere_gate, start_gate};
+ghost use Rattle.hc_pat_lang.specs.Gates.{IsJoin, IsFork, IsStep, alone_gate, anything, finish_gate, finish_point};
+ghost use Rattle.hc_pat_lang.specs.Gates.{nowhere, nowhere_gate, start_gate};
 ghost use Rattle.hc_pat_lang.specs.Turned.{leaves_out, step_node};
 
 use crate::nodes::{Node, Nodes};
@@ -27,7 +28,7 @@ pub struct Gate {
 /// Which ways of a pattern nodes are made for, and whether their bytes are those of the chosen turn of a
 /// group.
 #[derive(Clone, Copy)]
-pub enum Part {
+pub enum GroupPart {
     /// All ways, before or behind the turn.
     Outside,
     /// All ways, in the turn.
@@ -36,14 +37,14 @@ pub enum Part {
     Without(u8),
 }
 
-impl Part {
+impl GroupPart {
     /// Whether the ways through this group are left out.
     pub fn leaves_out(self, number: u8) -> bool
         ensures { result ≡ leaves_out self number }
     {
         match self {
-            Part::Outside | Part::Inside => false,
-            Part::Without(group) => group == number,
+            GroupPart::Outside | GroupPart::Inside => false,
+            GroupPart::Without(group) => group == number,
         }
     }
 
@@ -52,8 +53,8 @@ impl Part {
         ensures { result ≡ step_node self set to }
     {
         match self {
-            Part::Outside | Part::Without(_) => Node::Step(set, to),
-            Part::Inside => Node::Marked(set, to),
+            GroupPart::Outside | GroupPart::Without(_) => Node::Step(set, to),
+            GroupPart::Inside => Node::Marked(set, to),
         }
     }
 }
@@ -152,7 +153,7 @@ impl Gate {
 
 impl Nodes {
     /// A node for a byte of the set.
-    pub fn step(&mut self, set: ByteSet, part: Part, exits: Gate) -> Result<Gate, NoMemory>
+    pub fn step(&mut self, set: ByteSet, part: GroupPart, exits: Gate) -> Result<Gate, NoMemory>
         ensures { IfOk result (IsStep self.old.list.items self.new.list.items (step_node part set exits.moved.state)) }
     {
         let state = self.add(part.step(set, exits.moved.state))?;

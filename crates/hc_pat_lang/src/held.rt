@@ -8,7 +8,7 @@ ghost use Rattle.hc_pat_lang.specs.Sets.{AcceptsOnly};
 ghost use Rattle.hc_pat_lang.specs.Turned.{group_ways};
 
 use crate::finding::every_byte;
-use crate::gates::{Gate, Part};
+use crate::gates::{Gate, GroupPart};
 use crate::nodes::Nodes;
 use crate::table::automaton_of;
 use crate::walk::marked_machine;
@@ -36,14 +36,15 @@ impl Nodes {
     /// Adds the nodes of the ways in which what the group holds is marked.
     fn build_group(&mut self, pat: &Pat, number: u8) -> Result<Gate, NoMemory>
         requires { IsReady self.old.list.items anything }
-        ensures { IfOk result (IsFragment (λ text. group_ways number text (pattern_of pat.now)) anything self.old.list.items self.new.list.items) }
+        ensures { IfOk result (IsFragment (λ text. group_ways number text (pattern_of pat.now))
+            anything self.old.list.items self.new.list.items) }
     {
         if number == 0 {
-            let entries = self.build(pat, Part::Inside, Gate::anything())?;
+            let entries = self.build(pat, GroupPart::Inside, Gate::anything())?;
             return Ok(entries);
         }
         let turn = self.choose(pat, number, Gate::anything())?;
-        let unset = self.build(pat, Part::Without(number), Gate::anything())?;
+        let unset = self.build(pat, GroupPart::Without(number), Gate::anything())?;
         let entries = self.join(turn, unset)?;
         Ok(entries)
     }

@@ -10,6 +10,7 @@ mod joined;
 pub mod laws;
 mod nodes;
 mod quotients;
+mod runs;
 mod slashes;
 mod steps;
 mod table;

@@ -5,10 +5,14 @@ ghost use Rattle.hc_pat_lang.specs.Matching.{EndBelow, IsByteBelow, IsClass, IsF
 ghost use Rattle.hc_pat_lang.specs.Nodes.{AreNodes};
 
 use crate::nodes::{Node, Nodes};
+use crate::runs;
 use hc_base::NoMemory;
 use hc_dfa::{Machine, ReadingStep, SilentStep};
 use hc_pattern::ByteSet;
 use std::alloc::Global;
+
+/// How many values a byte has.
+pub const BYTE_VALUES: u16 = 256;
 
 impl Nodes {
     /// The machine of steps that reads the texts of a node.
@@ -88,7 +92,7 @@ fn add_class(machine: &mut Machine, set: ByteSet, from: u32, to: u32) -> Result<
     ensures { OnOk result (AddsReading machine.old machine.new (IsClass set from to)) }
 {
     let mut next = 0;
-    for byte in 0..256u16 {
+    for byte in 0..BYTE_VALUES {
         if byte < next {
             continue;
         }
@@ -112,10 +116,11 @@ fn run_end(set: ByteSet, low: u8) -> u8
     requires { has_byte set low ≡ true }
     ensures { IsRunOf set low result }
 {
-    for byte in u16::from(low) + 1..256u16 {
-        if !set.has(byte as u8) {
-            return byte as u8 - 1;
-        }
-    }
-    u8::MAX
+    runs::run_end(
+        low,
+        u8::MAX,
+        |byte|
+            ensures { result ≡ has_byte set byte }
+        { set.has(byte) },
+    )
 }

@@ -1,8 +1,9 @@
-ghost use Rattle.std.specs.Prelude.{◌≡◌, ◌+◌, ◌<◌, ◌≤◌, ◌^◌, IfOk, OnOk};
-ghost use Rattle.hc_dfa.specs.Automata.{states};
+ghost use Rattle.std.specs.Prelude.{◌≡◌, ◌==◌, ◌+◌, ◌<◌, ◌≤◌, ◌^◌, IfOk, OnOk};
+ghost use Rattle.hc_dfa.specs.Automata.{next_state, states};
 ghost use Rattle.hc_dfa.specs.Machines.{AcceptsPathsOf};
 ghost use Rattle.hc_pat_lang.specs.Added.{AddsFinals, AddsReading, IsFinal, IsRow, IsRun, LeadsOn};
 
+use crate::runs;
 use hc_base::NoMemory;
 use hc_dfa::{Dfa, Machine, ReadingStep, reduce};
 use std::alloc::Global;
@@ -89,12 +90,14 @@ fn run_end(a: &Dfa, state: u32, low: u8, high: u8) -> u8
     ensures within { result ≤ high }
 {
     let target = a.next_state(state, low);
-    for byte in u16::from(low) + 1..u16::from(high) + 1 {
-        if a.next_state(state, byte as u8) != target {
-            return byte as u8 - 1;
-        }
-    }
-    high
+    runs::run_end(
+        low,
+        high,
+        |byte|
+            requires { state < states a.now }
+            ensures { result ≡ (next_state a.entry.now state byte == target) }
+        { a.next_state(state, byte) == target },
+    )
 }
 
 /// The least automaton that accepts the texts of the machine.

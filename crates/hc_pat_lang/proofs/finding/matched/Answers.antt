@@ -1,6 +1,4 @@
-use Rattle.hc_pattern.specs.Pattern.{pattern_of}
-use Rattle.hc_pat_lang.specs.Turned.{part_ways}
-use Rattle.hc_pat_lang.specs.declared.gates.Part.TheVariants.{Outside}
+use Rattle.hc_pat_lang.proofs.Common.{pattern_of, part_ways, Outside}
 use Rattle.hc_pat_lang.proofs.Looking.{first_ready, looked, taken_finds}
 use Rattle.hc_pat_lang.proofs.Unmarked.{finds_plain}
 use Rattle.hc_pat_lang.proofs.finding.matched.Goals as goal

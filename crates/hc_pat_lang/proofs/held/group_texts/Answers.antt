@@ -1,6 +1,4 @@
-use Rattle.hc_dfa.specs.Automata.{accepts}
-use Rattle.hc_pattern.specs.Pattern.{pattern_of}
-use Rattle.hc_pat_lang.specs.Turned.{group_ways}
+use Rattle.hc_pat_lang.proofs.Common.{accepts, pattern_of, group_ways}
 use Rattle.hc_pat_lang.proofs.Grouping.{group_text}
 use Rattle.hc_pat_lang.proofs.Looking.{looked, taken_finds}
 use Rattle.hc_pat_lang.proofs.held.group_texts.Goals as goal

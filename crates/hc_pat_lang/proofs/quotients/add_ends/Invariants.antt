@@ -1,5 +1,4 @@
-use Rattle.hc_pat_lang.specs.Added.{AddsFinals}
-use Rattle.hc_pat_lang.specs.Led.{OnwardsBelow}
+use Rattle.hc_pat_lang.proofs.Common.{AddsFinals, OnwardsBelow}
 use Rattle.hc_pat_lang.proofs.quotients.add_ends.Given as goal
 
 abbrev pub invariant-loop-state : goal.invariant-loop-state

@@ -1,5 +1,4 @@
-use Rattle.hc_pat_lang.specs.Added.{AddsStarts}
-use Rattle.hc_pat_lang.specs.Led.{LedToBelow}
+use Rattle.hc_pat_lang.proofs.Common.{AddsStarts, LedToBelow}
 use Rattle.hc_pat_lang.proofs.quotients.add_starts.Given as goal
 
 abbrev pub invariant-loop-state : goal.invariant-loop-state

@@ -1,5 +1,4 @@
-use Rattle.hc_pat_lang.specs.Added.{AddsReading}
-use Rattle.hc_pat_lang.specs.Merging.{IsOtherBelow}
+use Rattle.hc_pat_lang.proofs.Common.{AddsReading, IsOtherBelow}
 use Rattle.hc_pat_lang.proofs.slashes.add_others.Given as goal
 
 abbrev pub invariant-loop-state : goal.invariant-loop-state

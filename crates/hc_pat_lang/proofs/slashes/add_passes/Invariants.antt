@@ -1,5 +1,4 @@
-use Rattle.hc_pat_lang.specs.Added.{AddsSilent}
-use Rattle.hc_pat_lang.specs.Merging.{IsPassBelow}
+use Rattle.hc_pat_lang.proofs.Common.{AddsSilent, IsPassBelow}
 use Rattle.hc_pat_lang.proofs.slashes.add_passes.Given as goal
 
 abbrev pub invariant-loop-state : goal.invariant-loop-state

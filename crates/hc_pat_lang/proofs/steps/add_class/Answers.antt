@@ -1,6 +1,4 @@
-use Rattle.std.proofs.Common.{◌≡◌, ℕ, ◌+◌, max, refl, subst, sym, ◌∙◌, arith}
-use Rattle.hc_pat_lang.specs.Added.{AddsReading}
-use Rattle.hc_pat_lang.specs.Matching.{IsClassBelow}
+use Rattle.hc_pat_lang.proofs.Common.{◌≡◌, ℕ, ◌+◌, max, refl, subst, sym, ◌∙◌, arith, AddsReading, IsClassBelow}
 use Rattle.hc_pat_lang.proofs.Stepping.{class_added, class_left}
 use Rattle.hc_pat_lang.proofs.steps.add_class.Goals as goal
 

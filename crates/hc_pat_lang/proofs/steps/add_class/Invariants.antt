@@ -1,6 +1,4 @@
-use Rattle.std.proofs.Common.{◌≤◌, max}
-use Rattle.hc_pat_lang.specs.Added.{AddsReading}
-use Rattle.hc_pat_lang.specs.Matching.{IsClassBelow}
+use Rattle.hc_pat_lang.proofs.Common.{◌≤◌, max, AddsReading, IsClassBelow}
 use Rattle.hc_pat_lang.proofs.steps.add_class.Given as goal
 
 abbrev pub invariant-loop-byte : goal.invariant-loop-byte

@@ -1,6 +1,5 @@
-use Rattle.std.proofs.Common.{◌≤◌, ◌<◌, length, sym, ◌∙◌, arith}
+use Rattle.hc_pat_lang.proofs.Common.{◌≤◌, ◌<◌, length, sym, ◌∙◌, arith, slice_get_within}
 use Rattle.hc_dfa.proofs.Rows.{keys_ended}
-use Rattle.std.proofs.lemmas.Option.{slice_get_within}
 use Rattle.hc_pat_lang.proofs.Reached.{reads_marked}
 use Rattle.hc_pat_lang.proofs.Walking.{done_more}
 use Rattle.hc_pat_lang.proofs.walk.marked_machine.Goals as goal

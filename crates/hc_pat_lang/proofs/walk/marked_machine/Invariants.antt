@@ -1,5 +1,4 @@
-use Rattle.std.proofs.Common.{◌≡◌, ◌<◌, ℕ, [], ◌∷◌, Some, slice_get}
-use Rattle.hc_pat_lang.specs.Walked.{IsDone, Place, Sound}
+use Rattle.hc_pat_lang.proofs.Common.{◌≡◌, ◌<◌, ℕ, [], ◌∷◌, Some, slice_get, IsDone, Place, Sound}
 use Rattle.hc_pat_lang.proofs.walk.marked_machine.Given as goal
 
 abbrev pub invariant-loop-number : goal.invariant-loop-number

@@ -1,7 +1,4 @@
-use Rattle.hc_pattern.specs.Pattern.{pattern_of}
-use Rattle.hc_pat_lang.specs.Fragments.{IsFragment}
-use Rattle.hc_pat_lang.specs.Turned.{part_ways}
-use Rattle.hc_ways.specs.Ways.{stop, turns_then, turns_up_to}
+use Rattle.hc_pat_lang.proofs.Common.{pattern_of, IsFragment, part_ways, stop, turns_then, turns_up_to}
 use Rattle.hc_pat_lang.proofs.nodes.Nodes.+build.Given as goal
 
 abbrev pub invariant-turns-loop-turn : goal.invariant-turns-loop-turn

@@ -1,20 +1,13 @@
-use Rattle.std.proofs.Common.{rules, ◌≡◌, ◌∙◌, List, [], ℕ, Some, ap, sym, subst, inl, inr, arith, add-one, le-ltb}
-use Rattle.std.proofs.lemmas.Bool.Decides.{eqb_tells}
-use Rattle.hc_pattern.specs.Pattern.{alt, cat, pattern_of}
-use Rattle.hc_ways.specs.Ways.{turns_then, turns_up_to}
-use Rattle.hc_pat_lang.specs.Fragments.{AreTurns, IsFragment}
-use Rattle.hc_pat_lang.specs.Turned.{chosen_then, chosen_up_to, chosen_ways, has_turn, part_ways}
-use Rattle.hc_pat_lang.specs.declared.gates.Gate.{Gate}
-use Rattle.hc_pat_lang.specs.declared.gates.Part.TheVariants.{Outside}
+use Rattle.hc_pat_lang.proofs.Common.{rules, ◌≡◌, ◌∙◌, List, [], ℕ, Some, ap, sym, inl, inr, arith, add-one, le-ltb, eqb_tells, alt, cat, pattern_of, chosen_ways, has_turn, part_ways, Gate, Outside}
 use Rattle.hc_pat_lang.proofs.Fragmenting.{fragment_as, fragment_behind, fragment_earlier, fragment_either, fragment_grows, fragment_joined, fragment_later, fragment_moving, fragment_none, fragment_stop, grows_on, ready_later}
 use Rattle.hc_pat_lang.proofs.Serving.{behind_turn}
 use Rattle.hc_pat_lang.proofs.Turning.{added_grows, added_ready, chosen_added, needed_behind, no_turn, then_added, up_to_added}
-use Rattle.hc_pat_lang.proofs.Views.{pattern-alt, pattern-cat}
+use Rattle.hc_pattern.proofs.Nodes.{is_alt, is_cat}
 use Rattle.hc_pat_lang.proofs.nodes.Nodes.+choose.Goals as goal
 
 pub choose-returns-in_ok-entries-in-Cat : goal.choose-returns-in_ok-entries-in-Cat
 choose-returns-in_ok-entries-in-Cat t c =
-    let e : pattern_of c.args.pat.now ≡ cat (pattern_of c.in-Cat.first.value) (pattern_of c.in-Cat.second.value) = ap pattern_of c.in-Cat.is ∙ pattern-cat c.in-Cat.first c.in-Cat.second in
+    let e : pattern_of c.args.pat.now ≡ cat (pattern_of c.in-Cat.first.value) (pattern_of c.in-Cat.second.value) = ap pattern_of c.in-Cat.is ∙ is_cat c.in-Cat.first c.in-Cat.second in
     let first = pattern_of c.in-Cat.first.value in
     let second = pattern_of c.in-Cat.second.value in
     let later = rw c.deref.ensures at c.in_ok-later-in-Cat.ensures in
@@ -30,7 +23,7 @@ choose-returns-in_ok-entries-in-Cat t c =
 
 pub choose-returns-in_ok-entries-in-Alt : goal.choose-returns-in_ok-entries-in-Alt
 choose-returns-in_ok-entries-in-Alt t c =
-    let e : pattern_of c.args.pat.now ≡ alt (pattern_of c.in-Alt.first.value) (pattern_of c.in-Alt.second.value) = ap pattern_of c.in-Alt.is ∙ pattern-alt c.in-Alt.first c.in-Alt.second in
+    let e : pattern_of c.args.pat.now ≡ alt (pattern_of c.in-Alt.first.value) (pattern_of c.in-Alt.second.value) = ap pattern_of c.in-Alt.is ∙ is_alt c.in-Alt.first c.in-Alt.second in
     rw e (fragment_either _ _ _ _ _ _ _ _ _ _ (rw c.deref-in-Alt.ensures at c.in_ok-one-in-Alt.ensures) (rw c.deref-in-Alt-2.ensures at c.in_ok-other-in-Alt.ensures) c.in_ok-entries-in-Alt.ensures)
 
 pub choose_any-returns : goal.choose_any-returns
@@ -66,7 +59,7 @@ pub choose_repeat-returns-in_ok-entries-in-Some-2 : goal.choose_repeat-returns-i
 choose_repeat-returns-in_ok-entries-in-Some-2 t c =
     let both : Some c.in-Some.most ≡ Some c.in-Some-2.most = sym c.in-Some.is ∙ c.in-Some-2.is in
     let same : c.in-Some.most ≡ c.in-Some-2.most = cc in
-    let within = le-ltb c.in-Some-2.most c.args.least (let f = c.if-most-least.false in omega arith) in
+    let within = le-ltb c.in-Some-2.most c.args.times.least (let f = c.if-most-times.false in omega arith) in
     rw (c.in-Some-2.is, within) (c.in_ok-entries-in-Some-2.ensures c.args.exits _ _ _ c.in_ok-more-in-Some-2.ensures)
 
 pub choose_turns-loop-turn-init : goal.choose_turns-loop-turn-init
@@ -90,18 +83,13 @@ choose_turns-loop-turn-preserved t c =
       all = c.in_ok-all.ensures.ready;
       chosen = ready_later _ _ _ (added_ready _ _ _ _ _ _ c.loop-turn.turns _ _ _ c.in_ok-one.ensures c.in_ok-other.ensures c.in_ok-chosen.ensures) (fragment_grows _ _ _ _ _ c.in_ok-all.ensures);
       turns = λ exits base rest chosen_rest are.
-          subst (λ (n : ℕ). AreTurns (λ text. turns_then (body text) n (rest text)) (λ text. chosen_then (body text) (chosen text) n (rest text) (chosen_rest text)) exits base c.build-in-loop-turn.new.self.list.items
-          (record { all = c.in_ok-all.all; chosen = c.in_ok-chosen.chosen }))
-          (sym (add-one c.loop-turn._turn))
+          rw (add-one c.loop-turn._turn)
           (then_added body chosen _ _ _ _ c.loop-turn.turns _ _ _ c.in_ok-one.ensures c.in_ok-other.ensures c.in_ok-chosen.ensures _ _ exits base (c.loop-turn.invariant.turns exits base rest chosen_rest are) _ _
           c.in_ok-all.ensures);
     }
 
 pub choose_turns-returns : goal.choose_turns-returns
-choose_turns-returns t c exits base rest chosen_rest are =
-    let e : c.loop-turn._turn ≡ c.args.count = omega arith in
-    subst (λ (n : ℕ). IsFragment (λ text. chosen_then (part_ways Outside text (pattern_of c.args.body.now)) (chosen_ways c.args.number text (pattern_of c.args.body.now)) n (rest text) (chosen_rest text)) exits base
-    c.loop-turn.self.list.items c.loop-turn.turns.chosen) e (c.loop-turn.invariant.turns exits base rest chosen_rest are).chosen_ways
+choose_turns-returns t c exits base rest chosen_rest are = (let e : c.loop-turn._turn ≡ c.args.count = omega arith in rw e at (c.loop-turn.invariant.turns exits base rest chosen_rest are).chosen_ways)
 
 pub choose_up_to-loop-turn-init : goal.choose_up_to-loop-turn-init
 choose_up_to-loop-turn-init t c = rw c.nowhere.ensures (record { all_ways = fragment_stop c.args.exits _ c.requires; chosen_ways = fragment_none c.args.exits _ c.requires })
@@ -121,15 +109,9 @@ choose_up_to-loop-turn-preserved t c =
     let body = λ (text : List ℕ). part_ways Outside text (pattern_of c.args.body.now) in
     let chosen = λ (text : List ℕ). chosen_ways c.args.number text (pattern_of c.args.body.now) in
     let grows = grows_on _ _ _ (fragment_grows _ _ _ _ _ c.loop-turn.invariant.all_ways) (added_grows _ _ _ _ _ _ c.loop-turn.turns _ _ _ c.in_ok-one.ensures c.in_ok-other.ensures c.in_ok-chosen.ensures) in
-    subst (λ (n : ℕ). AreTurns (λ text. turns_up_to c.args._greedy (body text) n) (λ text. chosen_up_to c.args._greedy (body text) (chosen text) n) c.args.exits c.args.self.now.list.items c.join-in-loop-turn.new.self.list.items
-    (record { all = c.in_ok-all.all; chosen = c.in_ok-chosen.chosen }))
-    (sym (add-one c.loop-turn._turn))
+    rw (add-one c.loop-turn._turn)
     (up_to_added body chosen _ _ _ _ c.loop-turn.turns _ _ _ c.in_ok-one.ensures c.in_ok-other.ensures c.in_ok-chosen.ensures _ _ c.args.exits _ c.loop-turn.invariant c.args._greedy _ _ _ _
     c.requires.below grows c.in_ok-turn.ensures c.in_ok-all.ensures)
 
 pub choose_up_to-returns : goal.choose_up_to-returns
-choose_up_to-returns t c =
-    let e : c.loop-turn._turn ≡ c.args.count = omega arith in
-    subst (λ (n : ℕ). AreTurns (λ text. turns_up_to c.args._greedy (part_ways Outside text (pattern_of c.args.body.now)) n)
-    (λ text. chosen_up_to c.args._greedy (part_ways Outside text (pattern_of c.args.body.now)) (chosen_ways c.args.number text (pattern_of c.args.body.now)) n) c.args.exits c.args.self.now.list.items
-    c.loop-turn.self.list.items c.loop-turn.turns) e c.loop-turn.invariant
+choose_up_to-returns t c = (let e : c.loop-turn._turn ≡ c.args.count = omega arith in rw e at c.loop-turn.invariant)

@@ -1,12 +1,4 @@
-use Rattle.std.proofs.Common.{List, ℕ}
-use Rattle.hc_pattern.specs.Pattern.{pattern_of}
-use Rattle.hc_pat_lang.specs.Fragments.{AreTurns, IsReady}
-use Rattle.hc_pat_lang.specs.Turned.{chosen_then, chosen_up_to, chosen_ways, part_ways}
-use Rattle.hc_pat_lang.specs.declared.gates.Gate.{Gate}
-use Rattle.hc_pat_lang.specs.declared.nodes.Node.{Node}
-use Rattle.hc_ways.specs.Kept.{Turns}
-use Rattle.hc_ways.specs.Ways.{Ways, turns_then, turns_up_to}
-use Rattle.hc_pat_lang.specs.declared.gates.Part.TheVariants.{Outside}
+use Rattle.hc_pat_lang.proofs.Common.{List, ℕ, pattern_of, AreTurns, IsReady, chosen_then, chosen_up_to, chosen_ways, part_ways, Gate, Node, Turns, Ways, turns_then, turns_up_to, Outside}
 use Rattle.hc_pat_lang.proofs.nodes.Nodes.+choose.Given as goal
 
 abbrev pub invariant-choose_turns-loop-turn : goal.invariant-choose_turns-loop-turn

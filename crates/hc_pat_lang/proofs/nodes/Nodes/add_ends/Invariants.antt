@@ -1,5 +1,4 @@
-use Rattle.hc_pat_lang.specs.Added.{AddsFinals}
-use Rattle.hc_pat_lang.specs.Matching.{EndBelow}
+use Rattle.hc_pat_lang.proofs.Common.{AddsFinals, EndBelow}
 use Rattle.hc_pat_lang.proofs.nodes.Nodes.add_ends.Given as goal
 
 abbrev pub invariant-loop-number : goal.invariant-loop-number

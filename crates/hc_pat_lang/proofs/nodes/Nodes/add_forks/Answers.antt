@@ -1,6 +1,4 @@
-use Rattle.std.proofs.Common.{◌≡◌, Some, ap, arith, sym, ◌∙◌}
-use Rattle.hc_dfa.specs.Machines.{Steps}
-use Rattle.hc_pat_lang.specs.declared.nodes.Node.TheVariants.{Fork}
+use Rattle.hc_pat_lang.proofs.Common.{◌≡◌, Some, ap, arith, sym, ◌∙◌, Steps, Fork}
 use Rattle.hc_pat_lang.proofs.Stepping.{fork_added, fork_passed}
 use Rattle.hc_pat_lang.proofs.nodes.Nodes.add_forks.Goals as goal
 

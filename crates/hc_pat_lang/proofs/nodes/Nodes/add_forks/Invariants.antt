@@ -1,5 +1,4 @@
-use Rattle.hc_pat_lang.specs.Added.{AddsSilent}
-use Rattle.hc_pat_lang.specs.Matching.{IsForkBelow}
+use Rattle.hc_pat_lang.proofs.Common.{AddsSilent, IsForkBelow}
 use Rattle.hc_pat_lang.proofs.nodes.Nodes.add_forks.Given as goal
 
 abbrev pub invariant-loop-from : goal.invariant-loop-from

@@ -1,5 +1,4 @@
-use Rattle.hc_pat_lang.specs.Added.{AddsReading}
-use Rattle.hc_pat_lang.specs.Matching.{IsByteBelow}
+use Rattle.hc_pat_lang.proofs.Common.{AddsReading, IsByteBelow}
 use Rattle.hc_pat_lang.proofs.nodes.Nodes.add_reading.Given as goal
 
 abbrev pub invariant-loop-number : goal.invariant-loop-number

@@ -1,5 +1,4 @@
-use Rattle.std.proofs.Common.{inl, inr, arith}
-use Rattle.std.proofs.lemmas.Bool.Decides.{eqb_tells}
+use Rattle.hc_pat_lang.proofs.Common.{inl, inr, arith, eqb_tells}
 use Rattle.hc_pat_lang.proofs.Fragmenting.{fragment_either}
 use Rattle.hc_pat_lang.proofs.nodes.Nodes.build_group.Goals as goal
 

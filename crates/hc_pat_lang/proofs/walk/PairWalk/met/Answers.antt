@@ -1,6 +1,6 @@
 use Rattle.std.proofs.Common.{arith}
 use Rattle.hc_pat_lang.proofs.Walking.{extends_longer}
-use Rattle.hc_pat_lang.proofs.walk.Walk.met.Goals as goal
+use Rattle.hc_pat_lang.proofs.walk.PairWalk.met.Goals as goal
 
 pub grow-requires-clause-least : goal.grow-requires-clause-least
 grow-requires-clause-least c = (let e = extends_longer _ _ c.in_ok-number.ensures.extends in let f = c.requires in omega arith)

@@ -1,8 +1,6 @@
-use Rattle.std.proofs.Common.{◌<◌, length, ap, arith}
-use Rattle.std.proofs.lemmas.Option.{slice_get_within}
-use Rattle.hc_dfa.specs.Machines.{Steps}
+use Rattle.hc_pat_lang.proofs.Common.{◌<◌, length, ap, arith, slice_get_within, Steps}
 use Rattle.hc_pat_lang.proofs.Walking.{extends_longer}
-use Rattle.hc_pat_lang.proofs.walk.Walk.add_read.Goals as goal
+use Rattle.hc_pat_lang.proofs.walk.PairWalk.add_read.Goals as goal
 
 pub add_step-requires-clause-from : goal.add_step-requires-clause-from
 add_step-requires-clause-from c =

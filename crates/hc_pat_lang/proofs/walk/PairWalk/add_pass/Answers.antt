@@ -1,8 +1,6 @@
-use Rattle.std.proofs.Common.{◌<◌, length, ap, arith}
-use Rattle.std.proofs.lemmas.Option.{slice_get_within}
-use Rattle.hc_dfa.specs.Machines.{Steps}
+use Rattle.hc_pat_lang.proofs.Common.{◌<◌, length, ap, arith, slice_get_within, Steps}
 use Rattle.hc_pat_lang.proofs.Walking.{extends_longer}
-use Rattle.hc_pat_lang.proofs.walk.Walk.add_pass.Goals as goal
+use Rattle.hc_pat_lang.proofs.walk.PairWalk.add_pass.Goals as goal
 
 pub add_silent-requires-clause-from : goal.add_silent-requires-clause-from
 add_silent-requires-clause-from c =
