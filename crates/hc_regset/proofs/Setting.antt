@@ -1,5 +1,5 @@
 -- Automata of sets, made of automata of sets.
-use Rattle.std.proofs.Common.{◌≡◌, ◌↔◌, ℕ, Bool, not, IsTrue, List, [], ◌∷◌, None, Some, Err, map, drop, length, get_or, sym, refl, ap, ◌∙◌, subst, inl, inr, ⊎_elim, ◌+◌, ◌<◌}
+use Rattle.hc_regset.proofs.Common.{◌≡◌, ◌↔◌, ℕ, Bool, not, IsTrue, List, [], ◌∷◌, None, Some, Err, map, drop, length, get_or, sym, refl, ap, ◌∙◌, subst, inl, inr, ⊎_elim, ◌+◌, ◌<◌, Accepts, kept, product_of, Form, form_of, put_of}
 use Rattle.std.specs.List.{fold}
 use Rattle.std.specs.Option.{option_or}
 use Rattle.std.proofs.lemmas.Bool.{and_from, and_parts, both_ways, false_from_ne_true, not-true, not_from_false, or_cases, or_left, or_right}
@@ -7,13 +7,10 @@ use Rattle.hc_base.specs.declared.fault.AtByte.{AtByte}
 use Rattle.hc_base.specs.declared.fault.Fault.{Fault}
 use Rattle.hc_base.specs.declared.fault.Fault.TheVariants.{NoMemory, Refused}
 use Rattle.hc_dfa.specs.Automata.{Automaton, accepts}
-use Rattle.hc_dfa.specs.Built.{Accepts, kept, product_of}
 use Rattle.hc_dfa.specs.declared.products.Keep.{Keep}
 use Rattle.hc_dfa.specs.declared.products.Keep.TheVariants.{Both, Either, FirstOnly}
 use Rattle.hc_model.specs.declared.claim.SetForm.{SetForm}
 use Rattle.std.proofs.lemmas.List.{drop_more}
-use Rattle.hc_regset.specs.Forms.{Form, form_of}
-use Rattle.hc_regset.specs.Joinings.{put_of}
 use Rattle.hc_regset.specs.Sets.{GivesSet, Has, IsSetOf, refusal}
 
 kept_is : (keep : Keep) (F G : Form) (text : List ℕ) (x y z : Bool) → IsTrue x ↔ Has F text → IsTrue y ↔ Has G text

@@ -1,8 +1,7 @@
 -- The automata of one state.
-use Rattle.std.proofs.Common.{◌≡◌, ℕ, ◌+◌, ◌*◌, ◌<◌, Bool, false, List, [], ◌∷◌, replicate, slice_index, slice_index_or, sym, refl, ap, ◌∙◌, subst, arith}
+use Rattle.hc_regset.proofs.Common.{◌≡◌, ℕ, ◌+◌, ◌*◌, ◌<◌, Bool, false, List, [], ◌∷◌, replicate, slice_index, slice_index_or, sym, refl, ap, ◌∙◌, subst, arith, Accepts}
 use Rattle.std.proofs.lemmas.List.{get_or-replicate}
 use Rattle.hc_dfa.specs.Automata.{Automaton, IsTable, accepts, run}
-use Rattle.hc_dfa.specs.Built.{Accepts}
 use Rattle.hc_dfa.specs.Texts.{IsText}
 
 abbrev zeros : List ℕ

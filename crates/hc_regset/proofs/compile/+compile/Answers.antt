@@ -1,8 +1,5 @@
-use Rattle.std.proofs.Common.{subst}
-use Rattle.hc_dfa.specs.Built.{Accepts, product_of}
+use Rattle.hc_regset.proofs.Common.{subst, Accepts, product_of, form_of, keep_of}
 use Rattle.hc_dfa.specs.declared.products.Keep.{Keep}
-use Rattle.hc_regset.specs.Forms.{form_of}
-use Rattle.hc_regset.specs.Joinings.{keep_of}
 use Rattle.hc_regset.proofs.Setting.{so_far_at, so_far_fault, so_far_put}
 use Rattle.hc_regset.proofs.compile.+compile.Goals as goal
 

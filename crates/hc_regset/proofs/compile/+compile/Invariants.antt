@@ -1,6 +1,4 @@
-use Rattle.std.proofs.Common.{drop, map}
-use Rattle.hc_regset.specs.Forms.{form_of}
-use Rattle.hc_regset.specs.Joinings.{joined, keep_of}
+use Rattle.hc_regset.proofs.Common.{drop, map, form_of, joined, keep_of}
 use Rattle.hc_regset.proofs.Setting.{IsSoFar}
 use Rattle.hc_regset.proofs.compile.+compile.Given as goal
 
