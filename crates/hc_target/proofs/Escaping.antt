@@ -1,13 +1,9 @@
 -- Escaped paths hold no other escapes, and are decoded to what they were.
-use Rattle.std.proofs.Common.{◌≡◌, ℕ, ◌+◌, ◌*◌, ◌/◌, ◌%◌, ◌<◌, Bool, true, false, eqb, not, List, [], ◌∷◌, ◌++◌, refl, ap, ◌∙◌, subst, arith}
+use Rattle.hc_target.proofs.Common.{◌≡◌, ℕ, ◌+◌, ◌*◌, ◌/◌, ◌%◌, ◌<◌, Bool, true, false, eqb, not, List, [], ◌∷◌, ◌++◌, refl, ap, ◌∙◌, subst, arith, AllByRecursion, both_ways, cond_both, ne_eqb, percent, question, begins_with_digits, begins_with_slash_digits, escaped, escaped_byte, escapes_slash, has_bad_escape, is_kept, some_percent}
 use Rattle.std.specs.Char.{digit_char, digit_value, is_ascii_hexdigit}
-use Rattle.std.specs.List.{AllByRecursion}
-use Rattle.std.proofs.lemmas.Bool.{both_ways, cond_both, ne_eqb}
 use Rattle.std.proofs.lemmas.Bool.Decides.{nat_tests}
 use Rattle.percent_encoding.specs.Percent.{percent_decode}
 use Rattle.percent_encoding.proofs.PercentLemmas.{percent_decode-nil, percent_decode_escape, percent_decode_not_percent}
-use Rattle.hc_base.specs.Bytes.{percent, question}
-use Rattle.hc_target.specs.Escapes.{begins_with_digits, begins_with_slash_digits, escaped, escaped_byte, escapes_slash, has_bad_escape, is_kept, some_percent}
 
 -- The digit of a value.
 record IsDigit (byte value : ℕ) : Type 0 where

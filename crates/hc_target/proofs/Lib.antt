@@ -1,6 +1,7 @@
+pub mod Common
 pub mod Escaping
 pub mod Normal
 pub mod Placing
 pub mod Queries
 pub mod ReadBack
-pub mod Walking
+pub mod Leading

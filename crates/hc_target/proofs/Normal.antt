@@ -1,12 +1,7 @@
 -- Normal paths, by their segments.
-use Rattle.std.proofs.Common.{◌≡◌, ℕ, ◌<◌, Bool, true, false, eqb, not, ◌&&◌, ◌||◌, cond, List, [], ◌∷◌, ◌++◌, length, Some, sym, refl, ap, ◌∙◌, subst, append-nil, append_assoc, arith}
-use Rattle.std.specs.List.{flat_map, join_with_byte, onto_first, list_any, slice_split}
+use Rattle.hc_target.proofs.Common.{◌≡◌, ℕ, ◌<◌, Bool, true, false, eqb, not, ◌&&◌, ◌||◌, cond, List, [], ◌∷◌, ◌++◌, length, Some, sym, refl, ap, ◌∙◌, subst, append-nil, append_assoc, arith, flat_map, join_with_byte, onto_first, list_any, slice_split, and_parts, both_ways, eqb-true, not-true, or_parts, slash, has_double_slash, is_clean, is_dots, is_slash, Reached, below, normal_path, path_to, root, step, led_by}
 use Rattle.std.specs.Option.{option_map}
 use Rattle.std.proofs.lemmas.List.Splits.{join_with_byte-slice_split, length-slice_split}
-use Rattle.std.proofs.lemmas.Bool.{and_parts, both_ways, eqb-true, not-true, or_parts}
-use Rattle.hc_base.specs.Bytes.{slash}
-use Rattle.hc_base.specs.Paths.{has_double_slash, is_clean, is_dots, is_slash}
-use Rattle.hc_target.specs.Segments.{Reached, below, normal_path, path_to, root, step, walk}
 
 abbrev pub is_empty : List ℕ → Bool
 is_empty [] = true
@@ -53,25 +48,25 @@ step_name at b (c ∷ []) e = rw e refl
 step_name at b (c ∷ d ∷ bs) e = refl
 
 -- Segments without gaps and dots are kept.
-walk_kept : (at : Reached) (segments : List (List ℕ)) → 0 < length segments → has_gap false segments ≡ false
+led_kept : (at : Reached) (segments : List (List ℕ)) → 0 < length segments → has_gap false segments ≡ false
     → list_any is_dots segments ≡ false
-    → option_map path_to (walk (Some at) segments) ≡ Some (flat_map below (at.names ++ segments))
-walk_kept at [] some gap dots = absurd (omega arith)
-walk_kept at ([] ∷ []) some gap dots = refl
-walk_kept at ((b ∷ bs) ∷ []) some gap dots =
-    ap (λ r. option_map path_to (walk r [])) (step_name at b bs (or_parts (is_dots (b ∷ bs)) false dots).0)
+    → option_map path_to (led_by (Some at) segments) ≡ Some (flat_map below (at.names ++ segments))
+led_kept at [] some gap dots = absurd (omega arith)
+led_kept at ([] ∷ []) some gap dots = refl
+led_kept at ((b ∷ bs) ∷ []) some gap dots =
+    ap (λ r. option_map path_to (led_by r [])) (step_name at b bs (or_parts (is_dots (b ∷ bs)) false dots).0)
     ∙ ap (λ names. Some (flat_map below names)) (append-nil (at.names ++ (b ∷ bs) ∷ []))
-walk_kept at ([] ∷ t ∷ ss) some gap dots = absurd (both_ways true gap refl)
-walk_kept at ((b ∷ bs) ∷ t ∷ ss) some gap dots =
+led_kept at ([] ∷ t ∷ ss) some gap dots = absurd (both_ways true gap refl)
+led_kept at ((b ∷ bs) ∷ t ∷ ss) some gap dots =
     let parts = or_parts (is_dots (b ∷ bs)) (list_any is_dots (t ∷ ss)) dots in
-    ap (λ r. option_map path_to (walk r (t ∷ ss))) (step_name at b bs parts.0)
-    ∙ walk_kept (record { names = at.names ++ (b ∷ bs) ∷ []; open_end = false }) (t ∷ ss) (omega arith) gap parts.1
+    ap (λ r. option_map path_to (led_by r (t ∷ ss))) (step_name at b bs parts.0)
+    ∙ led_kept (record { names = at.names ++ (b ∷ bs) ∷ []; open_end = false }) (t ∷ ss) (omega arith) gap parts.1
     ∙ ap (λ names. Some (flat_map below names)) (append_assoc at.names ((b ∷ bs) ∷ []) (t ∷ ss))
 
 kept_below : (path : List ℕ) → has_double_slash (slash ∷ path) ≡ false
     → list_any is_dots (slice_split is_slash (slash ∷ path)) ≡ false → normal_path (slash ∷ path) ≡ Some (slash ∷ path)
 kept_below path gap dots =
-    walk_kept root (slice_split is_slash path) (omega (arith, length-slice_split is_slash path))
+    led_kept root (slice_split is_slash path) (omega (arith, length-slice_split is_slash path))
     (sym (gap_split path) ∙ gap) dots ∙ ap Some (split_below path)
 
 -- A clean path is its own normal path.

@@ -1,16 +1,10 @@
 -- Each path that is found is normal.
-use Rattle.std.proofs.Common.{◌≡◌, ℕ, zero, suc, ◌<◌, Bool, true, false, cond, List, [], ◌∷◌, ◌++◌, length, take, Option, Some, None, IfSome, sym, refl, ap, ◌∙◌, subst, arith, length-append}
-use Rattle.std.specs.List.{AllByRecursion, flat_map, list_all, list_any, onto_first, slice_split}
+use Rattle.hc_target.proofs.Common.{◌≡◌, ℕ, zero, suc, ◌<◌, Bool, true, false, cond, List, [], ◌∷◌, ◌++◌, length, take, Option, Some, None, IfSome, sym, refl, ap, ◌∙◌, subst, arith, length-append, AllByRecursion, flat_map, list_all, list_any, onto_first, slice_split, and_parts, cond_both, slash, has_double_slash, is_dots, is_slash, escapes_slash, has_bad_escape, Reached, above, below, is_normal, is_parent, is_plain, is_still, normal_path, path_to, root, step, led_by}
 use Rattle.std.specs.Option.{option_map}
-use Rattle.std.proofs.lemmas.Bool.{and_parts, cond_both}
 use Rattle.std.proofs.lemmas.List.Folds.{list_all-append}
 use Rattle.percent_encoding.specs.Percent.{percent_decode}
-use Rattle.hc_base.specs.Bytes.{slash}
-use Rattle.hc_base.specs.Paths.{has_double_slash, is_dots, is_slash}
 use Rattle.hc_target.specs.declared.target.TargetRead.{TargetRead}
 use Rattle.hc_target.specs.declared.target.TargetRead.TheVariants.{Bad400, Miss404, PathByte}
-use Rattle.hc_target.specs.Escapes.{escapes_slash, has_bad_escape}
-use Rattle.hc_target.specs.Segments.{Reached, above, below, is_normal, is_parent, is_plain, is_still, normal_path, path_to, root, step, walk}
 use Rattle.hc_target.specs.Targets.{HasNormalPath, found, read_decoded, read_sent}
 use Rattle.hc_target.proofs.Normal.{gap_split, has_gap, is_empty}
 
@@ -85,11 +79,11 @@ step_place at s h p =
     (λ still. cond_both (is_parent s) _ _ (λ r. IfSome r IsPlace) (λ parent. above_place at.names h.names_are)
     (λ parent. name_place at.names s h.names_are (is_name s p still parent)))
 
-walk_place : (from : Option Reached) (pieces : List (List ℕ)) → IfSome from IsPlace → AllByRecursion IsPiece pieces
-    → IfSome (walk from pieces) IsPlace
-walk_place None pieces h p = tt
-walk_place (Some at) [] h p = h
-walk_place (Some at) (s ∷ ss) h p = walk_place (step at s) ss (step_place at s h p.0) p.1
+led_place : (from : Option Reached) (pieces : List (List ℕ)) → IfSome from IsPlace → AllByRecursion IsPiece pieces
+    → IfSome (led_by from pieces) IsPlace
+led_place None pieces h p = tt
+led_place (Some at) [] h p = h
+led_place (Some at) (s ∷ ss) h p = led_place (step at s) ss (step_place at s h p.0) p.1
 
 -- The segments of a normal path.
 record IsRow (segments : List (List ℕ)) : Type 0 where
@@ -148,8 +142,8 @@ found_normal (Some at) query h = row_normal (segments at) h.some (row_of at.name
 decoded_normal : (path query : List ℕ) → HasNormalPath (read_decoded path query)
 decoded_normal path query =
     cond_both (list_all is_plain path) (found (normal_path path) query) PathByte HasNormalPath
-    (λ plain. found_normal (walk (Some root) (slice_split is_slash path)) query
-    (walk_place (Some root) (slice_split is_slash path) (open_place [] tt) (pieces_of path plain))) (λ _. tt)
+    (λ plain. found_normal (led_by (Some root) (slice_split is_slash path)) query
+    (led_place (Some root) (slice_split is_slash path) (open_place [] tt) (pieces_of path plain))) (λ _. tt)
 
 sent_normal : (path query : List ℕ) → HasNormalPath (read_sent path query)
 sent_normal path query =

@@ -1,9 +1,5 @@
 -- A text without `?` before a query.
-use Rattle.std.proofs.Common.{◌≡◌, ℕ, ◌+◌, false, eqb, List, [], ◌∷◌, ◌++◌, length, drop, take, sym, refl, ap, ◌∙◌, append-nil, arith, length-append}
-use Rattle.std.specs.List.{AllByRecursion, after_first, before_first, position_or_len}
-use Rattle.std.proofs.lemmas.List.{drop_all, drop_at, drop_more, take_all, take_at}
-use Rattle.hc_base.specs.Bytes.{question}
-use Rattle.hc_target.specs.Targets.{is_question}
+use Rattle.hc_target.proofs.Common.{◌≡◌, ℕ, ◌+◌, false, eqb, List, [], ◌∷◌, ◌++◌, length, drop, take, sym, refl, ap, ◌∙◌, append-nil, arith, length-append, AllByRecursion, after_first, before_first, position_or_len, drop_all, drop_at, drop_more, take_all, take_at, question, is_question}
 
 abbrev pub HasNone : List ℕ → Type 0
 HasNone text = AllByRecursion (λ b. eqb b question ≡ false) text

@@ -1,14 +1,8 @@
 -- A normal path that is escaped is read back.
-use Rattle.std.proofs.Common.{◌≡◌, ℕ, ◌<◌, true, List, [], ◌∷◌, ◌++◌, ap, ◌∙◌, arith}
-use Rattle.std.specs.List.{after_first, before_first, list_all}
-use Rattle.std.proofs.lemmas.Bool.{and_parts}
+use Rattle.hc_target.proofs.Common.{◌≡◌, ℕ, ◌<◌, true, List, [], ◌∷◌, ◌++◌, ap, ◌∙◌, arith, after_first, before_first, list_all, and_parts, question, is_clean, escaped, is_normal, is_plain, is_question}
 use Rattle.std.proofs.lemmas.Bool.Decides.{nat_tests}
-use Rattle.hc_base.specs.Bytes.{question}
-use Rattle.hc_base.specs.Paths.{is_clean}
 use Rattle.hc_target.specs.declared.target.TargetRead.TheVariants.{Path}
-use Rattle.hc_target.specs.Escapes.{escaped}
-use Rattle.hc_target.specs.Segments.{is_normal, is_plain}
-use Rattle.hc_target.specs.Targets.{IsReadBack, found, is_question, read, read_sent}
+use Rattle.hc_target.specs.Targets.{IsReadBack, found, read, read_sent}
 use Rattle.hc_target.proofs.Escaping.{AreBytes, decoded_back, no_bad_escape, no_escaped_slash, no_question_in}
 use Rattle.hc_target.proofs.Normal.{normal_kept}
 use Rattle.hc_target.proofs.Queries.{after_none, after_query, before_none, before_query}

@@ -1,6 +1,7 @@
 -- Normal paths, and the normal path of any (RFC 3986, section 5.2.4, but for runs of slashes and a
 -- `..` above the root: our own choice).
-use Rattle.std.specs.Prelude.{ℕ, ◌==◌, List, [], ◌∷◌, ◌++◌, length, take, Bool, true, false, not, ◌&&◌, ◌||◌, nat_le, nat_lt, Option, Some, None, if◌then◌else◌}
+use Rattle.std.specs.Prelude.{ℕ, ◌==◌, List, [], ◌∷◌, ◌++◌, length, take, nat_le, nat_lt, Option, Some, None}
+use Rattle.std.specs.Prelude.{Bool, true, false, not, ◌&&◌, ◌||◌, if◌then◌else◌}
 use Rattle.std.specs.List.{flat_map, list_all, slice_split}
 use Rattle.std.specs.Option.{option_map}
 use Rattle.hc_base.specs.Bytes.{delete, dot, hash, last_byte, percent, question, slash, space}
@@ -50,10 +51,10 @@ step at segment =
     else Some (record { names = at.names ++ segment ∷ []; open_end = false })
 
 -- Where all of these lead.
-abbrev pub walk : Option Reached → List (List ℕ) → Option Reached
-walk None segments = None
-walk (Some at) [] = Some at
-walk (Some at) (segment ∷ segments) = walk (step at segment) segments
+abbrev pub led_by : Option Reached → List (List ℕ) → Option Reached
+led_by None segments = None
+led_by (Some at) [] = Some at
+led_by (Some at) (segment ∷ segments) = led_by (step at segment) segments
 
 abbrev pub below : List ℕ → List ℕ
 below segment = slash ∷ segment
@@ -64,4 +65,4 @@ path_to at = flat_map below (at.names ++ (if at.open_end then [] ∷ [] else [])
 
 -- The normal path of a path; none where it leads above the root.
 abbrev pub normal_path : List ℕ → Option (List ℕ)
-normal_path path = option_map path_to (walk (Some root) (slice_split is_slash path))
+normal_path path = option_map path_to (led_by (Some root) (slice_split is_slash path))

@@ -1,15 +1,12 @@
 -- Request targets, as they are read.
-use Rattle.std.specs.Prelude.{◌≡◌, ℕ, ◌==◌, List, [], ◌∷◌, ◌++◌, Bool, true, Option, Some, None, if◌then◌else◌}
+use Rattle.std.specs.Prelude.{◌≡◌, ℕ, List, [], ◌∷◌, ◌++◌, true, Option, Some, None, if◌then◌else◌}
 use Rattle.std.specs.List.{after_first, before_first, list_all}
 use Rattle.percent_encoding.specs.Percent.{percent_decode}
-use Rattle.hc_base.specs.Bytes.{question}
+use Rattle.hc_base.specs.Bytes.{is_question, question}
 use Rattle.hc_target.specs.declared.target.TargetRead.{TargetRead}
 use Rattle.hc_target.specs.declared.target.TargetRead.TheVariants.{Bad400, Miss404, Path, PathByte}
 use Rattle.hc_target.specs.Escapes.{escaped, escapes_slash, has_bad_escape}
 use Rattle.hc_target.specs.Segments.{is_normal, is_plain, normal_path}
-
-abbrev pub is_question : ℕ → Bool
-is_question b = b == question
 
 -- What a decoded path gives.
 abbrev pub found : Option (List ℕ) → List ℕ → TargetRead

@@ -1,7 +1,8 @@
-ghost use Rattle.std.specs.Prelude.{◌≡◌, ◌<◌, ◌++◌, IfOk, OnOk};
-ghost use Rattle.std.specs.Char.{digit_char};
-ghost use Rattle.hc_target.specs.Escapes.{begins_with_digits, begins_with_slash_digits, escaped, escaped_byte, escapes_slash, has_bad_escape, is_kept};
+ghost use Rattle.std.specs.Prelude.{◌≡◌, ◌++◌, IfOk, OnOk};
+ghost use Rattle.hc_target.specs.Escapes.{begins_with_digits, begins_with_slash_digits, escaped, escaped_byte};
+ghost use Rattle.hc_target.specs.Escapes.{escapes_slash, has_bad_escape, is_kept};
 
+use hc_base::bytes::hex_digit;
 use hc_base::{NoMemory, Text};
 use std::alloc::Global;
 
@@ -53,18 +54,6 @@ fn is_kept(byte: u8) -> bool
     byte.is_ascii_alphanumeric() || b"$-_.+!*'(),:;@&=/~".contains(&byte)
 }
 
-/// The hexadecimal digit of this value, in lower case.
-fn digit(value: u8) -> u8
-    requires { value < 16 }
-    ensures { result ≡ digit_char value }
-{
-    if value < 10 {
-        b'0' + value
-    } else {
-        b'a' + (value - 10)
-    }
-}
-
 fn push_escaped(out: &mut Vec<u8>, byte: u8) -> Result<(), NoMemory>
     ensures { OnOk result (out.new.items ≡ out.old.items ++ escaped_byte byte) }
 {
@@ -72,7 +61,7 @@ fn push_escaped(out: &mut Vec<u8>, byte: u8) -> Result<(), NoMemory>
         out.push(byte)?;
         return Ok(());
     }
-    out.extend_from_slice(&[b'%', digit(byte / 16), digit(byte % 16)])
+    out.extend_from_slice(&[b'%', hex_digit(byte / 16), hex_digit(byte % 16)])
 }
 
 /// The text with each byte but letters, digits and `$-_.+!*'(),:;@&=/~` escaped: `%` and two

@@ -2,7 +2,7 @@ ghost use Rattle.std.specs.Prelude.{◌≡◌, ◌++◌, List, ℕ, map, IfOk, S
 ghost use Rattle.std.specs.List.{flat_map, slice_split};
 ghost use Rattle.std.specs.Option.{option_map};
 ghost use Rattle.hc_base.specs.Paths.{is_slash};
-ghost use Rattle.hc_target.specs.Segments.{below, is_parent, is_still, normal_path, path_to, root, step, walk};
+ghost use Rattle.hc_target.specs.Segments.{below, is_parent, is_still, led_by, normal_path, path_to, root, step};
 
 use hc_base::{NoMemory, Text};
 use std::alloc::Global;
@@ -11,12 +11,12 @@ use std::marker::Model;
 /// Where the segments of a path lead: the names from the root down, and whether a slash ends the
 /// path, since no name came last.
 #[derive(Drop)]
-struct Walk<'p> {
+struct Descent<'p> {
     names: Vec<&'p [u8]>,
     open_end: bool,
 }
 
-impl<'p> Model for Walk<'p> {
+impl<'p> Model for Descent<'p> {
     ghost use Rattle.std.specs.Prelude.{map};
     ghost use Rattle.hc_target.specs.Segments.{Reached};
 
@@ -39,37 +39,37 @@ fn is_parent(segment: &[u8]) -> bool
     matches!(segment, [b'.', b'.'])
 }
 
-impl<'p> Walk<'p> {
+impl<'p> Descent<'p> {
     /// Nowhere yet.
-    fn new(alloc: Global) -> Walk<'p>
+    fn new(alloc: Global) -> Descent<'p>
         ensures { result ≡ root }
     {
-        Walk {
+        Descent {
             names: Vec::new(alloc),
             open_end: true,
         }
     }
 
     /// One segment further; none above the root.
-    fn further(self, segment: &'p [u8]) -> Result<Option<Walk<'p>>, NoMemory>
-        ensures { IfOk result (λ walk. walk ≡ step self.entry segment.now) }
+    fn further(self, segment: &'p [u8]) -> Result<Option<Descent<'p>>, NoMemory>
+        ensures { IfOk result (λ descent. descent ≡ step self.entry segment.now) }
     {
-        let Walk { mut names, .. } = self;
+        let Descent { mut names, .. } = self;
         if is_still(segment) {
-            return Ok(Some(Walk {
+            return Ok(Some(Descent {
                 names,
                 open_end: true,
             }));
         }
         if is_parent(segment) {
             let last = names.pop();
-            return Ok(last.map(|_| Walk {
+            return Ok(last.map(|_| Descent {
                 names,
                 open_end: true,
             }));
         }
         names.push(segment)?;
-        Ok(Some(Walk {
+        Ok(Some(Descent {
             names,
             open_end: false,
         }))
@@ -92,10 +92,10 @@ impl<'p> Walk<'p> {
 }
 
 /// Where the whole path leads; nowhere if it leads above the root.
-fn walk_path<'p>(alloc: Global, path: &'p [u8]) -> Result<Option<Walk<'p>>, NoMemory>
-    ensures { IfOk result (λ place. place ≡ walk (Some root) (slice_split is_slash path.now)) }
+fn descend<'p>(alloc: Global, path: &'p [u8]) -> Result<Option<Descent<'p>>, NoMemory>
+    ensures { IfOk result (λ place. place ≡ led_by (Some root) (slice_split is_slash path.now)) }
 {
-    let mut place = Walk::new(alloc);
+    let mut place = Descent::new(alloc);
     for segment in path.split(|byte| *byte == b'/') {
         match place.further(segment)? {
             Some(next) => place = next,
@@ -110,7 +110,7 @@ fn walk_path<'p>(alloc: Global, path: &'p [u8]) -> Result<Option<Walk<'p>>, NoMe
 pub(crate) fn normal_path(alloc: Global, path: &[u8]) -> Result<Option<Text>, NoMemory>
     ensures { IfOk result (λ normal. normal ≡ normal_path path.now) }
 {
-    match walk_path(alloc, path)? {
+    match descend(alloc, path)? {
         Some(place) => Ok(Some(place.path()?)),
         None => Ok(None),
     }

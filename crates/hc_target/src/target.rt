@@ -3,18 +3,18 @@ ghost use Rattle.std.specs.List.{after_first, before_first, list_all, position};
 ghost use Rattle.percent_encoding.specs.Percent.{percent_decode};
 ghost use Rattle.hc_base.specs.Paths.{begins_with_slash};
 ghost use Rattle.hc_target.specs.Segments.{is_plain};
-ghost use Rattle.hc_target.specs.Targets.{HasNormalPath, is_question, read, read_decoded, read_sent};
+ghost use Rattle.hc_base.specs.Bytes.{is_question};
+ghost use Rattle.hc_target.specs.Targets.{HasNormalPath, read, read_decoded, read_sent};
 
 use crate::escape::{escapes_slash, has_bad_escape};
 use crate::segments::normal_path;
+use hc_base::bytes::DELETE;
 use hc_base::{NoMemory, Text};
 use percent_encoding::percent_decode;
 use std::alloc::Global;
 
-const DELETE: u8 = 127;
-
 /// What a request target is read as.
-#[derive(Debug, Drop)]
+#[derive(Clone, Drop)]
 pub enum TargetRead {
     /// The normal path that it asks for, decoded, and the bytes behind its first `?` as they stand.
     Path { path: Text, query: Text },

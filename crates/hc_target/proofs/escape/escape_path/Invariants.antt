@@ -1,5 +1,4 @@
-use Rattle.std.proofs.Common.{◌≡◌, ◌++◌, drop}
-use Rattle.hc_target.specs.Escapes.{escaped}
+use Rattle.hc_target.proofs.Common.{◌≡◌, ◌++◌, drop, escaped}
 use Rattle.hc_target.proofs.escape.escape_path.Given as goal
 
 abbrev pub invariant-loop-byte : goal.invariant-loop-byte

@@ -1,5 +1,4 @@
-use Rattle.std.proofs.Common.{◌≡◌, drop}
-use Rattle.hc_target.specs.Escapes.{escapes_slash}
+use Rattle.hc_target.proofs.Common.{◌≡◌, drop, escapes_slash}
 use Rattle.hc_target.proofs.escape.escapes_slash.Given as goal
 
 -- none so far

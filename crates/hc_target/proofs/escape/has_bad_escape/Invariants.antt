@@ -1,5 +1,4 @@
-use Rattle.std.proofs.Common.{◌≡◌, drop}
-use Rattle.hc_target.specs.Escapes.{has_bad_escape}
+use Rattle.hc_target.proofs.Common.{◌≡◌, drop, has_bad_escape}
 use Rattle.hc_target.proofs.escape.has_bad_escape.Given as goal
 
 -- none so far

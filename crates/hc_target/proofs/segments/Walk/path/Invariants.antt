@@ -1,8 +1,0 @@
-use Rattle.std.proofs.Common.{◌≡◌, ◌++◌, drop, map}
-use Rattle.std.specs.List.{flat_map}
-use Rattle.hc_target.specs.Segments.{below}
-use Rattle.hc_target.proofs.segments.Walk.path.Given as goal
-
-abbrev pub invariant-loop-name : goal.invariant-loop-name
-invariant-loop-name l =
-    l.path.items ++ flat_map below (map (λ n. n.now) (drop l.name-index l.name-items)) ≡ flat_map below l.self.names
