@@ -1,7 +1,6 @@
 -- The last bytes of a text.
-use Rattle.std.proofs.Common.{◌≡◌, ℕ, suc, ◌-◌, ◌≤◌, List, [], ◌∷◌, ◌++◌, length, take, slice_index, Bool, true, false, ◌&&◌, nat_eq, refl, sym, ◌∙◌, ap, arith, eqb-true, true≢false}
-use Rattle.hc_base.specs.Bytes.{backslash, ends_with, lf}
-use Rattle.hc_lines.specs.Logical.{joins, without_last}
+use Rattle.std.proofs.Common.{◌≡◌, ℕ, suc, ◌-◌, List, [], ◌∷◌, ◌++◌, length, take, slice_index, Bool, true, false, ◌&&◌, nat_eq, refl, sym, ◌∙◌, ap, arith, eqb-true, true≢false}
+use Rattle.hc_lines.proofs.Common.{backslash, ends_with, lf, joins, without_last}
 
 -- a text that ends with a byte
 pub ends_with-split : (byte : ℕ) (bs : List ℕ) → ends_with byte bs ≡ true → bs ≡ take (length bs - 1) bs ++ byte ∷ []
@@ -17,10 +16,6 @@ ends_with-at byte (b ∷ []) is = eqb-true b byte is
 ends_with-at byte (b ∷ c ∷ bs) is =
     let e : suc (suc (length bs)) - 1 ≡ suc (suc (length bs) - 1) = omega arith in
     rw e (ends_with-at byte (c ∷ bs) is)
-
-pub ends_with-some : (byte : ℕ) (bs : List ℕ) → ends_with byte bs ≡ true → 1 ≤ length bs
-ends_with-some byte [] is = absurd (true≢false (sym is))
-ends_with-some byte (b ∷ bs) is = omega arith
 
 pub without_last-ended : (byte : ℕ) (bs : List ℕ) → ends_with byte bs ≡ true → without_last byte bs ≡ take (length bs - 1) bs
 without_last-ended byte [] is = refl
@@ -67,8 +62,3 @@ joins-at (b ∷ c ∷ []) is = (joins-two b c is).0
 joins-at (b ∷ c ∷ d ∷ bs) is =
     let e : suc (suc (suc (length bs))) - 2 ≡ suc (suc (suc (length bs)) - 2) = omega arith in
     rw e (joins-at (c ∷ d ∷ bs) (sym (joins-later b c d bs) ∙ is))
-
-pub joins-some : (bs : List ℕ) → joins bs ≡ true → 2 ≤ length bs
-joins-some [] is = absurd (true≢false (sym is))
-joins-some (b ∷ []) is = absurd (joins-one b is)
-joins-some (b ∷ c ∷ bs) is = omega arith

@@ -1,10 +1,5 @@
 -- The joins of a text, from its front on.
-use Rattle.std.proofs.Common.{◌≡◌, ℕ, ◌+◌, ◌<◌, ◌≤◌, List, [], ◌∷◌, ◌++◌, length, take, drop, slice_index, Bool, true, false, ◌&&◌, ◌==◌, refl, sym, ◌∙◌, ap, arith, add-one, append_assoc, eqb-true, true≢false, length-drop}
-use Rattle.std.proofs.Math.Seq.{drop-cons}
-use Rattle.std.proofs.lemmas.List.{take-append-drop, take_more}
-use Rattle.hc_base.specs.Bytes.{backslash, lf}
-use Rattle.hc_lines.specs.Logical.{is_join, unjoined}
-use Rattle.hc_lines.specs.Run.{IsFirstJoin}
+use Rattle.hc_lines.proofs.Common.{◌≡◌, ℕ, ◌+◌, ◌<◌, ◌≤◌, List, [], ◌∷◌, ◌++◌, length, take, drop, slice_index, Bool, true, false, ◌&&◌, refl, sym, ◌∙◌, ap, arith, add-one, append_assoc, true≢false, length-drop, drop-cons, take-append-drop, take_more, is_join, unjoined}
 
 -- no join begins before this place
 abbrev pub UnjoinedTo : List ℕ → ℕ → Type 0
@@ -28,16 +23,6 @@ UnjoinedTo-next bs n h apart to =
 both : (v w : Bool) → (v && w) ≡ true → (v ≡ true) × (w ≡ true)
 both true w h = (refl, h)
 both false w h = absurd (true≢false (sym h))
-
-pub IsFirstJoin-found : (bs : List ℕ) (n : ℕ) → n + 1 < length bs → is_join (slice_index bs n) (slice_index bs (n + 1)) ≡ true → UnjoinedTo bs n → IsFirstJoin bs n
-IsFirstJoin-found bs n h is to =
-    let parts = both (slice_index bs n == backslash) _ is in
-    record {
-      within = omega arith;
-      first = eqb-true (slice_index bs n) backslash parts.0;
-      second = eqb-true (slice_index bs (n + 1)) lf parts.1;
-      rest = to ∙ ap (λ l. take n bs ++ l) (rw (two_at bs n h, is) refl);
-    }
 
 unjoined-short : (bs : List ℕ) → length bs ≤ 1 → unjoined bs ≡ bs
 unjoined-short [] h = refl

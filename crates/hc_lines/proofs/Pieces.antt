@@ -1,12 +1,6 @@
 -- A text cut at its first LF, and physical lines cut behind their first run.
 use Rattle.std.proofs.Common.{◌≡◌, ℕ, suc, ◌+◌, ◌-◌, ◌<◌, ◌≤◌, List, [], ◌∷◌, ◌++◌, length, take, drop, slice_index, Bool, true, false, refl, sym, ◌∙◌, ap, arith, append_assoc, append-nil, eqb-true}
-use Rattle.std.proofs.Math.Seq.{drop-length, take-append_seam}
-use Rattle.std.proofs.lemmas.List.{length-take-le, take-append-drop}
-use Rattle.std.specs.List.{concat, position_or_len}
-use Rattle.hc_base.specs.Bytes.{lf}
-use Rattle.hc_base.specs.Lines.{is_lf}
-use Rattle.hc_lines.specs.Logical.{joins, onto_piece, onto_run, pieces, runs}
-use Rattle.hc_lines.specs.Run.{StartsWith, after_run, first_run}
+use Rattle.hc_lines.proofs.Common.{drop-length, take-append_seam, length-take-le, take-append-drop, concat, position_or_len, lf, is_lf, onto_piece, pieces, joins, onto_run, runs, StartsWith, after_run, first_run}
 
 abbrev end_of : List ℕ → ℕ
 end_of bs = position_or_len is_lf bs

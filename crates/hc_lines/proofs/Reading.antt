@@ -1,11 +1,8 @@
 -- The lines of a text, read run by run.
-use Rattle.std.proofs.Common.{◌≡◌, ℕ, ◌+◌, ◌≤◌, List, [], ◌∷◌, ◌++◌, length, refl, sym, ◌∙◌, ap, arith, append_assoc, append-nil, Option, Some, None, Result, Ok, Err, length-append}
-use Rattle.std.specs.List.{cons_option}
+use Rattle.hc_lines.proofs.Common.{◌≡◌, ℕ, ◌+◌, ◌≤◌, List, [], ◌∷◌, ◌++◌, length, refl, sym, ◌∙◌, ap, arith, append_assoc, append-nil, Option, Some, None, Result, Ok, Err, length-append, cons_option, pieces, before, line_at, lines_from, lines_of, runs, then_lines, StartsWith}
 use Rattle.hc_base.specs.declared.fault.AtLine.{AtLine}
 use Rattle.hc_lines.specs.declared.line.FileKind.{FileKind}
 use Rattle.hc_lines.specs.declared.line.Line.{Line}
-use Rattle.hc_lines.specs.Logical.{before, line_at, lines_from, lines_of, pieces, runs, then_lines}
-use Rattle.hc_lines.specs.Run.{StartsWith}
 
 -- the lines so far, and what the rest gives
 pub record IsRead (file : FileKind) (text rest : List ℕ) (number place : ℕ) (lines : List Line) : Type 0 where
@@ -42,11 +39,3 @@ pub IsRead-next : (file : FileKind) (text rest bytes behind : List ℕ) (number 
 IsRead-next file text rest bytes behind number place count lines more line read s is added =
     advanced file text rest bytes behind number place count lines _ read s
     (rw (unfolded file rest bytes behind number place count s, is, added) (next_of lines line _))
-
-pub IsRead-refused : (file : FileKind) (text rest bytes behind : List ℕ) (number place count : ℕ) (lines : List Line) (refusal : AtLine) → IsRead file text rest number place lines → StartsWith rest bytes count behind → line_at file number place count bytes ≡ Err refusal → lines_of file text ≡ Err refusal
-IsRead-refused file text rest bytes behind number place count lines refusal read s is =
-    sym read.so_far ∙ rw (unfolded file rest bytes behind number place count s, is) refl
-
-pub IsRead-end : (file : FileKind) (text rest : List ℕ) (number place : ℕ) (lines : List Line) → IsRead file text rest number place lines → rest ≡ [] → lines_of file text ≡ Ok lines
-IsRead-end file text rest number place lines read none =
-    sym read.so_far ∙ rw (none, append-nil) refl

@@ -1,7 +1,5 @@
 -- Physical lines are cut into maximal runs in one way.
-use Rattle.std.proofs.Common.{◌≡◌, ℕ, List, [], ◌∷◌, ◌++◌, Bool, true, false, refl, sym, ◌∙◌, ap, true≢false}
-use Rattle.std.specs.List.{AllByRecursion}
-use Rattle.hc_lines.specs.Logical.{AreMaximal, AreRunsOf, IsCutIntoRuns, IsRun, all_of, joins, onto_run, pieces, runs}
+use Rattle.hc_lines.proofs.Common.{◌≡◌, ℕ, List, [], ◌∷◌, ◌++◌, Bool, true, false, refl, sym, ◌∙◌, ap, true≢false, AllByRecursion, pieces, AreMaximal, AreRunsOf, IsCutIntoRuns, IsRun, all_of, joins, onto_run, runs}
 use Rattle.hc_lines.proofs.Pieces.{concat-pieces}
 
 -- ---- `runs` is such a cut

@@ -1,19 +1,14 @@
 -- What is left of a text where bytes are taken off at its ends, and the spans of lines.
-use Rattle.std.proofs.Common.{◌≡◌, ℕ, suc, ◌+◌, ◌-◌, ◌<◌, ◌≤◌, List, [], ◌∷◌, ◌++◌, length, take, drop, slice_range, Bool, true, false, not, ◌&&◌, refl, sym, ◌∙◌, ap, arith, Option, Some, None, Result, Ok, Err, Vec, Global, IfOk, true≢false, nat_eq, length-drop, length-append}
-use Rattle.std.proofs.lemmas.List.{drop-append-le, drop-drop, drop-take, drop_at, take-append-le, take-take}
+use Rattle.hc_lines.proofs.Common.{◌≡◌, ℕ, suc, ◌+◌, ◌-◌, ◌<◌, ◌≤◌, List, [], ◌∷◌, ◌++◌, length, take, drop, slice_range, Bool, true, false, not, ◌&&◌, refl, sym, ◌∙◌, ap, arith, Option, Some, None, Result, Ok, Err, Vec, Global, IfOk, true≢false, nat_eq, length-drop, length-append, drop-append-le, drop-drop, drop-take, drop_at, take-append-le, take-take, concat, cr, ends_with, lf, is_blank, pieces, AreSpansFrom, all_of, before, broken_by, from_first, indent, is_join, is_nothing, line_of, lines_from, lines_of, read_as, runs, says_something, source, then_lines, unjoined, up_to_last, without_end, without_last}
 use Rattle.std.proofs.lemmas.List.Folds.{concat-append}
 use Rattle.hc_lines.proofs.Pieces.{concat-pieces}
 use Rattle.hc_lines.proofs.Runs.{runs-cut}
 use Rattle.std.specs.Bool.{⊤}
-use Rattle.std.specs.List.{concat}
 use Rattle.hc_base.specs.Gives.{GivesList}
 use Rattle.hc_base.specs.declared.fault.Fault.{Fault}
-use Rattle.hc_base.specs.Bytes.{cr, ends_with, lf}
-use Rattle.hc_base.specs.Lines.{is_blank}
 use Rattle.hc_base.specs.declared.fault.AtLine.{AtLine}
 use Rattle.hc_lines.specs.declared.line.FileKind.{FileKind}
 use Rattle.hc_lines.specs.declared.line.Line.{Line}
-use Rattle.hc_lines.specs.Logical.{AreSpansFrom, all_of, before, broken_by, from_first, indent, is_join, is_nothing, line_of, lines_from, lines_of, pieces, read_as, runs, says_something, source, then_lines, unjoined, up_to_last, without_end, without_last}
 
 -- ---- fronts and backs
 

@@ -1,9 +1,6 @@
 -- Blanks and joins at the ends of a text.
-use Rattle.std.proofs.Common.{◌≡◌, ℕ, ◌-◌, ◌<◌, List, [], ◌∷◌, ◌++◌, length, take, drop, Bool, true, false, ◌&&◌, ◌==◌, nat_eq, refl, sym, ◌∙◌, ap, arith, eqb-true, true≢false}
+use Rattle.hc_lines.proofs.Common.{◌≡◌, ℕ, ◌-◌, ◌<◌, List, [], ◌∷◌, ◌++◌, length, take, Bool, true, false, ◌&&◌, ◌==◌, nat_eq, refl, sym, ◌∙◌, ap, arith, true≢false, backslash, ends_with, lf, space, tab, is_blank, is_lf, from_first, is_join, is_nothing, joins, up_to_last}
 use Rattle.std.proofs.lemmas.Bool.Decides.{nat_tests}
-use Rattle.hc_base.specs.Bytes.{backslash, begins_with, ends_with, lf, space, tab}
-use Rattle.hc_base.specs.Lines.{is_blank, is_lf}
-use Rattle.hc_lines.specs.Logical.{from_first, is_join, is_nothing, joins, up_to_last}
 use Rattle.hc_lines.proofs.Ends.{ends_with-split, joins-later, joins-split}
 
 and_false : (v : Bool) → (v && false) ≡ false
@@ -19,11 +16,6 @@ join-is b c = rw (same_eq b backslash, same_eq c lf) (and_end (nat_eq backslash 
   and_end true true = refl
   and_end true false = refl
   and_end false w = refl
-
-pub from_first-blank : (byte : ℕ) (bs : List ℕ) → is_blank byte ≡ true → begins_with byte bs ≡ true → from_first bs ≡ from_first (drop 1 bs)
-from_first-blank byte [] blank is = refl
-from_first-blank byte (b ∷ []) blank is = rw (eqb-true b byte is, blank) refl
-from_first-blank byte (b ∷ c ∷ bs) blank is = rw (eqb-true b byte is, blank) refl
 
 -- A tail that is nothing but blanks and joins, and whose first byte no backslash joins.
 record IsLoose (b : ℕ) (tail : List ℕ) : Type 0 where

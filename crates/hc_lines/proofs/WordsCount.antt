@@ -1,12 +1,6 @@
 -- The words of a text, one after the other.
-use Rattle.std.proofs.Common.{◌≡◌, ℕ, zero, suc, ◌+◌, ◌&&◌, ◌<◌, ◌≤◌, Bool, true, false, cond, List, [], ◌∷◌, ◌++◌, length, take, drop, slice_index, Option, Some, None, refl, sym, ap, subst, ◌∙◌, arith, append_assoc, length-drop}
-use Rattle.std.specs.List.{prefix_len, position_or_len}
-use Rattle.std.specs.Option.{option_map}
-use Rattle.std.proofs.lemmas.List.{drop_more, nil_from_length}
-use Rattle.hc_base.specs.Lines.{is_blank}
+use Rattle.hc_lines.proofs.Common.{◌≡◌, ℕ, zero, suc, ◌+◌, ◌&&◌, ◌<◌, ◌≤◌, Bool, true, false, cond, List, [], ◌∷◌, ◌++◌, length, take, drop, slice_index, Option, Some, None, refl, sym, ap, subst, ◌∙◌, arith, append_assoc, length-drop, prefix_len, position_or_len, option_map, drop_more, nil_from_length, is_blank, First, is_backslash, nothing, unclosed, word, conf_spelling, first_word, is_quote, quoted_word, read_words, rewrite_spelling, skip_blanks, unescaped_blank, with_first, words_of, words_within, spelling_view}
 use Rattle.hc_lines.specs.Words as Words
-use Rattle.hc_lines.specs.Words.{First, is_backslash, nothing, unclosed, word, conf_spelling, first_word, is_quote, quoted_word, read_words, rewrite_spelling, skip_blanks, unescaped_blank, with_first, words_of, words_within}
-use Rattle.hc_lines.specs.WordsView.{spelling_view}
 use Rattle.hc_lines.specs.declared.words.Spelling.{Spelling}
 use Rattle.hc_lines.specs.declared.words.Spelling.TheVariants.{Conf, Rewrite}
 

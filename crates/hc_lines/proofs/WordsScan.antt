@@ -1,16 +1,11 @@
 -- Steps over bytes in which a backslash may make the next byte plain.
-use Rattle.std.proofs.Common.{◌≡◌, ℕ, suc, ◌+◌, ◌-◌, ◌==◌, ◌<◌, Bool, true, false, ◌&&◌, ◌||◌, cond, List, [], ◌∷◌, ◌++◌, length, take, drop, slice_index, Option, Some, None, refl, sym, ap, subst, ◌∙◌, arith, append_assoc}
+use Rattle.hc_lines.proofs.Common.{◌≡◌, ℕ, suc, ◌+◌, ◌-◌, ◌==◌, ◌<◌, Bool, true, false, ◌&&◌, ◌||◌, cond, List, [], ◌∷◌, ◌++◌, length, take, drop, slice_index, Option, Some, None, refl, sym, ap, subst, ◌∙◌, arith, append_assoc, option_map, drop-drop, drop_more, take_more, take_rest, backslash, double_quote, single_quote, is_blank, is_backslash, is_escapable_in, unescaped, unescaped_blank, unescaped_quote, begins_escape, escapable_view, spelled_len}
 use mathlib.Core.Logic.{⊎_elim}
-use Rattle.std.specs.Option.{option_map}
 use Rattle.std.proofs.lemmas.Bool.{and_parts, cond-true, eqb-true, false≢true, or_cases}
-use Rattle.std.proofs.lemmas.List.{drop-drop, drop_more, take_more, take_rest}
-use Rattle.hc_base.specs.Bytes.{backslash, double_quote, single_quote, space, tab}
-use Rattle.hc_base.specs.Lines.{is_blank}
-use Rattle.hc_lines.specs.Words.{is_backslash, is_escapable_in, unescaped, unescaped_blank, unescaped_quote}
-use Rattle.hc_lines.specs.WordsView.{begins_escape, escapable_view, spelled_len}
-use Rattle.hc_lines.specs.declared.words.Escapable.{Escapable}
-use Rattle.hc_lines.specs.declared.words.Escapable.TheVariants.{Backslash, Within, Blank}
-use Rattle.hc_lines.specs.declared.words.Quote.TheVariants.{Double, Single}
+use Rattle.hc_base.proofs.Shared.{blank_ascii}
+use Rattle.hc_lines.specs.declared.escape.Escapable.{Escapable}
+use Rattle.hc_lines.specs.declared.escape.Escapable.TheVariants.{Backslash, Within, Blank}
+use Rattle.hc_lines.specs.declared.escape.Quote.TheVariants.{Double, Single}
 
 -- ---- to the end of a word
 
@@ -98,9 +93,6 @@ kept_step esc bytes i l e =
 either_ascii : (b x y : ℕ) → x < 128 → y < 128 → ((b == x) || (b == y)) ≡ true → b < 128
 either_ascii b x y l m e =
     ⊎_elim (λ (k : (b == x) ≡ true). omega (arith, eqb-true b x k)) (λ (k : (b == y) ≡ true). omega (arith, eqb-true b y k)) (or_cases (b == x) (b == y) e)
-
-pub blank_ascii : (b : ℕ) → is_blank b ≡ true → b < 128
-blank_ascii b e = either_ascii b space tab (omega arith) (omega arith) e
 
 -- What the code looks for behind a backslash is ASCII.
 escapable_ascii : (self : Escapable) (b : ℕ) → escapable_view self b ≡ true → b < 128

@@ -6,23 +6,15 @@
 use Rattle.std.specs.Prelude.{◌≡◌, ℕ, ◌+◌, ◌-◌, ◌*◌, ◌==◌, ◌<◌, ◌≤◌, List, [], ◌∷◌, ◌++◌, length, Bool, true, false, not, ◌&&◌, if◌then◌else◌, nat_eq, nat_lt, Option, Some, None, Result, Ok, Err, ⊤, slice_range}
 use Rattle.std.specs.List.{AllByRecursion, concat, list_any, flat_map, ends_with as ends_with_all}
 use Rattle.hc_base.specs.Bytes.{backslash, begins_with, cr, ends_with, hash, is_control, lf, tab}
-use Rattle.hc_base.specs.Lines.{is_blank, is_lf}
+use Rattle.hc_base.specs.Lines.{is_blank, is_lf, pieces}
 use Rattle.hc_base.specs.declared.codes.TheConstants.{CONTROL_BYTE, LINE_TOO_LONG}
 use Rattle.hc_base.specs.declared.fault.AtLine.{AtLine}
 use Rattle.hc_lines.specs.declared.line.FileKind.{FileKind}
 use Rattle.hc_lines.specs.declared.line.FileKind.TheVariants.{Config, Htaccess}
 use Rattle.hc_lines.specs.declared.line.Line.{Line}
+use Rattle.hc_lines.specs.declared.logical.TheConstants.{LONGEST_HTACCESS_LINE, LONGEST_LINE}
 
 -- ---- physical lines
-
-abbrev pub onto_piece : ℕ → List (List ℕ) → List (List ℕ)
-onto_piece b [] = (b ∷ []) ∷ []
-onto_piece b (piece ∷ pieces) = (b ∷ piece) ∷ pieces
-
--- The physical lines of a text, each with the LF that ends it; the last one may have none.
-abbrev pub pieces : List ℕ → List (List ℕ)
-pieces [] = []
-pieces (b ∷ bs) = if is_lf b then (b ∷ []) ∷ pieces bs else onto_piece b (pieces bs)
 
 -- A backslash and the LF behind it, which join two physical lines.
 abbrev pub is_join : ℕ → ℕ → Bool
@@ -132,8 +124,8 @@ says_something bytes = not (is_nothing (source bytes)) && not (begins_with hash 
 
 -- The most bytes of a logical line.
 abbrev pub longest : FileKind → ℕ
-longest Config = 1048576
-longest Htaccess = 8190
+longest Config = LONGEST_LINE
+longest Htaccess = LONGEST_HTACCESS_LINE
 
 -- The bytes of a run of so many physical lines without its end and its joins, which have two bytes
 -- each.

@@ -2,7 +2,8 @@
 use Rattle.std.specs.Prelude.{◌≡◌, ℕ, ◌+◌, ◌<◌, ◌≤◌, List, [], ◌∷◌, ◌++◌, length, take, drop, slice_index, if◌then◌else◌}
 use Rattle.std.specs.List.{concat}
 use Rattle.hc_base.specs.Bytes.{backslash, lf}
-use Rattle.hc_lines.specs.Logical.{joins, pieces, runs, unjoined}
+use Rattle.hc_base.specs.Lines.{pieces}
+use Rattle.hc_lines.specs.Logical.{joins, runs, unjoined}
 
 -- The physical lines of the first logical line, and those behind it.
 abbrev pub first_run : List (List ℕ) → List (List ℕ)

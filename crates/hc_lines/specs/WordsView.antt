@@ -4,11 +4,11 @@ use Rattle.hc_base.specs.Bytes.{double_quote, single_quote}
 use Rattle.hc_base.specs.Lines.{is_blank}
 use Rattle.hc_lines.specs.Words.{First, nothing, word, conf_spelling, is_backslash, is_escapable_in, rewrite_spelling}
 use Rattle.hc_lines.specs.Words as Words
-use Rattle.hc_lines.specs.declared.words.Escapable.{Escapable}
-use Rattle.hc_lines.specs.declared.words.Escapable.TheVariants.{Backslash, Within, Blank}
-use Rattle.hc_lines.specs.declared.words.Piece.{Piece}
-use Rattle.hc_lines.specs.declared.words.Quote.{Quote}
-use Rattle.hc_lines.specs.declared.words.Quote.TheVariants.{Double, Single}
+use Rattle.hc_lines.specs.declared.escape.Escapable.{Escapable}
+use Rattle.hc_lines.specs.declared.escape.Escapable.TheVariants.{Backslash, Within, Blank}
+use Rattle.hc_lines.specs.declared.words.Spelled.{Spelled}
+use Rattle.hc_lines.specs.declared.escape.Quote.{Quote}
+use Rattle.hc_lines.specs.declared.escape.Quote.TheVariants.{Double, Single}
 use Rattle.hc_lines.specs.declared.words.Spelling.{Spelling}
 use Rattle.hc_lines.specs.declared.words.Spelling.TheVariants.{Conf, Rewrite}
 
@@ -40,6 +40,6 @@ abbrev pub said : Words.Spelling → Option Quote → List ℕ → List ℕ
 said spelling None bytes = spelling.plain bytes
 said spelling (Some quote) bytes = spelling.quoted (quote_view quote) bytes
 
-abbrev pub first_view : Words.Spelling → Option Piece → First
+abbrev pub first_view : Words.Spelling → Option Spelled → First
 first_view spelling None = nothing
 first_view spelling (Some piece) = word (said spelling piece.quote piece.word.now) piece.rest.now

@@ -2,6 +2,7 @@
 #![tactic(auto)]
 
 mod cut;
+mod escape;
 pub mod laws;
 mod line;
 mod logical;
@@ -12,5 +13,5 @@ mod words;
 
 pub use cut::{cut_before, cut_behind};
 pub use line::{FileKind, Line, LineFault};
-pub use logical::logical_lines;
+pub use logical::{LONGEST_LINE, logical_lines};
 pub use words::{WordFault, conf_words, rewrite_words, skip_blanks};

@@ -1,17 +1,24 @@
 ghost use Rattle.std.specs.Prelude.{◌≡◌, ◌+◌, ◌^◌, ◌<◌, ◌≤◌, [], ◌++◌, length, IfOk, OnOk};
 ghost use Rattle.std.specs.List.{cons_option, list_any};
 ghost use Rattle.hc_base.specs.Gives.{Gives, GivesList};
-ghost use Rattle.hc_lines.specs.Logical.{AreSpansFrom, broken_by, is_forbidden, line_at, lines_of, longest, size, without_end};
+ghost use Rattle.hc_lines.specs.Logical.{AreSpansFrom, broken_by, is_forbidden, line_at};
+ghost use Rattle.hc_lines.specs.Logical.{lines_of, longest, size, without_end};
 
 use crate::line::{FileKind, Line, LineFault};
 use crate::run::{Run, split_run};
 use crate::trim::{from_first, up_to_last, without_end};
 use crate::unjoin::unjoined;
-use hc_base::bytes::begins_with;
+use hc_base::bytes::{DELETE, begins_with};
 use hc_base::codes::{CONTROL_BYTE, LINE_TOO_LONG};
 use hc_base::{AtLine, Fault, NoMemory, Span, Steps};
 use std::alloc::Global;
 use std::sync::ledger::Ledger;
+
+/// The most bytes of a logical line of a configuration, before and after its variables are replaced.
+pub const LONGEST_LINE: usize = 1_048_576;
+
+/// The most bytes of a logical line of an `.htaccess` file.
+pub const LONGEST_HTACCESS_LINE: usize = 8_190;
 
 impl FileKind {
     // The most bytes of a logical line.
@@ -19,8 +26,8 @@ impl FileKind {
         ensures { result ≡ longest self }
     {
         match self {
-            FileKind::Config => 1_048_576,
-            FileKind::Htaccess => 8_190,
+            FileKind::Config => LONGEST_LINE,
+            FileKind::Htaccess => LONGEST_HTACCESS_LINE,
         }
     }
 }
@@ -150,5 +157,5 @@ fn has_forbidden(text: &[u8]) -> bool
 fn is_forbidden(byte: u8) -> bool
     ensures { result ≡ is_forbidden byte }
 {
-    (byte < b' ' || byte == 127) && byte != b'\t' && byte != b'\n'
+    (byte < b' ' || byte == DELETE) && byte != b'\t' && byte != b'\n'
 }

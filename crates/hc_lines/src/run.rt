@@ -1,8 +1,9 @@
-ghost use Rattle.std.specs.Prelude.{◌≡◌, ◌+◌, ◌-◌, ◌<◌, ◌≤◌, [], ◌∷◌, length, drop, MatchOption, position, slice_index};
+ghost use Rattle.std.specs.Prelude.{◌≡◌, ◌+◌, ◌-◌, ◌<◌, ◌≤◌, []};
+ghost use Rattle.std.specs.Prelude.{◌∷◌, length, drop, MatchOption, position, slice_index};
 ghost use Rattle.std.specs.List.{concat};
 ghost use Rattle.hc_base.specs.Bytes.{lf};
-ghost use Rattle.hc_base.specs.Lines.{is_lf};
-ghost use Rattle.hc_lines.specs.Logical.{pieces, runs};
+ghost use Rattle.hc_base.specs.Lines.{is_lf, pieces};
+ghost use Rattle.hc_lines.specs.Logical.{runs};
 ghost use Rattle.hc_lines.specs.Run.{StartsWith, after_run, first_run};
 
 use crate::cut::cut_behind;

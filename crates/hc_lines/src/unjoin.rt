@@ -1,4 +1,5 @@
-ghost use Rattle.std.specs.Prelude.{◌≡◌, ◌+◌, ◌≤◌, ◌++◌, drop, length, slice_index, take, IfOk, IfNone, IfSome, string_bytes};
+ghost use Rattle.std.specs.Prelude.{◌≡◌, ◌+◌, ◌≤◌, ◌++◌, drop, length};
+ghost use Rattle.std.specs.Prelude.{slice_index, take, IfOk, IfNone, IfSome, string_bytes};
 ghost use Rattle.hc_lines.specs.Logical.{is_join, unjoined};
 ghost use Rattle.hc_lines.specs.Run.{IsFirstJoin};
 

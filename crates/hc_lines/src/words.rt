@@ -1,11 +1,17 @@
-ghost use Rattle.std.specs.Prelude.{◌≡◌, ◌==◌, ◌+◌, ◌<◌, ◌≤◌, ◌++◌, true, false, drop, length, position, slice_index, string_bytes, take, IfOk, IfSome, MatchOption, MatchResult};
+ghost use Rattle.std.specs.Prelude.{◌≡◌, ◌==◌, ◌+◌, ◌<◌, ◌≤◌, ◌++◌};
+ghost use Rattle.std.specs.Prelude.{true, false, drop, length, position, slice_index};
+ghost use Rattle.std.specs.Prelude.{string_bytes, take, IfOk, IfSome, MatchOption, MatchResult};
 ghost use Rattle.std.specs.List.{position_or_len};
 ghost use Rattle.hc_base.specs.Gives.{GivesList};
 ghost use Rattle.hc_base.specs.Lines.{is_blank};
-ghost use Rattle.hc_lines.specs.Words.{conf_spelling, first_word, is_quote, quoted_word, read_words, rewrite_spelling, skip_blanks, unclosed, unescaped, unescaped_blank, unescaped_quote};
-ghost use Rattle.hc_lines.specs.WordsView.{begins_escape, escapable_view, first_view, quote_view, said, spelled_len, spelling_view};
+ghost use Rattle.hc_lines.specs.Words.{conf_spelling, first_word, is_quote, quoted_word, read_words, rewrite_spelling};
+ghost use Rattle.hc_lines.specs.Words.{skip_blanks, unclosed, unescaped, unescaped_blank, unescaped_quote};
+ghost use Rattle.hc_lines.specs.WordsView.{begins_escape, escapable_view, first_view, quote_view};
+ghost use Rattle.hc_lines.specs.WordsView.{said, spelled_len, spelling_view};
 
 use crate::cut::{cut_before, cut_behind};
+use crate::escape::{Escapable, Quote};
+use hc_base::bytes::is_blank;
 use hc_base::codes::UNCLOSED_QUOTE;
 use hc_base::{AtByte, CowStr, Fault, NoMemory};
 use std::alloc::Global;
@@ -49,36 +55,9 @@ fn words<'t>(spelling: Spelling, alloc: Global, text: &'t str) -> Result<Vec<Cow
     Ok(words)
 }
 
-#[derive(Clone, Copy)]
-enum Quote {
-    Double,
-    Single,
-}
-
-impl Quote {
-    fn of(byte: u8) -> Option<Quote>
-        ensures { MatchOption result (is_quote byte ≡ false) (λ quote. (is_quote byte ≡ true) × (byte ≡ quote_view quote)) }
-    {
-        match byte {
-            b'"' => Some(Quote::Double),
-            b'\'' => Some(Quote::Single),
-            _ => None,
-        }
-    }
-
-    fn byte(self) -> u8
-        ensures { result ≡ quote_view self }
-    {
-        match self {
-            Quote::Double => b'"',
-            Quote::Single => b'\'',
-        }
-    }
-}
-
 // A word as it is spelled, without the quotes that it may stand in, and what follows it.
 #[derive(Clone, Copy)]
-struct Piece<'t> {
+struct Spelled<'t> {
     quote: Option<Quote>,
     word: &'t str,
     rest: &'t str,
@@ -93,7 +72,7 @@ enum Spelling {
 
 impl Spelling {
     // The word that the text begins with behind its blanks, if there is one.
-    fn first_piece<'t>(self, text: &'t str) -> Result<Option<Piece<'t>>, WordFault>
+    fn first_piece<'t>(self, text: &'t str) -> Result<Option<Spelled<'t>>, WordFault>
         ensures { MatchResult result
             (λ piece. first_word (spelling_view self) (skip_blanks text.now) ≡ first_view (spelling_view self) piece)
             (λ fault. (fault ≡ UNCLOSED) × (first_word (spelling_view self) (skip_blanks text.now) ≡ unclosed)) }
@@ -109,15 +88,16 @@ impl Spelling {
     }
 
     // The quoted word, in what follows its first quote.
-    fn quoted_piece<'t>(self, quote: Quote, text: &'t str) -> Result<Option<Piece<'t>>, WordFault>
-        ensures { let first = quoted_word (spelling_view self) (quote_view quote) text.now ((spelling_view self).closing (quote_view quote) text.now) in
+    fn quoted_piece<'t>(self, quote: Quote, text: &'t str) -> Result<Option<Spelled<'t>>, WordFault>
+        ensures { let closing = (spelling_view self).closing (quote_view quote) text.now in
+            let first = quoted_word (spelling_view self) (quote_view quote) text.now closing in
             MatchResult result
             (λ piece. first ≡ first_view (spelling_view self) piece)
             (λ fault. (fault ≡ UNCLOSED) × (first ≡ unclosed)) }
     {
         match self.closing(quote, text.as_bytes()) {
             None => Err(UNCLOSED),
-            Some(end) => Ok(Some(Piece {
+            Some(end) => Ok(Some(Spelled {
                 quote: Some(quote),
                 word: cut_before(text, end).0,
                 rest: cut_behind(text, end).1,
@@ -125,13 +105,13 @@ impl Spelling {
         }
     }
 
-    fn plain_piece<'t>(self, text: &'t str) -> Piece<'t>
+    fn plain_piece<'t>(self, text: &'t str) -> Spelled<'t>
         ensures quote { result.quote ≡ None }
         ensures word { result.word.now ≡ take ((spelling_view self).plain_end text.now) text.now }
         ensures rest { result.rest.now ≡ drop ((spelling_view self).plain_end text.now) text.now }
     {
         let (word, rest) = cut_before(text, self.plain_end(text.as_bytes()));
-        Piece {
+        Spelled {
             quote: None,
             word,
             rest,
@@ -180,98 +160,6 @@ impl Spelling {
 }
 
 // The bytes that a backslash before them makes plain.
-#[derive(Clone, Copy)]
-enum Escapable {
-    // The backslash.
-    Backslash,
-    // The backslash and this quote.
-    Within(Quote),
-    // The blanks.
-    Blank,
-}
-
-impl Escapable {
-    // The text with the backslashes dropped that make a byte plain.
-    fn unescaped<'t>(self, alloc: Global, text: &'t str) -> Result<CowStr<'t>, NoMemory>
-        ensures { IfOk result (λ made. made ≡ unescaped (escapable_view self) text.now) }
-    {
-        match self.split_escape(text) {
-            None => Ok(CowStr::from(text)),
-            Some(_) => Ok(CowStr::from(self.made(alloc, text)?)),
-        }
-    }
-
-    // The same as a text of its own.
-    fn made(self, alloc: Global, text: &str) -> Result<String, NoMemory>
-        ensures { IfOk result (λ made. string_bytes made ≡ unescaped (escapable_view self) text.now) }
-    {
-        let mut made = String::with_capacity(alloc, text.len())?;
-        let mut rest = text;
-        while let Some((front, kept, behind)) = self.split_escape(rest) {
-            made.push_str(front)?;
-            made.push_str(kept)?;
-            rest = behind;
-        }
-        made.push_str(rest)?;
-        Ok(made)
-    }
-
-    // What stands before the first backslash that makes a byte plain, that byte, and what follows.
-    fn split_escape<'t>(self, text: &'t str) -> Option<(&'t str, &'t str, &'t str)>
-        ensures shorter { IfSome result (λ parts. length parts.2.now < length text.now) }
-        ensures value { MatchOption result (unescaped (escapable_view self) text.now ≡ text.now)
-            (λ parts. unescaped (escapable_view self) text.now ≡ parts.0.now ++ parts.1.now ++ unescaped (escapable_view self) parts.2.now) }
-    {
-        let at = self.first_escape(text.as_bytes())?;
-        let (kept, behind) = cut_behind(cut_behind(text, at).1, 0);
-        Some((cut_before(text, at).0, kept, behind))
-    }
-
-    fn first_escape(self, bytes: &[u8]) -> Option<usize>
-        ensures value { MatchOption result (unescaped (escapable_view self) bytes.now ≡ bytes.now)
-            (λ at. unescaped (escapable_view self) bytes.now ≡ take at bytes.now ++ unescaped (escapable_view self) (drop at bytes.now)) }
-        ensures escape { IfSome result (λ at. begins_escape (escapable_view self) (drop at bytes.now) ≡ true) }
-    {
-        for index in 0..bytes.len() {
-            if self.begins(&bytes[index..]) {
-                return Some(index);
-            }
-        }
-        None
-    }
-
-    // With how many bytes the first byte is spelled.
-    fn spelled_len(self, bytes: &[u8]) -> usize
-        requires { 0 < length bytes.now }
-        ensures value { result ≡ spelled_len (escapable_view self) bytes.now }
-        ensures some { 0 < result }
-        ensures within { result ≤ length bytes.now }
-    {
-        if self.begins(bytes) { 2 } else { 1 }
-    }
-
-    // The bytes begin with a backslash that makes the next one plain.
-    fn begins(self, bytes: &[u8]) -> bool
-        ensures value { result ≡ begins_escape (escapable_view self) bytes.now }
-        ensures two { result ≡ true → 2 ≤ length bytes.now }
-    {
-        match bytes {
-            [b'\\', next, ..] => self.has(*next),
-            _ => false,
-        }
-    }
-
-    fn has(self, byte: u8) -> bool
-        ensures { result ≡ escapable_view self byte }
-    {
-        match self {
-            Escapable::Backslash => byte == b'\\',
-            Escapable::Within(quote) => byte == b'\\' || byte == quote.byte(),
-            Escapable::Blank => is_blank(byte),
-        }
-    }
-}
-
 // The first such quote that no backslash makes plain.
 fn unescaped_quote(quote: Quote, bytes: &[u8]) -> Option<usize>
     ensures value { result ≡ unescaped_quote (quote_view quote) bytes.now }
@@ -337,10 +225,4 @@ pub fn skip_blanks(text: &str) -> &str
         }
     }
     ""
-}
-
-fn is_blank(byte: u8) -> bool
-    ensures { result ≡ is_blank byte }
-{
-    byte == b' ' || byte == b'\t'
 }

@@ -1,6 +1,4 @@
-use Rattle.std.proofs.Common.{length}
-use denote.Text.{Utf8}
-use denote.Shadow.{shadow}
+use Rattle.hc_lines.proofs.Common.{length, Utf8, shadow}
 use Rattle.hc_lines.proofs.Reading.{IsRead}
 use Rattle.hc_lines.proofs.logical.read_lines.Given as goal
 

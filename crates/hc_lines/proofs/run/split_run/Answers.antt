@@ -1,5 +1,4 @@
-use Rattle.std.proofs.Common.{◌≡◌, ◌+◌, ◌-◌, sym, arith}
-use Rattle.std.proofs.Math.Seq.{take-length, drop-length}
+use Rattle.hc_lines.proofs.Common.{◌≡◌, ◌+◌, ◌-◌, sym, arith, take-length, drop-length}
 use Rattle.hc_lines.proofs.Pieces.{IsScanned, StartsWith-run}
 use Rattle.hc_lines.proofs.run.split_run.Goals as goal
 

@@ -1,7 +1,4 @@
-use Rattle.std.proofs.Common.{◌≡◌, length}
-use denote.Text.{Utf8}
-use denote.Shadow.{shadow}
-use Rattle.hc_lines.specs.Logical.{from_first}
+use Rattle.hc_lines.proofs.Common.{◌≡◌, length, Utf8, shadow, from_first}
 use Rattle.hc_lines.proofs.trim.from_first.Given as goal
 
 abbrev pub invariant-front : goal.invariant-front

@@ -1,5 +1,4 @@
-use Rattle.std.proofs.Common.{refl, sym, ◌∙◌, lit<}
-use Rattle.hc_base.specs.Bytes.{space, tab}
+use Rattle.hc_lines.proofs.Common.{refl, sym, ◌∙◌, lit<, space, tab}
 use Rattle.hc_lines.proofs.Ends.{ends_with-at}
 use Rattle.hc_lines.proofs.Trims.{up_to_last-blank, up_to_last-join, up_to_last-tight}
 use Rattle.hc_lines.proofs.trim.trailing.Goals as goal

@@ -1,7 +1,4 @@
-use Rattle.std.proofs.Common.{◌≡◌, length}
-use denote.Text.{Utf8}
-use denote.Shadow.{shadow}
-use Rattle.hc_lines.specs.Logical.{up_to_last}
+use Rattle.hc_lines.proofs.Common.{◌≡◌, length, Utf8, shadow, up_to_last}
 use Rattle.hc_lines.proofs.trim.up_to_last.Given as goal
 
 abbrev pub invariant-back : goal.invariant-back

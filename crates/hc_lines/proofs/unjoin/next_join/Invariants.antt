@@ -1,5 +1,4 @@
-use Rattle.std.proofs.Common.{◌≡◌, ◌-◌, ◌++◌, take, drop}
-use Rattle.hc_lines.specs.Logical.{unjoined}
+use Rattle.hc_lines.proofs.Common.{◌≡◌, ◌-◌, ◌++◌, take, drop, unjoined}
 use Rattle.hc_lines.proofs.unjoin.next_join.Given as goal
 
 -- no join begins before the last byte that was looked at

@@ -1,7 +1,4 @@
-use Rattle.std.proofs.Common.{◌≡◌, ◌++◌, length, string_bytes}
-use denote.Text.{Utf8}
-use denote.Shadow.{shadow}
-use Rattle.hc_lines.specs.Logical.{unjoined}
+use Rattle.hc_lines.proofs.Common.{◌≡◌, ◌++◌, length, string_bytes, Utf8, shadow, unjoined}
 use Rattle.hc_lines.proofs.unjoin.without_joins.Given as goal
 
 -- what was made, and what the rest gives

@@ -1,6 +1,4 @@
-use Rattle.std.proofs.Common.{◌≡◌, ◌+◌, drop}
-use Rattle.std.specs.List.{position_or_len}
-use Rattle.hc_base.specs.Lines.{is_blank}
+use Rattle.hc_lines.proofs.Common.{◌≡◌, ◌+◌, drop, position_or_len, is_blank}
 use Rattle.hc_lines.proofs.words.first_blank.Given as goal
 
 -- none so far

@@ -1,8 +1,7 @@
-use Rattle.std.proofs.Common.{◌≡◌, ◌<◌, refl, sym, ap, subst, ◌∙◌, slice_index, length, List, ℕ, true}
+use Rattle.hc_lines.proofs.Common.{◌≡◌, ◌<◌, refl, sym, ap, subst, ◌∙◌, slice_index, length, List, ℕ, true, is_blank}
 use Rattle.std.proofs.lemmas.Str.{IsCharBoundary-after_ascii, IsCharBoundary-start}
-use Rattle.hc_base.specs.Lines.{is_blank}
 use Rattle.hc_lines.proofs.WordsCount.{skipped}
-use Rattle.hc_lines.proofs.WordsScan.{blank_ascii}
+use Rattle.hc_base.proofs.Shared.{blank_ascii}
 use Rattle.hc_lines.proofs.words.skip_blanks.Goals as goal
 
 pub loop-index-init : goal.loop-index-init

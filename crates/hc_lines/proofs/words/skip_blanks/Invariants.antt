@@ -1,6 +1,5 @@
-use Rattle.std.proofs.Common.{◌≡◌, drop}
+use Rattle.hc_lines.proofs.Common.{◌≡◌, drop, skip_blanks}
 use Rattle.std.specs.Str.{IsCharBoundary}
-use Rattle.hc_lines.specs.Words.{skip_blanks}
 use Rattle.hc_lines.proofs.words.skip_blanks.Given as goal
 
 -- blanks so far

@@ -1,5 +1,4 @@
-use Rattle.std.proofs.Common.{◌≡◌, ◌+◌, ◌-◌, ◌≤◌, drop, length}
-use Rattle.hc_lines.specs.Words.{unescaped_blank}
+use Rattle.hc_lines.proofs.Common.{◌≡◌, ◌+◌, ◌-◌, ◌≤◌, drop, length, unescaped_blank}
 use Rattle.hc_lines.proofs.words.unescaped_blank.Given as goal
 
 -- none so far

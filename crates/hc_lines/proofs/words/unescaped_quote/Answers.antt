@@ -1,6 +1,5 @@
-use Rattle.std.proofs.Common.{sym, ◌∙◌}
+use Rattle.hc_lines.proofs.Common.{sym, ◌∙◌, quote_view}
 use Rattle.std.proofs.lemmas.Bool.{eq-eqb, ne_eqb}
-use Rattle.hc_lines.specs.WordsView.{quote_view}
 use Rattle.hc_lines.proofs.WordsScan.{moved-zero, quote_here, quote_step}
 use Rattle.hc_lines.proofs.words.unescaped_quote.Goals as goal
 

@@ -1,7 +1,4 @@
-use Rattle.std.proofs.Common.{◌≡◌, ◌+◌, ◌-◌, drop, length}
-use Rattle.std.specs.Option.{option_map}
-use Rattle.hc_lines.specs.Words.{unescaped_quote}
-use Rattle.hc_lines.specs.WordsView.{quote_view}
+use Rattle.hc_lines.proofs.Common.{◌≡◌, ◌+◌, ◌-◌, drop, length, option_map, unescaped_quote, quote_view}
 use Rattle.hc_lines.proofs.words.unescaped_quote.Given as goal
 
 -- none so far

@@ -1,7 +1,5 @@
-use Rattle.std.proofs.Common.{rules, refl, ap, ◌∙◌}
+use Rattle.hc_lines.proofs.Common.{rules, refl, ap, ◌∙◌, read_words, first_view, spelling_view}
 use Rattle.std.proofs.lemmas.Result.{err_from_is_err_and}
-use Rattle.hc_lines.specs.Words.{read_words}
-use Rattle.hc_lines.specs.WordsView.{first_view, spelling_view}
 use Rattle.hc_lines.proofs.WordsCount.{words_on, words_shorter, words_unclosed}
 use Rattle.hc_lines.proofs.words.words.Goals as goal
 

@@ -1,8 +1,4 @@
-use denote.Shadow.{shadow}
-use denote.Text.{Utf8}
-use Rattle.std.proofs.Common.{◌≡◌, length}
-use Rattle.hc_lines.specs.Words.{words_of}
-use Rattle.hc_lines.specs.WordsView.{spelling_view}
+use Rattle.hc_lines.proofs.Common.{shadow, Utf8, ◌≡◌, length, words_of, spelling_view}
 use Rattle.hc_lines.proofs.WordsCount.{after}
 use Rattle.hc_lines.proofs.words.words.Given as goal
 

@@ -1,6 +1,4 @@
-use Rattle.std.proofs.Common.{◌≡◌, ◌+◌, suc, Some, take, drop, sym, ap, ◌∙◌, arith}
-use Rattle.hc_lines.specs.Words.{quoted_word, word}
-use Rattle.hc_lines.specs.WordsView.{quote_view, spelling_view}
+use Rattle.hc_lines.proofs.Common.{◌≡◌, ◌+◌, suc, Some, take, drop, sym, ap, ◌∙◌, arith, quoted_word, word, quote_view, spelling_view}
 use Rattle.hc_lines.proofs.words.Spelling.quoted_piece.Goals as goal
 
 pub returns-in-Some : goal.returns-in-Some

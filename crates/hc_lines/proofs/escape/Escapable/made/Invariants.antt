@@ -1,9 +1,5 @@
-use denote.Shadow.{shadow}
-use denote.Text.{Utf8}
-use Rattle.std.proofs.Common.{◌≡◌, ◌++◌, length, string_bytes}
-use Rattle.hc_lines.specs.Words.{unescaped}
-use Rattle.hc_lines.specs.WordsView.{escapable_view}
-use Rattle.hc_lines.proofs.words.Escapable.made.Given as goal
+use Rattle.hc_lines.proofs.Common.{shadow, Utf8, ◌≡◌, ◌++◌, length, string_bytes, unescaped, escapable_view}
+use Rattle.hc_lines.proofs.escape.Escapable.made.Given as goal
 
 -- what was made, and what the rest says
 abbrev pub invariant-loop-front : goal.invariant-loop-front

@@ -1,11 +1,7 @@
-use Rattle.std.proofs.Common.{◌≡◌, ℕ, ◌+◌, true, drop, List, sym, ap, subst, ◌∙◌, append_assoc, add-zero, arith, refl, slice_index}
-use Rattle.hc_base.specs.Bytes.{backslash}
-use Rattle.std.proofs.lemmas.List.{drop-drop, get_or-drop}
-use Rattle.hc_lines.specs.Words.{unescaped}
-use Rattle.hc_lines.specs.WordsView.{begins_escape, escapable_view}
-use Rattle.hc_lines.specs.declared.words.Escapable.{Escapable}
+use Rattle.hc_lines.proofs.Common.{◌≡◌, ℕ, ◌+◌, true, drop, List, sym, ap, subst, ◌∙◌, append_assoc, add-zero, arith, refl, slice_index, backslash, drop-drop, get_or-drop, unescaped, begins_escape, escapable_view}
+use Rattle.hc_lines.specs.declared.escape.Escapable.{Escapable}
 use Rattle.hc_lines.proofs.WordsScan.{IsEscape, escape_is}
-use Rattle.hc_lines.proofs.words.Escapable.split_escape.Goals as goal
+use Rattle.hc_lines.proofs.escape.Escapable.split_escape.Goals as goal
 
 escape : (self : Escapable) (text bytes behind : List ℕ) (at : ℕ) → bytes ≡ text → behind ≡ drop (at + 1) text → begins_escape (escapable_view self) (drop at bytes) ≡ true → IsEscape (escapable_view self) (drop at text) behind
 escape self text bytes behind at e k h =

@@ -1,7 +1,6 @@
-use Rattle.std.proofs.Common.{sym, ◌∙◌}
-use Rattle.hc_lines.specs.WordsView.{escapable_view}
+use Rattle.hc_lines.proofs.Common.{sym, ◌∙◌, escapable_view}
 use Rattle.hc_lines.proofs.WordsScan.{kept_step}
-use Rattle.hc_lines.proofs.words.Escapable.first_escape.Goals as goal
+use Rattle.hc_lines.proofs.escape.Escapable.first_escape.Goals as goal
 
 pub loop-index-preserved : goal.loop-index-preserved
 loop-index-preserved c =
