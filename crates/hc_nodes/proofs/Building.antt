@@ -1,9 +1,5 @@
 -- The nodes so far and the levels of the lines to come.
-use Rattle.std.proofs.Common.{◌≡◌, ℕ, List, [], ◌∷◌, ◌++◌, drop, true, refl, sym, ap, ◌∙◌, drop-drop, None, Vec, Global, Bor, rules}
-use Rattle.hc_lines.specs.declared.line.Line.{Line}
-use Rattle.hc_nodes.specs.NodeView.{nodes_view, put_before, put_step}
-use Rattle.hc_nodes.specs.Sections.{IsClosed, closed, followed, section_lines, whole}
-use Rattle.hc_nodes.specs.Tree.{Nodes, none, directive, block, broken_by, is_close, next_of, refusals, with_line}
+use Rattle.hc_nodes.proofs.Common.{◌≡◌, ℕ, List, [], ◌∷◌, ◌++◌, drop, true, refl, sym, ap, ◌∙◌, drop-drop, None, Vec, Global, Bor, rules, Line, nodes_view, put_before, put_step, IsClosed, section_closed, followed, section_lines, whole, Nodes, none, directive, block, rule_broken, is_close, next_of, refusals, with_line}
 use Rattle.hc_nodes.specs.declared.build.Section.{Section}
 use Rattle.hc_nodes.specs.declared.node.Node.{Node, Directive, Block, fold_out-Node, the_lemmas}
 use Rattle.hc_nodes.specs.declared.node.Node.TheOpen.{Node-F}
@@ -42,9 +38,9 @@ put_Block line name args body = search (rules, the_lemmas)
 
 pub whole_more : (sections : List Section) (nodes more : Nodes) (levels : List Nodes) → whole sections (followed nodes more) levels ≡ whole sections nodes (followed more (next_of levels) ∷ drop 1 levels)
 whole_more [] nodes more levels = followed-followed nodes more (next_of levels)
-whole_more (section ∷ sections) nodes more levels = ap (λ body. whole sections (closed section body) (drop 1 levels)) (followed-followed nodes more (next_of levels))
+whole_more (section ∷ sections) nodes more levels = ap (λ body. whole sections (section_closed section body) (drop 1 levels)) (followed-followed nodes more (next_of levels))
 
-pub whole_close : (sections later : List Section) (body nodes : Nodes) (line : Line) (levels : List Nodes) → is_close line ≡ true → broken_by (section_lines sections) line ≡ None
+pub whole_close : (sections later : List Section) (body nodes : Nodes) (line : Line) (levels : List Nodes) → is_close line ≡ true → rule_broken (section_lines sections) line ≡ None
     → IsClosed sections body later nodes → whole later nodes levels ≡ whole sections body (with_line line levels)
 whole_close [] later body nodes line levels is unbroken closing = let never = close_unbroken line [] is unbroken in cc
 whole_close (section ∷ sections) later body nodes line levels is unbroken closing =

@@ -1,12 +1,8 @@
 -- The close of a name.
-use Rattle.std.proofs.Common.{◌≡◌, ◌≢◌, ℕ, ◌<◌, List, [], ◌∷◌, ◌++◌, map, true, false, ◌&&◌, ◌==◌, refl, sym, ap, ◌∙◌, inl, inr, Option, Some, None, MatchOption, Bor, arith}
+use Rattle.hc_nodes.proofs.Common.{◌≡◌, ◌≢◌, ℕ, ◌<◌, List, [], ◌∷◌, ◌++◌, map, true, false, ◌&&◌, ◌==◌, refl, sym, ap, ◌∙◌, inl, inr, Option, Some, None, MatchOption, Bor, arith, and_right, cases_lt, false_from_ne_true, bytes_eq-Decides, greater, less, slash, close_of, same_name}
 use Rattle.std.specs.Char.{to_ascii_lowercase}
-use Rattle.std.proofs.lemmas.Bool.{and_right, cases_lt, false_from_ne_true}
-use Rattle.std.proofs.lemmas.Slice.Eq.{bytes_eq-Decides}
 use Rattle.std.proofs.lemmas.Str.Ascii.{lowercase_is}
-use Rattle.hc_base.specs.Bytes.{greater, less, slash}
 use Rattle.hc_nodes.specs.Closes.{IsNoClose}
-use Rattle.hc_nodes.specs.Tree.{close_of, same_name}
 
 same_below : (c b : ℕ) → b < 65 → to_ascii_lowercase c ≡ b → c ≡ b
 same_below c b small is =

@@ -1,10 +1,6 @@
 -- The first of some refusals.
-use Rattle.std.proofs.Common.{◌≡◌, ℕ, List, ◌∷◌, Bool, true, false, refl, ap, Option, Some, None, option_map, arith}
-use Rattle.std.proofs.lemmas.Bool.Decides.{nat_tests}
+use Rattle.hc_nodes.proofs.Common.{◌≡◌, ℕ, List, ◌∷◌, Bool, true, false, refl, ap, Option, Some, None, option_map, arith, nat_tests, Line, earlier_of, rule_broken, comes_first, first_of_all, open_behind, or_earlier, refusals, refused_at, with_broken}
 use Rattle.hc_base.specs.declared.fault.AtLine.{AtLine}
-use Rattle.hc_lines.specs.declared.line.Line.{Line}
-use Rattle.hc_nodes.specs.Openings.{earlier_of}
-use Rattle.hc_nodes.specs.Tree.{broken_by, comes_first, first_of_all, open_behind, or_earlier, refusals, refused_at, with_broken}
 
 first_trans : (a b c : AtLine) → comes_first a b ≡ true → comes_first b c ≡ true → comes_first a c ≡ true
 first_trans a b c ab bc = grind (arith, nat_tests)
@@ -36,5 +32,5 @@ earlier_with_broken first line (Some code) later = earlier_of-earlier_of first (
 
 -- A line more.
 pub earlier_refusals : (first : Option AtLine) (openings later : List Line) (line : Line) (lines : List Line) → later ≡ open_behind openings line
-    → earlier_of (earlier_of first (option_map (refused_at line) (broken_by openings line))) (first_of_all (refusals later lines)) ≡ earlier_of first (first_of_all (refusals openings (line ∷ lines)))
-earlier_refusals first openings later line lines is = rw is (earlier_with_broken first line (broken_by openings line) (refusals (open_behind openings line) lines))
+    → earlier_of (earlier_of first (option_map (refused_at line) (rule_broken openings line))) (first_of_all (refusals later lines)) ≡ earlier_of first (first_of_all (refusals openings (line ∷ lines)))
+earlier_refusals first openings later line lines is = rw is (earlier_with_broken first line (rule_broken openings line) (refusals (open_behind openings line) lines))

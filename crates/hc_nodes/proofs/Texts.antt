@@ -1,14 +1,12 @@
 -- Where the text of a line may be cut.
-use Rattle.std.proofs.Common.{◌≡◌, ℕ, ◌+◌, ◌-◌, ◌<◌, zero, suc, List, [], ◌∷◌, length, get_or, true, not, ◌==◌, sym, arith, inl, inr, subst, le_antisymm}
+use Rattle.hc_nodes.proofs.Common.{◌≡◌, ℕ, ◌+◌, ◌-◌, ◌<◌, zero, suc, List, [], ◌∷◌, length, get_or, true, not, ◌==◌, sym, arith, inl, inr, subst, le_antisymm, eqb-true, cases_lt, not-false, or_cases, begins_with, ends_with, greater, less, space, tab, name_of}
 use Rattle.std.specs.Str.{IsUtf8, IsCharBoundary}
 use Rattle.std.specs.List.{prefix_len}
 use Rattle.std.proofs.lemmas.Str.{IsCharBoundary-after_ascii, IsCharBoundary-before_ascii, IsCharBoundary-end}
-use Rattle.std.proofs.lemmas.Bool.{eqb-true, cases_lt, not-false, or_cases}
 use Rattle.std.proofs.lemmas.List.Sums.{prefix_len-le-length, prefix_len_stops}
 use Rattle.std.proofs.lemmas.List.Folds.{length-prefix_len}
-use Rattle.hc_base.specs.Bytes.{begins_with, ends_with, greater, less, space, tab}
 use Rattle.hc_base.specs.Lines.{is_blank}
-use Rattle.hc_nodes.specs.Tree.{name_of}
+use Rattle.hc_base.proofs.Shared.{blank_ascii}
 
 first_byte : (byte : ℕ) (text : List ℕ) → begins_with byte text ≡ true → (0 < length text) × (get_or text 0 0 ≡ byte)
 first_byte byte [] is = cc
@@ -28,9 +26,6 @@ pub end_boundary : (text : List ℕ) → begins_with less text ≡ true → ends
 end_boundary text begins ends =
     let first = first_byte less text begins in
     IsCharBoundary-before_ascii text (length text - 1) (omega arith) (omega (arith, last_byte greater text (length text - 1) (omega arith) ends))
-
-blank_ascii : (b : ℕ) → is_blank b ≡ true → b < 128
-blank_ascii b is = elim (or_cases (b == space) (b == tab) is) [ inl blank ↦ omega (arith, eqb-true b space blank) | inr blank ↦ omega (arith, eqb-true b tab blank) ]
 
 name_len : (text : List ℕ) → length (name_of text) ≡ prefix_len (λ b. not (is_blank b)) text
 name_len text = length-prefix_len _ text

@@ -1,15 +1,6 @@
 -- Lines have a tree exactly where they break no rule, and then one alone.
-use Rattle.std.proofs.Common.{◌≡◌, ℕ, ◌+◌, ◌-◌, ◌<◌, ◌≤◌, List, [], ◌∷◌, ◌++◌, length, take, drop, Bool, true, false, refl, sym, ap, ◌∙◌, append_assoc, append-nil, drop-drop, Option, Some, None, inl, inr, subst, arith}
-use Rattle.std.proofs.lemmas.List.{take-append-drop}
-use Rattle.std.proofs.lemmas.Bool.{cases_Bool, cond_both, and_from, not_from_false}
-use Rattle.hc_base.specs.Bytes.{begins_with, less}
+use Rattle.hc_nodes.proofs.Common.{◌≡◌, ℕ, ◌+◌, ◌-◌, ◌<◌, ◌≤◌, List, [], ◌∷◌, ◌++◌, length, drop, Bool, true, false, refl, sym, ap, ◌∙◌, append_assoc, append-nil, drop-drop, Option, Some, None, inl, inr, subst, arith, cases_Bool, cond_both, and_from, not_from_false, begins_with, less, Line, followed, is_close, is_opening, is_complete, closes, Nodes, none, directive, block, directive_at, block_at, Reads, open_behind, rule_broken, closes_innermost, most_open, refusals, with_broken, first_of_all, or_earlier, comes_first, refusal_of, unless_refused, nodes_of, next_of, with_line, levels_of, IsOnlyTree}
 use Rattle.hc_base.specs.declared.fault.AtLine.{AtLine}
-use Rattle.hc_lines.specs.declared.line.Line.{Line}
-use Rattle.hc_nodes.specs.NodeView.{nodes_view}
-use Rattle.hc_nodes.specs.Parts.{IsPart, tree_of}
-use Rattle.hc_nodes.specs.Sections.{followed}
-use Rattle.hc_nodes.specs.Tree.{is_close, is_opening, is_complete, closes, Nodes, none, directive, block, directive_at, block_at, Reads, open_behind, broken_by, closes_innermost, most_open, refusals, with_broken, first_of_all, or_earlier, comes_first, refusal_of, unless_refused, nodes_of, next_of, with_line, levels_of, IsOnlyTree}
-use Rattle.hc_nodes.specs.declared.part.Part.{Part}
 use Rattle.hc_nodes.proofs.Building.{followed-none}
 use Rattle.hc_nodes.proofs.Steps.{close_open, close_broken, close_with, is_close-closes, directive_open, directive_broken, directive_with, opening_parts, opening_open, opening_broken, opening_with, close_unbroken, opening_unbroken}
 
@@ -66,8 +57,8 @@ no_refusal : (line : Line) (broken : Option ℕ) (later : List AtLine) → with_
 no_refusal line None later is = (refl, is)
 no_refusal line (Some code) later is = cc
 
-pub unbroken : (line : Line) (lines open_lines : List Line) → refusals open_lines (line ∷ lines) ≡ [] → (broken_by open_lines line ≡ None) × (refusals (open_behind open_lines line) lines ≡ [])
-unbroken line lines open_lines = no_refusal line (broken_by open_lines line) (refusals (open_behind open_lines line) lines)
+pub unbroken : (line : Line) (lines open_lines : List Line) → refusals open_lines (line ∷ lines) ≡ [] → (rule_broken open_lines line ≡ None) × (refusals (open_behind open_lines line) lines ≡ [])
+unbroken line lines open_lines = no_refusal line (rule_broken open_lines line) (refusals (open_behind open_lines line) lines)
 
 held_close : (line : Line) (lines open_lines : List Line) (levels : List Nodes) → is_close line ≡ true → closes_innermost open_lines line ≡ true → Held (drop 1 open_lines) levels lines → Held open_lines (none ∷ levels) (line ∷ lines)
 held_close line lines [] levels is closing h = cc
@@ -133,26 +124,3 @@ only_tree lines (Some refusal) is = λ other reads.
 pub lines_have_one_tree : (lines : List Line) → IsOnlyTree (nodes_of lines) lines
 unfolding nodes_of
 lines_have_one_tree lines = only_tree lines _ refl
-
--- ---- parts
-
-first_reads : (front : List Line) → refusal_of front ≡ None → Reads most_open (tree_of front) front
-first_reads front free = (only_tree front None free).0
-
-front_tree : (front behind : List Line) → refusal_of front ≡ None → tree_of (front ++ behind) ≡ followed (tree_of front) (tree_of behind)
-front_tree front behind free = ap next_of (levels_read (tree_of front) most_open front behind (first_reads front free))
-
-behind_free : (front behind : List Line) → refusal_of front ≡ None → refusal_of (front ++ behind) ≡ None → refusal_of behind ≡ None
-behind_free front behind free all =
-    sym (ap first_of_all (refusals_read (tree_of front) most_open front behind [] (first_reads front free) (omega arith))) ∙ all
-
-pub is_part : (lines : List Line) (part : Part) → refusal_of lines ≡ None → refusal_of (take part.lines lines) ≡ None → part.lines ≤ length lines
-    → (0 < length lines → 0 < part.lines) → nodes_view part.nodes.items ≡ tree_of (take part.lines lines) → IsPart lines part
-is_part lines part free front within some nodes =
-    let whole : take part.lines lines ++ drop part.lines lines ≡ lines = take-append-drop part.lines lines in
-    record {
-      tree = rw nodes (sym (ap tree_of whole) ∙ front_tree (take part.lines lines) (drop part.lines lines) front);
-      free = behind_free (take part.lines lines) (drop part.lines lines) front (ap refusal_of whole ∙ free);
-      within = within;
-      some = some;
-    }

@@ -2,5 +2,4 @@ pub mod Closes
 pub mod NodeView
 pub mod Openings
 pub mod Sections
-pub mod Parts
 pub mod Tree

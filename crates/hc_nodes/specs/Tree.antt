@@ -92,8 +92,8 @@ open_behind open_lines line =
     else (if is_complete line then line ∷ open_lines else open_lines)
 
 -- The rule that a line breaks behind these openings.
-abbrev pub broken_by : List Line → Line → Option ℕ
-broken_by open_lines line =
+abbrev pub rule_broken : List Line → Line → Option ℕ
+rule_broken open_lines line =
     if is_close line then (if closes_innermost open_lines line then None else Some UNMATCHED_CLOSE)
     else (if is_opening line && not (is_complete line) then Some UNCLOSED_SECTION
     else (if is_opening line && nat_le most_open (length open_lines) then Some NESTED_TOO_DEEP else None))
@@ -108,7 +108,7 @@ with_broken line (Some code) refusals = refused_at line code ∷ refusals
 -- Each rule that lines break behind these openings. An opening that is open at the end is unclosed.
 abbrev pub refusals : List Line → List Line → List AtLine
 refusals open_lines [] = map (λ opening. refused_at opening UNCLOSED_SECTION) open_lines
-refusals open_lines (line ∷ lines) = with_broken line (broken_by open_lines line) (refusals (open_behind open_lines line) lines)
+refusals open_lines (line ∷ lines) = with_broken line (rule_broken open_lines line) (refusals (open_behind open_lines line) lines)
 
 -- The smaller line comes first, and on one line the smaller code.
 abbrev pub comes_first : AtLine → AtLine → Bool

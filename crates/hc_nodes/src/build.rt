@@ -1,7 +1,8 @@
 ghost use Rattle.std.specs.Prelude.{◌≡◌, List, IfOk, None};
 ghost use Rattle.hc_nodes.specs.NodeView.{GivesNodes, nodes_view};
 ghost use Rattle.hc_nodes.specs.Sections.{IsClosed, followed, section_lines, whole};
-ghost use Rattle.hc_nodes.specs.Tree.{Nodes, broken_by, directive_at, levels_of, next_of, nodes_of, none, open_behind, refusal_of, with_line};
+ghost use Rattle.hc_nodes.specs.Tree.{Nodes, rule_broken, directive_at, levels_of, next_of};
+ghost use Rattle.hc_nodes.specs.Tree.{nodes_of, none, open_behind, refusal_of, with_line};
 
 use crate::node::{Node, NodeFault};
 use crate::refusal::first_refusal;
@@ -37,12 +38,9 @@ pub fn read_nodes<'l, 't>(
     }
 }
 
-/// The nodes of lines that break no rule. Those are nested at most 64 deep, so the nodes are too,
-/// and to drop them recurses no deeper.
-pub(crate) fn build_nodes<'l, 't>(
-    alloc: Global,
-    lines: &'l [Line<'t>],
-) -> Result<Vec<Node<'l, 't>>, NoMemory>
+// The nodes of lines that break no rule. Those are nested at most 64 deep, so the nodes are too, and
+// to drop them recurses no deeper.
+fn build_nodes<'l, 't>(alloc: Global, lines: &'l [Line<'t>]) -> Result<Vec<Node<'l, 't>>, NoMemory>
     requires { refusal_of lines.now ≡ None }
     ensures { IfOk result (λ nodes. nodes_view nodes.items ≡ next_of (levels_of lines.now)) }
 {
@@ -61,9 +59,12 @@ fn read_line<'l, 't>(
     nodes: Vec<Node<'l, 't>>,
     line: &'l Line<'t>,
 ) -> Result<Vec<Node<'l, 't>>, NoMemory>
-    requires { broken_by (section_lines sections.old) line.now ≡ None }
-    ensures lines { IfOk result (λ _. section_lines sections.new ≡ open_behind (section_lines sections.old) line.now) }
-    ensures same { IfOk result (λ later. (levels : List Nodes) → whole sections.new (nodes_view later.items) levels ≡ whole sections.old (nodes_view nodes.entry.items) (with_line line.now levels)) }
+    requires { rule_broken (section_lines sections.old) line.now ≡ None }
+    ensures lines { IfOk result (λ _.
+        section_lines sections.new ≡ open_behind (section_lines sections.old) line.now) }
+    ensures same { IfOk result (λ later. (levels : List Nodes)
+        → whole sections.new (nodes_view later.items) levels
+        ≡ whole sections.old (nodes_view nodes.entry.items) (with_line line.now levels)) }
 {
     if is_close(line) {
         close(sections, nodes)
@@ -86,7 +87,8 @@ fn close<'l, 't>(
     sections: &mut Stack<Section<'l, 't>>,
     body: Vec<Node<'l, 't>>,
 ) -> Result<Vec<Node<'l, 't>>, NoMemory>
-    ensures { IfOk result (λ later. IsClosed sections.old (nodes_view body.entry.items) sections.new (nodes_view later.items)) }
+    ensures { IfOk result (λ later.
+        IsClosed sections.old (nodes_view body.entry.items) sections.new (nodes_view later.items)) }
 {
     let Some(section) = sections.pop() else {
         return Ok(body);
@@ -106,7 +108,8 @@ fn with_directive<'l, 't>(
     mut nodes: Vec<Node<'l, 't>>,
     line: &'l Line<'t>,
 ) -> Result<Vec<Node<'l, 't>>, NoMemory>
-    ensures { IfOk result (λ later. nodes_view later.items ≡ followed (nodes_view nodes.entry.items) (directive_at line.now none)) }
+    ensures { IfOk result (λ later.
+        nodes_view later.items ≡ followed (nodes_view nodes.entry.items) (directive_at line.now none)) }
 {
     let (name, rest) = split_name(line.text.as_str());
     nodes.push(Node::Directive { line, name, rest })?;

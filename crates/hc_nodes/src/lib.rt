@@ -4,13 +4,11 @@
 mod build;
 pub mod laws;
 mod node;
-mod part;
 mod refusal;
 mod section;
 mod stack;
 
 pub use build::read_nodes;
 pub use node::{Node, NodeFault};
-pub use part::{Part, read_part};
 pub use refusal::first_refusal;
-pub use section::split_name;
+pub use section::{inside_brackets, is_close, is_complete, split_name};

@@ -1,6 +1,6 @@
 ghost use Rattle.std.specs.Prelude.{◌≡◌, IfOk, length, map, option_map};
 ghost use Rattle.hc_nodes.specs.Openings.{opening_lines, earlier_of, unclosed};
-ghost use Rattle.hc_nodes.specs.Tree.{broken_by, closes_innermost, first_of_all, open_behind, refusal_of, refused_at};
+ghost use Rattle.hc_nodes.specs.Tree.{rule_broken, closes_innermost, first_of_all, open_behind, refusal_of, refused_at};
 
 use crate::section::{Opening, inside_brackets, is_close, is_complete, is_opening, split_name};
 use crate::stack::Stack;
@@ -30,17 +30,17 @@ pub fn first_refusal<'l, 't>(
 
 // The rule that a line breaks behind these openings.
 fn refusal_at(openings: &Stack<Opening>, line: &Line) -> Option<AtLine>
-    ensures { result ≡ option_map (refused_at line.now) (broken_by (opening_lines openings.now) line.now) }
+    ensures { result ≡ option_map (refused_at line.now) (rule_broken (opening_lines openings.now) line.now) }
 {
-    let code = broken_by(openings, line)?;
+    let code = rule_broken(openings, line)?;
     Some(AtLine {
         code,
         line: line.number,
     })
 }
 
-fn broken_by(openings: &Stack<Opening>, line: &Line) -> Option<u8>
-    ensures { result ≡ broken_by (opening_lines openings.now) line.now }
+fn rule_broken(openings: &Stack<Opening>, line: &Line) -> Option<u8>
+    ensures { result ≡ rule_broken (opening_lines openings.now) line.now }
 {
     if is_close(line) {
         if closes_innermost(openings, line) {

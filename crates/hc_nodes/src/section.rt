@@ -1,11 +1,10 @@
 ghost use Rattle.std.specs.Prelude.{◌≡◌, [], ◌∷◌, ◌++◌, length, true, MatchOption};
 ghost use Rattle.hc_base.specs.Bytes.{greater, less, slash};
-ghost use Rattle.hc_base.specs.Lines.{is_blank};
 ghost use Rattle.hc_lines.specs.declared.line.Line.{Line};
 ghost use Rattle.hc_nodes.specs.Closes.{IsNoClose};
 ghost use Rattle.hc_nodes.specs.Tree.{name_of, behind_name, is_close, is_opening, is_complete, closes, inside_brackets};
 
-use hc_base::bytes::{begins_with, ends_with};
+use hc_base::bytes::{begins_with, ends_with, is_blank};
 use hc_lines::Line;
 
 /// A line that begins with `</` closes a section.
@@ -51,7 +50,8 @@ impl<'l, 't> Opening<'l, 't> {
 
 // What stands between `</` and `>`.
 fn inside_close(text: &[u8]) -> Option<&[u8]>
-    ensures { MatchOption result (IsNoClose text.now) (λ inside. text.now ≡ less ∷ slash ∷ inside.now ++ greater ∷ []) }
+    ensures { MatchOption result (IsNoClose text.now)
+        (λ inside. text.now ≡ less ∷ slash ∷ inside.now ++ greater ∷ []) }
 {
     text.strip_prefix(b"</")?.strip_suffix(b">")
 }
@@ -77,10 +77,4 @@ fn name_len(text: &[u8]) -> usize
     ensures { result ≡ length (name_of text.now) }
 {
     text.iter().take_while(|byte| !is_blank(**byte)).count()
-}
-
-fn is_blank(byte: u8) -> bool
-    ensures { result ≡ is_blank byte }
-{
-    matches!(byte, b' ' | b'\t')
 }

@@ -1,8 +1,5 @@
-use Rattle.std.proofs.Common.{◌≡◌, ◌+◌, [], drop, sym, ap, ◌∙◌, refl}
+use Rattle.hc_nodes.proofs.Common.{◌≡◌, ◌+◌, [], drop, sym, ap, ◌∙◌, refl, nodes_view, section_lines, whole, levels_of, refusals}
 use Rattle.std.proofs.Math.ListN.{drop_of_length-le}
-use Rattle.hc_nodes.specs.NodeView.{nodes_view}
-use Rattle.hc_nodes.specs.Sections.{section_lines, whole}
-use Rattle.hc_nodes.specs.Tree.{levels_of, refusals}
 use Rattle.hc_nodes.proofs.Building.{whole_end}
 use Rattle.hc_nodes.proofs.Steps.{ahead}
 use Rattle.hc_nodes.proofs.Trees.{first_none, unbroken}

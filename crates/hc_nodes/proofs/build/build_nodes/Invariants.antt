@@ -1,7 +1,4 @@
-use Rattle.std.proofs.Common.{◌≡◌, drop, []}
-use Rattle.hc_nodes.specs.NodeView.{nodes_view}
-use Rattle.hc_nodes.specs.Sections.{section_lines, whole}
-use Rattle.hc_nodes.specs.Tree.{levels_of, next_of, refusals}
+use Rattle.hc_nodes.proofs.Common.{◌≡◌, drop, [], nodes_view, section_lines, whole, levels_of, next_of, refusals}
 use Rattle.hc_nodes.proofs.build.build_nodes.Given as goal
 
 abbrev pub invariant-loop-line : goal.invariant-loop-line

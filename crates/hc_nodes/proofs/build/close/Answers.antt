@@ -1,6 +1,4 @@
-use Rattle.std.proofs.Common.{ap, ◌∙◌, refl}
-use Rattle.hc_nodes.specs.NodeView.{nodes_view}
-use Rattle.hc_nodes.specs.Sections.{followed}
+use Rattle.hc_nodes.proofs.Common.{ap, ◌∙◌, refl, nodes_view, followed}
 use Rattle.hc_nodes.proofs.Building.{nodes_view-last, put_Block}
 use Rattle.hc_nodes.proofs.build.close.Goals as goal
 

@@ -1,8 +1,5 @@
-use Rattle.std.proofs.Common.{ap, ◌∙◌, sym, refl}
+use Rattle.hc_nodes.proofs.Common.{ap, ◌∙◌, sym, refl, nodes_view, section_lines, whole, directive_at, none}
 use Rattle.std.proofs.lemmas.Result.{IfOk-weaker}
-use Rattle.hc_nodes.specs.NodeView.{nodes_view}
-use Rattle.hc_nodes.specs.Sections.{section_lines, whole}
-use Rattle.hc_nodes.specs.Tree.{directive_at, none}
 use Rattle.hc_nodes.proofs.Building.{whole_close, whole_opening, whole_more}
 use Rattle.hc_nodes.proofs.Steps.{directive_with, opening_parts, opening_with, plain_unbroken}
 use Rattle.hc_nodes.proofs.build.read_line.Goals as goal

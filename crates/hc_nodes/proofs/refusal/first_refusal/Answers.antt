@@ -1,6 +1,4 @@
-use Rattle.std.proofs.Common.{◌+◌, drop, sym, ap, ◌∙◌}
-use Rattle.hc_nodes.specs.Openings.{earlier_of, opening_lines}
-use Rattle.hc_nodes.specs.Tree.{first_of_all, refusals}
+use Rattle.hc_nodes.proofs.Common.{◌+◌, drop, sym, ap, ◌∙◌, earlier_of, opening_lines, first_of_all, refusals}
 use Rattle.hc_nodes.proofs.Refusals.{earlier_refusals}
 use Rattle.hc_nodes.proofs.Steps.{ahead}
 use Rattle.hc_nodes.proofs.refusal.first_refusal.Goals as goal

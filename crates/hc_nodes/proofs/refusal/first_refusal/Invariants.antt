@@ -1,6 +1,4 @@
-use Rattle.std.proofs.Common.{◌≡◌, drop}
-use Rattle.hc_nodes.specs.Openings.{earlier_of, opening_lines}
-use Rattle.hc_nodes.specs.Tree.{first_of_all, refusal_of, refusals}
+use Rattle.hc_nodes.proofs.Common.{◌≡◌, drop, earlier_of, opening_lines, first_of_all, refusal_of, refusals}
 use Rattle.hc_nodes.proofs.refusal.first_refusal.Given as goal
 
 abbrev pub invariant-loop-line : goal.invariant-loop-line

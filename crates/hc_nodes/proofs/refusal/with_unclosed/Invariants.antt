@@ -1,6 +1,4 @@
-use Rattle.std.proofs.Common.{◌≡◌, length, map}
-use Rattle.hc_nodes.specs.Openings.{earlier_of, opening_lines, unclosed}
-use Rattle.hc_nodes.specs.Tree.{first_of_all}
+use Rattle.hc_nodes.proofs.Common.{◌≡◌, length, map, earlier_of, opening_lines, unclosed, first_of_all}
 use Rattle.hc_nodes.proofs.refusal.with_unclosed.Given as goal
 
 abbrev pub invariant-loop-opening : goal.invariant-loop-opening

@@ -1,7 +1,4 @@
-use Rattle.std.proofs.Common.{[], ◌∷◌, Some}
-use Rattle.std.proofs.lemmas.Bool.Decides.{Decides-eqb}
-use Rattle.std.proofs.lemmas.Slice.Eq.{strip_prefix_is, strip_suffix_is}
-use Rattle.hc_base.specs.Bytes.{greater, less, slash}
+use Rattle.hc_nodes.proofs.Common.{[], ◌∷◌, Some, Decides-eqb, strip_prefix_is, strip_suffix_is, greater, less, slash}
 use Rattle.hc_nodes.proofs.Closes.{behind_front}
 use Rattle.hc_nodes.proofs.section.inside_close.Goals as goal
 

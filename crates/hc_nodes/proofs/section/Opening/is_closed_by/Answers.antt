@@ -1,9 +1,5 @@
-use Rattle.std.proofs.Common.{ap, ◌∙◌, sym, ◌≡◌, ◌++◌, ◌∷◌, []}
-use Rattle.std.proofs.lemmas.Bool.Decides.{same_from_decides}
-use Rattle.std.proofs.lemmas.Slice.Eq.{bytes_eq-Decides}
-use Rattle.hc_base.specs.Bytes.{greater, less, slash}
+use Rattle.hc_nodes.proofs.Common.{ap, ◌∙◌, sym, ◌≡◌, ◌++◌, ◌∷◌, [], same_from_decides, bytes_eq-Decides, greater, less, slash, same_name}
 use Rattle.hc_nodes.specs.Closes.{IsNoClose}
-use Rattle.hc_nodes.specs.Tree.{same_name}
 use Rattle.hc_nodes.proofs.Closes.{same_close, no_close}
 use Rattle.hc_nodes.proofs.section.Opening.is_closed_by.Goals as goal
 
