@@ -1,11 +1,22 @@
--- The directives and the containers, with their contexts and classes. Pages of the manual: core,
+-- The directives and the containers, with their contexts, classes and wordings. Pages of the manual: core,
 -- mod_alias, mod_authz_core, mod_rewrite, mod_so, mod_userdir. The contexts and classes of inert
 -- directives are our own choice.
 use Rattle.std.specs.Prelude.{ℕ, List, [], ◌∷◌, Bool, not, nat_lt, codes}
-use Rattle.hc_table.specs.declared.meaning.TheConstants.{FIRST_CONTAINER, SERVER_ROOT, DOCUMENT_ROOT, SERVER_NAME, SERVER_ALIAS, DEFINE, INCLUDE, INCLUDE_OPTIONAL, ALIAS, SCRIPT_ALIAS, ALIAS_MATCH, REDIRECT, REDIRECT_MATCH, REDIRECT_PERMANENT, REDIRECT_TEMP, OPTIONS, ALLOW_OVERRIDE, REQUIRE, AUTH_MERGING, REWRITE_ENGINE, REWRITE_BASE, REWRITE_COND, REWRITE_RULE, REWRITE_OPTIONS, LIMIT_INTERNAL_RECURSION, REWRITE_MAP, USE_CANONICAL_NAME, USER_DIR, ACCESS_FILE_NAME, LOAD_MODULE, VIRTUAL_HOST, DIRECTORY, DIRECTORY_MATCH, LOCATION, LOCATION_MATCH, FILES, FILES_MATCH, IF, ELSE_IF, ELSE, REQUIRE_ALL, REQUIRE_ANY, REQUIRE_NONE, IF_DEFINE, IF_MODULE, INERT}
+use Rattle.hc_table.specs.declared.meaning.TheConstants.{FIRST_CONTAINER, SERVER_ROOT, DOCUMENT_ROOT, SERVER_NAME}
+use Rattle.hc_table.specs.declared.meaning.TheConstants.{SERVER_ALIAS, DEFINE, INCLUDE, INCLUDE_OPTIONAL, ALIAS}
+use Rattle.hc_table.specs.declared.meaning.TheConstants.{SCRIPT_ALIAS, ALIAS_MATCH, REDIRECT, REDIRECT_MATCH}
+use Rattle.hc_table.specs.declared.meaning.TheConstants.{REDIRECT_PERMANENT, REDIRECT_TEMP, OPTIONS, ALLOW_OVERRIDE}
+use Rattle.hc_table.specs.declared.meaning.TheConstants.{REQUIRE, AUTH_MERGING, REWRITE_ENGINE, REWRITE_BASE}
+use Rattle.hc_table.specs.declared.meaning.TheConstants.{REWRITE_COND, REWRITE_RULE, REWRITE_OPTIONS}
+use Rattle.hc_table.specs.declared.meaning.TheConstants.{LIMIT_INTERNAL_RECURSION, REWRITE_MAP, USE_CANONICAL_NAME}
+use Rattle.hc_table.specs.declared.meaning.TheConstants.{USER_DIR, ACCESS_FILE_NAME, LOAD_MODULE, VIRTUAL_HOST}
+use Rattle.hc_table.specs.declared.meaning.TheConstants.{DIRECTORY, DIRECTORY_MATCH, LOCATION, LOCATION_MATCH, FILES}
+use Rattle.hc_table.specs.declared.meaning.TheConstants.{FILES_MATCH, IF, ELSE_IF, ELSE, REQUIRE_ALL, REQUIRE_ANY}
+use Rattle.hc_table.specs.declared.meaning.TheConstants.{REQUIRE_NONE, IF_DEFINE, IF_MODULE, INERT}
 use Rattle.hc_table.specs.Classes.{auth_config, file_info, indexes, no_class, options}
-use Rattle.hc_table.specs.Contexts.{all_but_htaccess, all_but_if, all_but_servers, around_files, directories, directory, everywhere, main_server, servers, servers_and_directories, virtual_host}
-use Rattle.hc_table.specs.Table.{NamedRow, all_rows, rows_of}
+use Rattle.hc_table.specs.Contexts.{all_but_htaccess, all_but_if, all_but_servers, around_files, directories, directory}
+use Rattle.hc_table.specs.Contexts.{everywhere, main_server, servers, servers_and_directories, virtual_host}
+use Rattle.hc_table.specs.Table.{NamedRow, all_rows, rewriting_rows_of, rows_of}
 
 -- The meanings from the first container's on are those of containers.
 abbrev pub is_container : ℕ → Bool
@@ -38,8 +49,8 @@ directive_rows =
     rows_of AUTH_MERGING all_but_servers auth_config (codes "AuthMerging") ∷
     rows_of REWRITE_ENGINE servers_and_directories file_info (codes "RewriteEngine") ∷
     rows_of REWRITE_BASE directories file_info (codes "RewriteBase") ∷
-    rows_of REWRITE_COND servers_and_directories file_info (codes "RewriteCond") ∷
-    rows_of REWRITE_RULE servers_and_directories file_info (codes "RewriteRule") ∷
+    rewriting_rows_of REWRITE_COND servers_and_directories file_info (codes "RewriteCond") ∷
+    rewriting_rows_of REWRITE_RULE servers_and_directories file_info (codes "RewriteRule") ∷
     rows_of REWRITE_OPTIONS servers_and_directories file_info (codes "RewriteOptions") ∷
     rows_of LIMIT_INTERNAL_RECURSION servers no_class (codes "LimitInternalRecursion") ∷
     rows_of REWRITE_MAP servers no_class (codes "RewriteMap") ∷

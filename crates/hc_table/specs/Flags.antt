@@ -1,6 +1,9 @@
 -- The flags of a RewriteRule, by their short and long names (manual: RewriteRule Flags).
 use Rattle.std.specs.Prelude.{List, [], ◌∷◌, codes}
-use Rattle.hc_table.specs.declared.flag.TheConstants.{LAST, END, NEXT, CHAIN, SKIP, FORBIDDEN, GONE, REDIRECT, APPEND_QUERY, DISCARD_QUERY, NO_CASE, NO_ESCAPE, PASS_THROUGH, DISCARD_PATH, ENVIRONMENT, TYPE, HANDLER, COOKIE, NO_SUBREQUEST, UNSUPPORTED_FLAG}
+use Rattle.hc_table.specs.declared.flag.TheConstants.{LAST, END, NEXT, CHAIN, SKIP, FORBIDDEN, GONE, REDIRECT}
+use Rattle.hc_table.specs.declared.flag.TheConstants.{APPEND_QUERY, DISCARD_QUERY, NO_CASE, NO_ESCAPE, PASS_THROUGH}
+use Rattle.hc_table.specs.declared.flag.TheConstants.{DISCARD_PATH, ENVIRONMENT, TYPE, HANDLER, COOKIE, NO_SUBREQUEST}
+use Rattle.hc_table.specs.declared.flag.TheConstants.{UNSUPPORTED_FLAG}
 use Rattle.hc_table.specs.Table.{NamedRow, all_rows, plain_rows_of}
 
 unfoldable pub flag_rows : List NamedRow

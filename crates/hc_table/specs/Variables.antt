@@ -1,7 +1,12 @@
 -- The variables (manual: mod_rewrite, RewriteCond). `HTTP:` and `ENV:` are the fronts of the names of a
 -- header and of a variable of the environment.
 use Rattle.std.specs.Prelude.{List, [], ◌∷◌, codes}
-use Rattle.hc_table.specs.declared.variable.TheConstants.{HTTP_HOST, HTTP_USER_AGENT, HTTP_REFERER, HTTP_COOKIE, HTTP_ACCEPT, HEADER, ENVIRONMENT, REQUEST_METHOD, REQUEST_SCHEME, REQUEST_URI, REQUEST_FILENAME, SCRIPT_FILENAME, PATH_INFO, QUERY_STRING, REMOTE_ADDR, SERVER_ADDR, SERVER_PORT, SERVER_NAME, DOCUMENT_ROOT, HTTPS, THE_REQUEST}
+use Rattle.hc_table.specs.declared.variable.TheConstants.{HTTP_HOST, HTTP_USER_AGENT, HTTP_REFERER, HTTP_COOKIE}
+use Rattle.hc_table.specs.declared.variable.TheConstants.{HTTP_ACCEPT, HEADER, ENVIRONMENT, REQUEST_METHOD}
+use Rattle.hc_table.specs.declared.variable.TheConstants.{REQUEST_SCHEME, REQUEST_URI, REQUEST_FILENAME}
+use Rattle.hc_table.specs.declared.variable.TheConstants.{SCRIPT_FILENAME, PATH_INFO, QUERY_STRING, REMOTE_ADDR}
+use Rattle.hc_table.specs.declared.variable.TheConstants.{SERVER_ADDR, SERVER_PORT, SERVER_NAME, DOCUMENT_ROOT, HTTPS}
+use Rattle.hc_table.specs.declared.variable.TheConstants.{THE_REQUEST}
 use Rattle.hc_table.specs.Table.{NamedRow, all_rows, plain_rows_of}
 
 unfoldable pub variable_rows : List NamedRow

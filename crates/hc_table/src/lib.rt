@@ -11,4 +11,4 @@ mod table;
 pub mod variable;
 
 pub use rows::{DIRECTIVES, RULE_FLAGS, VARIABLES, directives, rule_flags, variables};
-pub use table::{Row, RowKind, Table, find_in};
+pub use table::{Row, RowKind, Table, Wording, find_in};

@@ -4,7 +4,7 @@ ghost use Rattle.hc_table.specs.Flags.{flag_rows};
 ghost use Rattle.hc_table.specs.Table.{row_of};
 ghost use Rattle.hc_table.specs.Variables.{variable_rows};
 
-use crate::table::{Row, RowKind, Table};
+use crate::table::{Row, RowKind, Table, Wording};
 use crate::{class, context, flag, meaning, variable};
 
 /// How many rows the table of directives and containers has.
@@ -16,24 +16,25 @@ pub const RULE_FLAGS: usize = 46;
 /// How many rows the table of variables has.
 pub const VARIABLES: usize = 21;
 
-// Rows: a meaning of a module, contexts and a class, and each name that has them.
+// Rows: a meaning of a module, contexts, a class and a wording, and each name that has them.
 macro_rules! rows {
-    ($module:ident: $($meaning:ident, $contexts:ident, $class:ident => $($name:literal)+;)*) => {
+    ($module:ident: $($meaning:ident, $contexts:ident, $class:ident, $wording:ident => $($name:literal)+;)*) => {
         [$($(Row {
             name: $name,
             kind: RowKind {
                 meaning: $module::$meaning,
                 contexts: context::$contexts,
                 class: class::$class,
+                wording: Wording::$wording,
             },
         },)+)*]
     };
 }
 
-// Rows with neither contexts nor a class.
+// Rows with neither contexts nor a class nor words.
 macro_rules! plain_rows {
     ($module:ident: $($meaning:ident => $($name:literal)+;)*) => {
-        rows! { $module: $($meaning, NONE, NONE => $($name)+;)* }
+        rows! { $module: $($meaning, NONE, NONE, Configuration => $($name)+;)* }
     };
 }
 
@@ -41,105 +42,105 @@ macro_rules! directive_rows {
     () => {
         rows! {
             meaning:
-            SERVER_ROOT, MAIN_SERVER, NONE => "ServerRoot";
-            DOCUMENT_ROOT, SERVERS, NONE => "DocumentRoot";
-            SERVER_NAME, SERVERS, NONE => "ServerName";
-            SERVER_ALIAS, VIRTUAL_HOST, NONE => "ServerAlias";
-            DEFINE, ALL_BUT_HTACCESS, NONE => "Define";
-            INCLUDE, ALL_BUT_HTACCESS, NONE => "Include";
-            INCLUDE_OPTIONAL, ALL_BUT_HTACCESS, NONE => "IncludeOptional";
-            ALIAS, SERVERS, NONE => "Alias";
-            SCRIPT_ALIAS, SERVERS, NONE => "ScriptAlias";
-            ALIAS_MATCH, SERVERS, NONE => "AliasMatch";
-            REDIRECT, SERVERS_AND_DIRECTORIES, FILE_INFO => "Redirect";
-            REDIRECT_MATCH, SERVERS_AND_DIRECTORIES, FILE_INFO => "RedirectMatch";
-            REDIRECT_PERMANENT, SERVERS_AND_DIRECTORIES, FILE_INFO => "RedirectPermanent";
-            REDIRECT_TEMP, SERVERS_AND_DIRECTORIES, FILE_INFO => "RedirectTemp";
-            OPTIONS, EVERYWHERE, OPTIONS => "Options";
-            ALLOW_OVERRIDE, DIRECTORY, NONE => "AllowOverride";
-            REQUIRE, ALL_BUT_SERVERS, AUTH_CONFIG => "Require";
-            AUTH_MERGING, ALL_BUT_SERVERS, AUTH_CONFIG => "AuthMerging";
-            REWRITE_ENGINE, SERVERS_AND_DIRECTORIES, FILE_INFO => "RewriteEngine";
-            REWRITE_BASE, DIRECTORIES, FILE_INFO => "RewriteBase";
-            REWRITE_COND, SERVERS_AND_DIRECTORIES, FILE_INFO => "RewriteCond";
-            REWRITE_RULE, SERVERS_AND_DIRECTORIES, FILE_INFO => "RewriteRule";
-            REWRITE_OPTIONS, SERVERS_AND_DIRECTORIES, FILE_INFO => "RewriteOptions";
-            LIMIT_INTERNAL_RECURSION, SERVERS, NONE => "LimitInternalRecursion";
-            REWRITE_MAP, SERVERS, NONE => "RewriteMap";
-            USE_CANONICAL_NAME, ALL_BUT_HTACCESS, NONE => "UseCanonicalName";
-            USER_DIR, SERVERS, NONE => "UserDir";
-            ACCESS_FILE_NAME, SERVERS, NONE => "AccessFileName";
-            LOAD_MODULE, SERVERS, NONE => "LoadModule";
+            SERVER_ROOT, MAIN_SERVER, NONE, Configuration => "ServerRoot";
+            DOCUMENT_ROOT, SERVERS, NONE, Configuration => "DocumentRoot";
+            SERVER_NAME, SERVERS, NONE, Configuration => "ServerName";
+            SERVER_ALIAS, VIRTUAL_HOST, NONE, Configuration => "ServerAlias";
+            DEFINE, ALL_BUT_HTACCESS, NONE, Configuration => "Define";
+            INCLUDE, ALL_BUT_HTACCESS, NONE, Configuration => "Include";
+            INCLUDE_OPTIONAL, ALL_BUT_HTACCESS, NONE, Configuration => "IncludeOptional";
+            ALIAS, SERVERS, NONE, Configuration => "Alias";
+            SCRIPT_ALIAS, SERVERS, NONE, Configuration => "ScriptAlias";
+            ALIAS_MATCH, SERVERS, NONE, Configuration => "AliasMatch";
+            REDIRECT, SERVERS_AND_DIRECTORIES, FILE_INFO, Configuration => "Redirect";
+            REDIRECT_MATCH, SERVERS_AND_DIRECTORIES, FILE_INFO, Configuration => "RedirectMatch";
+            REDIRECT_PERMANENT, SERVERS_AND_DIRECTORIES, FILE_INFO, Configuration => "RedirectPermanent";
+            REDIRECT_TEMP, SERVERS_AND_DIRECTORIES, FILE_INFO, Configuration => "RedirectTemp";
+            OPTIONS, EVERYWHERE, OPTIONS, Configuration => "Options";
+            ALLOW_OVERRIDE, DIRECTORY, NONE, Configuration => "AllowOverride";
+            REQUIRE, ALL_BUT_SERVERS, AUTH_CONFIG, Configuration => "Require";
+            AUTH_MERGING, ALL_BUT_SERVERS, AUTH_CONFIG, Configuration => "AuthMerging";
+            REWRITE_ENGINE, SERVERS_AND_DIRECTORIES, FILE_INFO, Configuration => "RewriteEngine";
+            REWRITE_BASE, DIRECTORIES, FILE_INFO, Configuration => "RewriteBase";
+            REWRITE_COND, SERVERS_AND_DIRECTORIES, FILE_INFO, Rewriting => "RewriteCond";
+            REWRITE_RULE, SERVERS_AND_DIRECTORIES, FILE_INFO, Rewriting => "RewriteRule";
+            REWRITE_OPTIONS, SERVERS_AND_DIRECTORIES, FILE_INFO, Configuration => "RewriteOptions";
+            LIMIT_INTERNAL_RECURSION, SERVERS, NONE, Configuration => "LimitInternalRecursion";
+            REWRITE_MAP, SERVERS, NONE, Configuration => "RewriteMap";
+            USE_CANONICAL_NAME, ALL_BUT_HTACCESS, NONE, Configuration => "UseCanonicalName";
+            USER_DIR, SERVERS, NONE, Configuration => "UserDir";
+            ACCESS_FILE_NAME, SERVERS, NONE, Configuration => "AccessFileName";
+            LOAD_MODULE, SERVERS, NONE, Configuration => "LoadModule";
 
-            VIRTUAL_HOST, MAIN_SERVER, NONE => "VirtualHost";
-            DIRECTORY, SERVERS, NONE => "Directory";
-            DIRECTORY_MATCH, SERVERS, NONE => "DirectoryMatch";
-            LOCATION, SERVERS, NONE => "Location";
-            LOCATION_MATCH, SERVERS, NONE => "LocationMatch";
-            FILES, AROUND_FILES, NONE => "Files";
-            FILES_MATCH, AROUND_FILES, NONE => "FilesMatch";
-            IF, ALL_BUT_IF, NONE => "If";
-            ELSE_IF, ALL_BUT_IF, NONE => "ElseIf";
-            ELSE, ALL_BUT_IF, NONE => "Else";
-            REQUIRE_ALL, ALL_BUT_SERVERS, AUTH_CONFIG => "RequireAll";
-            REQUIRE_ANY, ALL_BUT_SERVERS, AUTH_CONFIG => "RequireAny";
-            REQUIRE_NONE, ALL_BUT_SERVERS, AUTH_CONFIG => "RequireNone";
-            IF_DEFINE, EVERYWHERE, NONE => "IfDefine";
-            IF_MODULE, EVERYWHERE, NONE => "IfModule";
+            VIRTUAL_HOST, MAIN_SERVER, NONE, Configuration => "VirtualHost";
+            DIRECTORY, SERVERS, NONE, Configuration => "Directory";
+            DIRECTORY_MATCH, SERVERS, NONE, Configuration => "DirectoryMatch";
+            LOCATION, SERVERS, NONE, Configuration => "Location";
+            LOCATION_MATCH, SERVERS, NONE, Configuration => "LocationMatch";
+            FILES, AROUND_FILES, NONE, Configuration => "Files";
+            FILES_MATCH, AROUND_FILES, NONE, Configuration => "FilesMatch";
+            IF, ALL_BUT_IF, NONE, Configuration => "If";
+            ELSE_IF, ALL_BUT_IF, NONE, Configuration => "ElseIf";
+            ELSE, ALL_BUT_IF, NONE, Configuration => "Else";
+            REQUIRE_ALL, ALL_BUT_SERVERS, AUTH_CONFIG, Configuration => "RequireAll";
+            REQUIRE_ANY, ALL_BUT_SERVERS, AUTH_CONFIG, Configuration => "RequireAny";
+            REQUIRE_NONE, ALL_BUT_SERVERS, AUTH_CONFIG, Configuration => "RequireNone";
+            IF_DEFINE, EVERYWHERE, NONE, Configuration => "IfDefine";
+            IF_MODULE, EVERYWHERE, NONE, Configuration => "IfModule";
 
-            INERT, SERVERS, NONE =>
+            INERT, SERVERS, NONE, Configuration =>
                 "Listen" "User" "Group" "ServerAdmin" "ServerTokens" "DefaultRuntimeDir"
                 "RequestReadTimeout";
-            INERT, SERVERS, NONE =>
+            INERT, SERVERS, NONE, Configuration =>
                 "Timeout" "KeepAlive" "MaxKeepAliveRequests" "KeepAliveTimeout" "PidFile"
                 "Mutex";
-            INERT, SERVERS, NONE =>
+            INERT, SERVERS, NONE, Configuration =>
                 "ErrorLog" "CustomLog" "LogFormat" "TypesConfig" "MIMEMagicFile" "TraceEnable";
-            INERT, SERVERS, NONE =>
+            INERT, SERVERS, NONE, Configuration =>
                 "StartServers" "MinSpareServers" "MaxSpareServers" "MinSpareThreads"
                 "MaxSpareThreads";
-            INERT, SERVERS, NONE =>
+            INERT, SERVERS, NONE, Configuration =>
                 "ThreadsPerChild" "ThreadLimit" "ServerLimit" "MaxRequestWorkers"
                 "MaxConnectionsPerChild";
-            INERT, SERVERS, NONE =>
+            INERT, SERVERS, NONE, Configuration =>
                 "ExtendedStatus" "Protocols" "SSLEngine" "SSLCertificateFile"
                 "SSLCertificateKeyFile";
-            INERT, SERVERS, NONE =>
+            INERT, SERVERS, NONE, Configuration =>
                 "SSLCertificateChainFile" "SSLCACertificateFile" "SSLProtocol"
                 "SSLHonorCipherOrder";
-            INERT, SERVERS, NONE =>
+            INERT, SERVERS, NONE, Configuration =>
                 "SSLSessionCache" "SSLSessionCacheTimeout" "SSLSessionTickets"
                 "SSLPassPhraseDialog";
-            INERT, SERVERS, NONE =>
+            INERT, SERVERS, NONE, Configuration =>
                 "SSLRandomSeed" "SSLCryptoDevice" "SSLUseStapling" "SSLStaplingCache";
-            INERT, EVERYWHERE, FILE_INFO =>
+            INERT, EVERYWHERE, FILE_INFO, Configuration =>
                 "AddType" "AddHandler" "AddCharset" "AddLanguage" "AddEncoding"
                 "AddDefaultCharset";
-            INERT, EVERYWHERE, FILE_INFO =>
+            INERT, EVERYWHERE, FILE_INFO, Configuration =>
                 "AddOutputFilter" "AddOutputFilterByType" "SetHandler" "SetOutputFilter"
                 "SetInputFilter";
-            INERT, EVERYWHERE, FILE_INFO =>
+            INERT, EVERYWHERE, FILE_INFO, Configuration =>
                 "ForceType" "RemoveHandler" "RemoveType" "ErrorDocument" "Header"
                 "RequestHeader";
-            INERT, EVERYWHERE, FILE_INFO =>
+            INERT, EVERYWHERE, FILE_INFO, Configuration =>
                 "SetEnv" "UnsetEnv" "PassEnv" "SetEnvIf" "SetEnvIfNoCase" "BrowserMatch"
                 "BrowserMatchNoCase";
-            INERT, EVERYWHERE, FILE_INFO =>
+            INERT, EVERYWHERE, FILE_INFO, Configuration =>
                 "FileETag" "DefaultLanguage" "LanguagePriority" "ForceLanguagePriority";
-            INERT, EVERYWHERE, FILE_INFO => "EnableSendfile" "EnableMMAP" "AcceptPathInfo";
-            INERT, EVERYWHERE, INDEXES =>
+            INERT, EVERYWHERE, FILE_INFO, Configuration => "EnableSendfile" "EnableMMAP" "AcceptPathInfo";
+            INERT, EVERYWHERE, INDEXES, Configuration =>
                 "DirectoryIndex" "DirectorySlash" "IndexOptions" "IndexIgnore" "AddIcon"
                 "AddIconByType";
-            INERT, EVERYWHERE, INDEXES =>
+            INERT, EVERYWHERE, INDEXES, Configuration =>
                 "AddIconByEncoding" "DefaultIcon" "AddAlt" "AddDescription" "HeaderName"
                 "ReadmeName";
-            INERT, EVERYWHERE, INDEXES =>
+            INERT, EVERYWHERE, INDEXES, Configuration =>
                 "IndexOrderDefault" "IndexStyleSheet" "ExpiresActive" "ExpiresByType"
                 "ExpiresDefault";
-            INERT, EVERYWHERE, OPTIONS => "SSLOptions" "php_value" "php_flag";
-            INERT, EVERYWHERE, AUTH_CONFIG => "SSLCipherSuite";
-            INERT, EVERYWHERE, NONE => "ServerSignature";
-            INERT, ALL_BUT_HTACCESS, NONE => "HostnameLookups" "LogLevel";
+            INERT, EVERYWHERE, OPTIONS, Configuration => "SSLOptions" "php_value" "php_flag";
+            INERT, EVERYWHERE, AUTH_CONFIG, Configuration => "SSLCipherSuite";
+            INERT, EVERYWHERE, NONE, Configuration => "ServerSignature";
+            INERT, ALL_BUT_HTACCESS, NONE, Configuration => "HostnameLookups" "LogLevel";
         }
     };
 }

@@ -2,14 +2,24 @@ ghost use Rattle.std.specs.Prelude.{◌≡◌, map};
 ghost use Rattle.std.specs.Str.{str_eq_ignore_ascii_case};
 ghost use Rattle.hc_table.specs.Table.{find_in, row_of};
 
-/// What a name stands for: its meaning, and for a directive the contexts in which it may stand and its
-/// class in `.htaccess`. These are the constants of [`crate::meaning`] (or of [`crate::flag`] and
-/// [`crate::variable`]), [`crate::context`] and [`crate::class`].
+/// How the words of a directive are written (Apache manual, "Configuration Files"; mod_rewrite).
+#[derive(Clone, Copy, Debug, PartialEq, Eq)]
+pub enum Wording {
+    /// As in most directives.
+    Configuration,
+    /// As in `RewriteRule` and `RewriteCond`, which keep each backslash.
+    Rewriting,
+}
+
+/// What a name stands for: its meaning, and for a directive the contexts in which it may stand, its
+/// class in `.htaccess` and how its words are written. Numbers are the constants of [`crate::meaning`] (or
+/// of [`crate::flag`] and [`crate::variable`]), [`crate::context`] and [`crate::class`].
 #[derive(Clone, Copy, Debug, PartialEq, Eq)]
 pub struct RowKind {
     pub meaning: u16,
     pub contexts: u16,
     pub class: u8,
+    pub wording: Wording,
 }
 
 /// A name of a table, with what it stands for.
