@@ -1,4 +1,5 @@
 pub mod Node
+pub mod Overrides
 pub mod PatternCode
 pub mod Walking
 pub mod World

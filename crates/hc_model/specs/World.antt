@@ -1,10 +1,10 @@
 -- A world of files: a finite map from absolute paths, and the edits of it. Our own choice.
-use Rattle.std.specs.Prelude.{◌≡◌, ℕ, ◌==◌, List, [], ◌∷◌, ◌++◌, length, take, drop, Bool, not, ◌&&◌, ◌||◌, if◌then◌else◌, nat_le, nat_lt, nat_eq, Option, Some, None, refl, Result, Ok, Err, Contains, IsSome}
+use Rattle.std.specs.Prelude.{◌≡◌, ℕ, ◌==◌, List, [], ◌∷◌, ◌++◌, length, take, drop, Bool, true, not, ◌&&◌, ◌||◌, if◌then◌else◌, nat_le, nat_lt, nat_eq, Option, Some, None, Result, Ok, Err, Contains, IsSome}
 use Rattle.std.specs.List.{filter_map, list_any, list_all, slice_split, starts_with}
 use Rattle.std.specs.Ordering.{nat_cmp}
 use Rattle.std.specs.Cmp.Lexicographic.{slice_cmp}
 use Rattle.std.specs.FinMap.{FinMap, get, insert, empty, keys}
-use Rattle.std.specs.Coded.{Coded, code_by, coded_list, coded×, coded_ℕ}
+use Rattle.std.specs.Coded.{Coded, coded_list, coded_ℕ}
 use Rattle.std.specs.FinMap as map
 use Rattle.hc_base.specs.Bytes.{is_control, slash}
 use Rattle.hc_base.specs.Paths.{is_slash, begins_with_slash, ends_with_slash, is_dots}
@@ -46,8 +46,9 @@ parents path = if nat_le (length path) 1 then [] else root ∷ fronts (take 1 pa
 
 -- ---- worlds
 
--- The root is a directory, and so is each path above one that is there.
+-- The root is a directory, and so is each path above one that is there; and only paths are.
 pub record IsWorld (world : World) : Type 0 where
+  pub keys_are_paths : (path : List ℕ) → IsSome (get world path) → is_path path ≡ true
   pub root_is_dir : get world root ≡ Some dir
   pub parents_are_dirs : (path above : List ℕ) → IsSome (get world path) → Contains (parents path) above
       → get world above ≡ Some dir
@@ -114,14 +115,3 @@ name_in directory path =
 abbrev pub names_in : World → List ℕ → List (List ℕ)
 names_in world directory =
     if is_dir (get world directory) then filter_map (name_in directory) (keys world) else []
-
--- ---- a world that is edited
-
--- Its files, and how many edits were accepted.
-pub record Edited : Type 0 where
-  pub files : World
-  pub edits : ℕ
-
-abbrev pub edited_code : Coded Edited
-edited_code =
-    code_by (World × ℕ) (coded× world_code coded_ℕ) (λ e. (e.files, e.edits)) (λ p. record { files = p.0; edits = p.1 }) (λ _. refl)

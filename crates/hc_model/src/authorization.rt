@@ -4,7 +4,7 @@ use hc_addr::Net;
 use hc_base::{List, NoMemory, Place, Text};
 
 /// Whether a request is let in (Apache manual, mod_authz_core, "Require" and the containers).
-#[derive(Debug, Drop)]
+#[derive(Drop)]
 pub enum ReqTree {
     /// A `Require` line; `negated` is `Require not`.
     Leaf {
@@ -21,7 +21,7 @@ pub enum ReqTree {
 }
 
 /// What a `Require` line asks for (Apache manual, mod_authz_core and mod_authz_host).
-#[derive(Debug, Drop)]
+#[derive(Drop)]
 pub enum Need {
     /// `all granted`.
     Granted,
@@ -37,7 +37,7 @@ pub enum Need {
 
 /// How the tree of a section stands to those before it (Apache manual, mod_authz_core,
 /// AuthMerging).
-#[derive(Clone, Copy, Debug, PartialEq, Eq)]
+#[derive(Clone, Copy, PartialEq, Eq)]
 pub enum Merging {
     Off,
     And,

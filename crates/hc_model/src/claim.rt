@@ -6,18 +6,19 @@ use hc_base::{Boxed, List, NoMemory, Place, Text};
 use hc_dfa::Dfa;
 
 /// What is claimed of every request of a scope. Our own choice.
-#[derive(Clone, Debug, Drop)]
+#[derive(Clone, Drop)]
 pub enum Claim {
     /// No run reaches a limit.
     Stops,
-    /// The rule or the section of this line is never in force.
+    /// The RewriteRule of this line matches no request.
     Shadowed(Place),
-    /// Each request that reaches a file of the set is let in by the section of this line.
+    /// Each request that ends with a file or directory in the set had the Require line of this place in
+    /// the authorization tree of its last pass.
     Guarded { target: Dfa, by: Place },
 }
 
 /// A set of requests.
-#[derive(Debug, Drop)]
+#[derive(Drop)]
 pub struct Scope {
     pub scheme: Scheme,
     pub server: Addr,
@@ -31,7 +32,7 @@ pub struct Scope {
 }
 
 /// A set of texts, as it is written.
-#[derive(Debug, Drop)]
+#[derive(Drop)]
 pub enum SetForm {
     /// Every text.
     Any,
@@ -48,7 +49,7 @@ pub enum SetForm {
 }
 
 /// What a branch decided at a line.
-#[derive(Clone, Debug, Drop)]
+#[derive(Clone, Drop)]
 pub enum Decision {
     /// A RewriteCond.
     Cond { place: Place, held: bool },

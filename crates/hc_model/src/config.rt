@@ -4,7 +4,7 @@ use crate::{Alias, Body, Map, Read, Redirect, Section};
 use hc_base::{List, NoMemory, Place, Text, copy_option};
 
 /// What a configuration says.
-#[derive(Debug, Drop)]
+#[derive(Drop)]
 pub struct Config {
     pub main: Server,
     /// The virtual hosts, in the order of their lines (Apache manual, "Virtual Hosts").
@@ -18,7 +18,7 @@ pub struct Config {
 }
 
 /// One of the servers of a configuration.
-#[derive(Clone, Copy, Debug, PartialEq, Eq)]
+#[derive(Clone, Copy, PartialEq, Eq)]
 pub enum HostId {
     Main,
     /// A virtual host, by its place among them, counted from 0.
@@ -26,7 +26,7 @@ pub enum HostId {
 }
 
 /// What one server is configured to: the main server or a virtual host.
-#[derive(Debug, Drop)]
+#[derive(Drop)]
 pub struct Server {
     /// The line of its `<VirtualHost>`; the main server has an empty file and line 0.
     pub place: Place,
@@ -52,14 +52,14 @@ pub struct Server {
 }
 
 /// An address of a virtual host, IPv4 with a port. None is `*`.
-#[derive(Clone, Copy, Debug, PartialEq, Eq)]
+#[derive(Clone, Copy, PartialEq, Eq)]
 pub struct HostAddr {
     pub addr: Option<u32>,
     pub port: u16,
 }
 
 /// A Define line (Apache manual, core).
-#[derive(Clone, Debug, Drop)]
+#[derive(Clone, Drop)]
 pub struct Define {
     pub name: Text,
     pub value: Option<Text>,

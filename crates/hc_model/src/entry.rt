@@ -5,7 +5,7 @@ use hc_base::{List, NoMemory, Text};
 
 /// A line of a configuration whose includes stand at their places and whose variables are replaced
 /// (Apache manual, core, Include and Define).
-#[derive(Debug, Drop)]
+#[derive(Drop)]
 pub struct Entry {
     pub spot: Spot,
     pub form: EntryForm,
@@ -18,7 +18,7 @@ pub struct Entry {
 }
 
 /// What a line is (Apache manual, "Configuration Sections").
-#[derive(Clone, Copy, Debug, PartialEq, Eq)]
+#[derive(Clone, Copy, PartialEq, Eq)]
 pub enum EntryForm {
     Directive,
     Opening,

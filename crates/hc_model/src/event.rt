@@ -2,7 +2,7 @@ use crate::{Kind, Spot};
 use hc_base::{Place, Text};
 
 /// A step on the way from a request to its outcome. Our own choice.
-#[derive(Clone, Debug, Drop)]
+#[derive(Clone, Drop)]
 pub enum Event {
     /// The server was chosen. The main server has an empty file and line 0.
     Host {
@@ -63,7 +63,7 @@ pub enum Event {
 }
 
 /// What authorization gave (Apache manual, mod_authz_core).
-#[derive(Clone, Copy, Debug, PartialEq, Eq)]
+#[derive(Clone, Copy, PartialEq, Eq)]
 pub enum Authorized {
     Granted,
     Denied,

@@ -5,7 +5,7 @@ use hc_addr::Net;
 use hc_base::{Boxed, NoMemory};
 
 /// The expression of an `<If>` (Apache manual, "Expressions in Apache HTTP Server").
-#[derive(Debug, Drop)]
+#[derive(Drop)]
 pub enum Expr {
     /// `true`.
     Yes,

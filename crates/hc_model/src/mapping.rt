@@ -4,7 +4,7 @@ use crate::{Regex, Template};
 use hc_base::{List, NoMemory, Place, Span, Text};
 
 /// What an alias or a redirect looks for in a URL path (Apache manual, mod_alias).
-#[derive(Clone, Debug, Drop)]
+#[derive(Clone, Drop)]
 pub enum PathTest {
     /// The path is this one or below it.
     Prefix(Text),
@@ -13,7 +13,7 @@ pub enum PathTest {
 }
 
 /// `Alias` and `AliasMatch`: where the files of a URL path are.
-#[derive(Debug, Drop)]
+#[derive(Drop)]
 pub struct Alias {
     pub place: Place,
     pub span: Span,
@@ -22,7 +22,7 @@ pub struct Alias {
 }
 
 /// `Redirect` and its kin: where a request for a URL path is sent.
-#[derive(Debug, Drop)]
+#[derive(Drop)]
 pub struct Redirect {
     pub place: Place,
     pub span: Span,
@@ -32,14 +32,14 @@ pub struct Redirect {
 }
 
 /// A `RewriteMap` (Apache manual, mod_rewrite).
-#[derive(Clone, Debug, Drop)]
+#[derive(Clone, Drop)]
 pub struct Map {
     pub name: Text,
     pub kind: MapKind,
 }
 
 /// What a map gives for a key.
-#[derive(Clone, Debug, Drop)]
+#[derive(Clone, Drop)]
 pub enum MapKind {
     /// `txt:`: what the text of this file says.
     File(Text),

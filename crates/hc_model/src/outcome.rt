@@ -1,7 +1,7 @@
 use hc_base::{Refusal, Text};
 
 /// What a request receives.
-#[derive(Clone, Debug, Drop)]
+#[derive(Clone, Drop)]
 pub enum Outcome {
     /// A file, with the path information behind its name.
     File { path: Text, info: Text },
@@ -21,7 +21,7 @@ pub enum Outcome {
 }
 
 /// Which limit was reached.
-#[derive(Clone, Copy, Debug, PartialEq, Eq)]
+#[derive(Clone, Copy, PartialEq, Eq)]
 pub enum LimitKind {
     /// The rounds of a list of rules (Apache manual, "RewriteRule Flags", N).
     Rounds,
@@ -30,7 +30,7 @@ pub enum LimitKind {
 }
 
 /// Why nothing is said of a request. Our own choice.
-#[derive(Clone, Copy, Debug, PartialEq, Eq)]
+#[derive(Clone, Copy, PartialEq, Eq)]
 pub enum Reason {
     /// The path of the target has a byte that is not covered.
     PathByte,

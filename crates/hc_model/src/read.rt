@@ -1,7 +1,7 @@
 use hc_base::Text;
 
 /// What an answer rests on: a question to the world about a path. Our own choice.
-#[derive(Clone, Debug, Drop)]
+#[derive(Clone, PartialEq, Eq, Hash, Drop)]
 pub enum Read {
     /// What stands there.
     KindOf(Text),

@@ -4,21 +4,21 @@ use hc_addr::Addr;
 use hc_base::{List, NoMemory, Text};
 
 /// The scheme of a request.
-#[derive(Clone, Copy, Debug, PartialEq, Eq)]
+#[derive(Clone, Copy, PartialEq, Eq, Hash)]
 pub enum Scheme {
     Http,
     Https,
 }
 
 /// A name with its value: a header of a request, or a variable.
-#[derive(Clone, Debug, Drop)]
+#[derive(Clone, PartialEq, Eq, Hash, Drop)]
 pub struct Header {
     pub name: Text,
     pub value: Text,
 }
 
 /// A request as it arrives.
-#[derive(Debug, Drop)]
+#[derive(PartialEq, Eq, Hash, Drop)]
 pub struct Request {
     pub method: Text,
     pub scheme: Scheme,
@@ -36,7 +36,7 @@ pub struct Request {
 }
 
 /// A request at the server that answers it.
-#[derive(Debug, Drop)]
+#[derive(Drop)]
 pub struct Caller {
     pub request: Request,
     /// SERVER_NAME (Apache manual, mod_rewrite, RewriteCond).
@@ -44,7 +44,7 @@ pub struct Caller {
 }
 
 /// What an expression sees of a request (Apache manual, "Expressions in Apache HTTP Server").
-#[derive(Debug, Drop)]
+#[derive(Drop)]
 pub struct View {
     pub caller: Caller,
     /// The URL path of the pass.
@@ -76,8 +76,8 @@ impl Clone for Caller {
 
     fn clone(&self) -> Result<Caller, NoMemory> {
         Ok(Caller {
-            request: self.request.clone()?,
             name: self.name.clone()?,
+            request: self.request.clone()?,
         })
     }
 }
@@ -87,10 +87,10 @@ impl Clone for View {
 
     fn clone(&self) -> Result<View, NoMemory> {
         Ok(View {
-            caller: self.caller.clone()?,
             path: self.path.clone()?,
             query: self.query.clone()?,
             name: self.name.clone()?,
+            caller: self.caller.clone()?,
         })
     }
 }

@@ -5,7 +5,7 @@ use crate::{Caller, Event, Header, Outcome, Read, Regex, Template};
 use hc_base::{List, NoMemory, Place, Span, Text, copy_option};
 
 /// A RewriteRule, with the conditions that stand before it (Apache manual, mod_rewrite).
-#[derive(Debug, Drop)]
+#[derive(Drop)]
 pub struct Rule {
     pub place: Place,
     pub span: Span,
@@ -18,7 +18,7 @@ pub struct Rule {
 }
 
 /// A RewriteCond.
-#[derive(Debug, Drop)]
+#[derive(Drop)]
 pub struct Cond {
     pub place: Place,
     pub span: Span,
@@ -32,7 +32,7 @@ pub struct Cond {
 }
 
 /// How a condition tests its text.
-#[derive(Clone, Debug, Drop)]
+#[derive(Clone, Drop)]
 pub enum CondKind {
     /// The pattern is found in it.
     Search(Regex),
@@ -45,7 +45,7 @@ pub enum CondKind {
 }
 
 /// The flags of a rule (Apache manual, "RewriteRule Flags").
-#[derive(Debug, Drop)]
+#[derive(Drop)]
 pub struct Flags {
     /// L.
     pub last: bool,
@@ -77,14 +77,14 @@ pub struct Flags {
 }
 
 /// `E=name:value`, or `E=!name`, which has no value and unsets.
-#[derive(Debug, Drop)]
+#[derive(Drop)]
 pub struct EnvSet {
     pub name: Text,
     pub value: Option<Template>,
 }
 
 /// What a list of rules changes while it runs.
-#[derive(Debug, Drop)]
+#[derive(Drop)]
 pub struct RwState {
     pub caller: Caller,
     /// The URL path of the pass.
@@ -107,7 +107,7 @@ pub struct RwState {
 }
 
 /// Where a list of rules runs.
-#[derive(Debug, Drop)]
+#[derive(Drop)]
 pub struct RwContext {
     /// The directory whose rules run, None for the rules of a server.
     pub engine: Option<Text>,
@@ -122,7 +122,7 @@ pub struct RwContext {
 }
 
 /// What a run of a list of rules leaves.
-#[derive(Debug, Drop)]
+#[derive(Drop)]
 pub struct SetResult {
     pub state: RwState,
     /// A substitution other than `-` was made.
@@ -206,8 +206,8 @@ impl Clone for RwState {
     ghost is_clone = { λ state copy. copy ≡ state };
 
     fn clone(&self) -> Result<RwState, NoMemory> {
+        // What is costly to drop comes last, so that no refused clone has to drop it.
         Ok(RwState {
-            caller: self.caller.clone()?,
             path: self.path.clone()?,
             root: self.root.clone()?,
             text: self.text.clone()?,
@@ -217,6 +217,7 @@ impl Clone for RwState {
             end: self.end,
             groups: self.groups.copy()?,
             cond_groups: self.cond_groups.copy()?,
+            caller: self.caller.clone()?,
         })
     }
 }
@@ -240,12 +241,12 @@ impl Clone for SetResult {
 
     fn clone(&self) -> Result<SetResult, NoMemory> {
         Ok(SetResult {
-            state: self.state.clone()?,
             substituted: self.substituted,
             passed: self.passed,
             outcome: copy_option(&self.outcome)?,
             events: self.events.copy()?,
             reads: self.reads.copy()?,
+            state: self.state.clone()?,
         })
     }
 }

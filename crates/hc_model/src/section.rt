@@ -4,7 +4,7 @@ use crate::{Event, Expr, Merging, Redirect, Regex, ReqTree, Rule};
 use hc_base::{List, NoMemory, Place, Span, Text, copy_option};
 
 /// Where a section applies (Apache manual, "Configuration Sections").
-#[derive(Clone, Debug, Drop)]
+#[derive(Clone, Drop)]
 pub enum Reach {
     /// `<Directory>`: the pattern of its path.
     Dir(Regex),
@@ -24,7 +24,7 @@ pub enum Reach {
 
 /// A section.
 #[cycle(sections)]
-#[derive(Debug, Drop)]
+#[derive(Drop)]
 pub struct Section {
     pub place: Place,
     pub span: Span,
@@ -34,7 +34,7 @@ pub struct Section {
 
 /// What stands in a section, in a server outside its sections, or in a `.htaccess`.
 #[cycle(sections)]
-#[derive(Debug, Drop)]
+#[derive(Drop)]
 pub struct Body {
     /// The Options lines (core).
     pub options: List<OptStep>,
@@ -61,7 +61,7 @@ pub struct Body {
 
 /// One Options line, with the options by their places in the list of their names (Apache manual,
 /// core, Options).
-#[derive(Debug, Drop)]
+#[derive(Drop)]
 pub struct OptStep {
     /// The words have no sign: the options that were in force go.
     pub replace: bool,
@@ -70,7 +70,7 @@ pub struct OptStep {
 }
 
 /// What a `.htaccess` may hold: the classes of AllowOverride (Apache manual, core).
-#[derive(Clone, Copy, Debug, PartialEq, Eq)]
+#[derive(Clone, Copy, PartialEq, Eq)]
 pub struct Allowed {
     pub auth: bool,
     pub file_info: bool,
@@ -80,7 +80,7 @@ pub struct Allowed {
 }
 
 /// Whether rules that were in force run too (Apache manual, mod_rewrite, RewriteOptions).
-#[derive(Clone, Copy, Debug, PartialEq, Eq)]
+#[derive(Clone, Copy, PartialEq, Eq)]
 pub enum Inherit {
     No,
     /// `Inherit`: behind the section's own rules.
@@ -90,7 +90,7 @@ pub enum Inherit {
 }
 
 /// A `.htaccess` that was read.
-#[derive(Debug, Drop)]
+#[derive(Drop)]
 pub struct HtFile {
     /// The directory that it stands in.
     pub dir: Text,
@@ -99,7 +99,7 @@ pub struct HtFile {
 
 /// What is in force for a file name once its sections are merged (Apache manual, "Configuration
 /// Sections", "How the sections are merged").
-#[derive(Debug, Drop)]
+#[derive(Drop)]
 pub struct Effective {
     /// FollowSymLinks or SymLinksIfOwnerMatch is in force.
     pub follow: bool,
@@ -202,13 +202,13 @@ impl Clone for Effective {
     fn clone(&self) -> Result<Effective, NoMemory> {
         Ok(Effective {
             follow: self.follow,
-            require: copy_option(&self.require)?,
             engine: self.engine,
             dir: copy_option(&self.dir)?,
             base: copy_option(&self.base)?,
             rules: self.rules.copy()?,
             redirects: self.redirects.copy()?,
             sections: self.sections.copy()?,
+            require: copy_option(&self.require)?,
         })
     }
 }

@@ -1,13 +1,13 @@
 ghost use Rattle.std.specs.Prelude.{◌≡◌, IfOk};
 
-use hc_base::{List, NoMemory, Text};
+use hc_base::{Boxed, List, NoMemory, Text};
 
 /// A text with parts that are filled in where it is used (Apache manual, mod_rewrite, "Test String"
 /// and "Substitution").
 pub type Template = List<Piece>;
 
 /// A part of a template.
-#[derive(Debug, Drop)]
+#[derive(Drop)]
 pub enum Piece {
     /// These bytes.
     Bytes(Text),
@@ -18,16 +18,17 @@ pub enum Piece {
     CondGroup(u8),
     /// `%{NAME}`.
     Var(Var),
-    /// `${map:key|fallback}` (Apache manual, mod_rewrite, RewriteMap).
+    /// `${map:key|fallback}` (Apache manual, mod_rewrite, RewriteMap). Its parts stand in blocks of
+    /// their own: most pieces are bytes.
     Lookup {
-        map: Text,
-        key: Template,
-        fallback: Template,
+        map: Boxed<Text>,
+        key: Boxed<Template>,
+        fallback: Boxed<Template>,
     },
 }
 
 /// A variable (Apache manual, mod_rewrite, RewriteCond).
-#[derive(Clone, Debug, Drop)]
+#[derive(Clone, Drop)]
 pub enum Var {
     /// `HTTP:name`.
     Header(Text),
@@ -55,11 +56,18 @@ fn copy_piece(piece: &Piece) -> Result<Piece, NoMemory>
         Piece::CondGroup(number) => Ok(Piece::CondGroup(*number)),
         Piece::Var(var) => Ok(Piece::Var(var.clone()?)),
         Piece::Lookup { map, key, fallback } => Ok(Piece::Lookup {
-            map: map.clone()?,
-            key: copy_pieces(key)?,
-            fallback: copy_pieces(fallback)?,
+            map: map.copy()?,
+            key: copy_boxed(key)?,
+            fallback: copy_boxed(fallback)?,
         }),
     }
+}
+
+#[cycle(copy)]
+fn copy_boxed(pieces: &Boxed<Template>) -> Result<Boxed<Template>, NoMemory>
+    ensures { IfOk result (λ copy. copy ≡ pieces.now) }
+{
+    Boxed::new(pieces.allocator(), copy_pieces(pieces.get())?)
 }
 
 #[cycle(copy)]

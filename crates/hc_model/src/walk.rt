@@ -3,7 +3,7 @@ ghost use Rattle.std.specs.Prelude.{◌≡◌};
 use hc_base::{List, NoMemory, Text};
 
 /// What stands at a path.
-#[derive(Clone, Copy, Debug, PartialEq, Eq)]
+#[derive(Clone, Copy, PartialEq, Eq)]
 pub enum Kind {
     Absent,
     Dir,
@@ -11,7 +11,7 @@ pub enum Kind {
 }
 
 /// A name followed through the directories of a world.
-#[derive(Debug, Drop)]
+#[derive(Drop)]
 pub struct Walk {
     /// The name up to the first component that is no directory, or all of it. A directory that is
     /// reached by a final slash keeps that slash.
