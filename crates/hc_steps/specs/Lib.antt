@@ -1,0 +1,9 @@
+pub mod Laws
+pub mod Ran
+pub mod Reads
+pub mod Rising
+pub mod Run
+pub mod Shown
+pub mod Step
+pub mod Told
+pub mod Walking

@@ -1,0 +1,9 @@
+//! Steps of a way that tell what they look at: the definitions of a flat list and of a request are
+//! written in them.
+#![tactic(auto)]
+
+pub mod laws;
+mod log;
+mod reads;
+
+pub use log::{Log, Told};
