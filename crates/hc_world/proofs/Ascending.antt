@@ -1,17 +1,7 @@
 -- The entries of a map, in their order, are those of the world that they stand for.
-use Rattle.std.proofs.Common.{◌≡◌, ℕ, Bool, true, false, ◌&&◌, List, [], ◌∷◌, map, Vec, sym, ap, ◌∙◌, subst, T}
-use Rattle.std.specs.declared.alloc.Global.{Global}
-use Rattle.std.specs.declared.cmp.Ordering.TheVariants.{Less}
-use Rattle.std.specs.FinMap.{from_sorted, entries-from_sorted, get-from_entries, get-from_sorted, keys}
+use Rattle.hc_world.proofs.Common.{◌≡◌, ℕ, Bool, true, false, ◌&&◌, List, [], ◌∷◌, map, Vec, sym, ap, ◌∙◌, subst, T, Global, Less, from_sorted, entries-from_sorted, get-from_entries, get-from_sorted, keys, AllByRecursion, keys_of, is_lt, nat_cmp, slice_cmp, nat_list_cmp_total, Entry, entry_of, world_of}
 use Rattle.std.specs.FinMap.Entries.{below_all, is_sorted}
-use Rattle.std.specs.List.{AllByRecursion}
 use Rattle.std.specs.List.Sorted.{IsStrictlySortedBy}
-use Rattle.std.specs.Map.{keys_of}
-use Rattle.std.specs.Ordering.{is_lt, nat_cmp}
-use Rattle.std.specs.Cmp.Lexicographic.{slice_cmp}
-use Rattle.std.proofs.lemmas.Cmp.{nat_list_cmp_total}
-use Rattle.hc_world.specs.declared.entries.Entry.{Entry}
-use Rattle.hc_world.specs.Entries.{entry_of, world_of}
 use Rattle.hc_world.proofs.Lookups.{same_world}
 
 abbrev pub Entries : Type 0

@@ -1,18 +1,8 @@
 -- What the entries of a map say of the world that they stand for.
-use Rattle.std.proofs.Common.{◌≡◌, ℕ, Bool, true, false, cond, List, [], ◌∷◌, map, Option, Some, None, Vec, refl, sym, ap, ◌∙◌, subst, inl, inr, ◌⊎◌}
-use Rattle.std.specs.declared.alloc.Global.{Global}
-use Rattle.std.specs.Option.{option_map}
-use Rattle.std.specs.Map.{lookup}
-use Rattle.std.specs.Ordering.{nat_cmp, eq_by_cmp}
-use Rattle.std.specs.Cmp.Lexicographic.{slice_cmp}
+use Rattle.hc_world.proofs.Common.{◌≡◌, ℕ, Bool, true, false, cond, List, [], ◌∷◌, map, Option, Some, None, Vec, refl, sym, ap, ◌∙◌, subst, inl, inr, ◌⊎◌, Global, option_map, lookup, nat_cmp, eq_by_cmp, slice_cmp, nat_list_cmp_total, eq_by_cmp_equiv, Node, World, Entry, node_of, entry_of, world_of}
 use Rattle.std.specs.FinMap.{get, insert, remove, find, get-from_entries, get-insert, get-remove, same_map}
-use Rattle.std.proofs.lemmas.Cmp.{nat_list_cmp_total, eq_by_cmp_equiv}
 use Rattle.std.proofs.lemmas.Map.Lookups.{exact_bytes}
 use Rattle.std.proofs.lemmas.Map.Views.{tells_apart}
-use Rattle.hc_model.specs.Node.{Node}
-use Rattle.hc_model.specs.World.{World}
-use Rattle.hc_world.specs.declared.entries.Entry.{Entry}
-use Rattle.hc_world.specs.Entries.{node_of, entry_of, world_of}
 
 abbrev pub same_path : List ℕ → List ℕ → Bool
 same_path = eq_by_cmp (slice_cmp nat_cmp)

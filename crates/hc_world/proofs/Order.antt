@@ -1,14 +1,6 @@
 -- Paths in the order of their bytes.
-use Rattle.std.proofs.Common.{◌≡◌, ℕ, ◌<◌, true, false, List, [], ◌∷◌, ◌++◌, length, take, nat_eq, Some, refl, sym, ap, ◌∙◌, inl, inr, ◌⊎◌, append-nil, arith}
-use mathlib.Core.Logic.{⊎_elim}
+use Rattle.hc_world.proofs.Common.{◌≡◌, ℕ, ◌<◌, true, false, List, [], ◌∷◌, ◌++◌, length, take, nat_eq, Some, refl, sym, ap, ◌∙◌, inl, inr, ◌⊎◌, append-nil, arith, ⊎_elim, Less, Equal, Greater, starts_with, is_le, is_lt, is_some_and, nat_cmp, ordering_reverse, ordering_then, slice_cmp, slice_partial_cmp, bytes_decides, lists_agrees, false≢true, true≢false, alike_right, nat_cmp_total, nat_list_cmp_total, ranked, tied_itself, is_before, is_up_to}
 use Rattle.std.specs.declared.cmp.Ordering.{Ordering}
-use Rattle.std.specs.declared.cmp.Ordering.TheVariants.{Less, Equal, Greater}
-use Rattle.std.specs.List.{starts_with}
-use Rattle.std.specs.Ordering.{is_le, is_lt, is_some_and, nat_cmp, ordering_reverse, ordering_then}
-use Rattle.std.specs.Cmp.Lexicographic.{slice_cmp, slice_partial_cmp, bytes_decides, lists_agrees}
-use Rattle.std.proofs.lemmas.Bool.{false≢true, true≢false}
-use Rattle.std.proofs.lemmas.Cmp.{alike_right, nat_cmp_total, nat_list_cmp_total, ranked, tied_itself}
-use Rattle.hc_world.specs.Places.{is_before, is_up_to}
 
 abbrev order : List ℕ → List ℕ → Ordering
 order = slice_cmp nat_cmp

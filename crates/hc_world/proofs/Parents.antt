@@ -1,10 +1,7 @@
 -- The paths above a path.
-use Rattle.std.proofs.Common.{◌≡◌, ℕ, ◌+◌, ◌<◌, Bool, true, false, cond, List, [], ◌∷◌, ◌++◌, length, take, drop, refl, sym, ap, ◌∙◌, arith, append_assoc, append-nil, length-append}
-use mathlib.Core.Logic.{⊎_elim}
-use Rattle.std.specs.List.{list_any}
-use Rattle.std.proofs.lemmas.Bool.{eqb-true, or_cases, or_left, or_right, lt-leb, false≢true}
-use Rattle.hc_base.specs.Paths.{is_slash}
-use Rattle.hc_model.specs.World.{root, fronts, parents}
+use Rattle.hc_world.proofs.Common.{◌≡◌, ℕ, ◌+◌, ◌<◌, ◌≤◌, ◌==◌, nat_le, leb→le, le-leb, subst, T, ◌&&◌, ◌||◌, Bool, true, false, cond, List, [], ◌∷◌, ◌++◌, length, take, drop, refl, sym, ap, ◌∙◌, arith, append_assoc, append-nil, length-append, ⊎_elim, list_all, list_any, onto_first, slice_split, and_parts, eqb-true, or_cases, or_left, or_right, lt-leb, false≢true, begins_with_slash, is_slash, root, fronts, is_component, is_path, parents}
+use Rattle.std.proofs.lemmas.List.Folds.{list_all-append}
+use Rattle.std.proofs.lemmas.List.Splits.{length-slice_split, slice_split-cons_no, slice_split-cons_yes}
 use Rattle.hc_world.proofs.Lookups.{same_path, same_path-true}
 
 -- Whether a path is among these.
@@ -76,3 +73,44 @@ parents_of_parent (x ∷ y ∷ rest) q above h k =
     (λ e. let c = fronts_cut (x ∷ []) (y ∷ rest) q e in
     ap (λ s. is_among (root ∷ fronts (x ∷ []) s) above) c.3 ∙ within x c.0 (47 ∷ c.1) above (sym (ap (λ p. is_among (parents p) above) c.2) ∙ k))
     (or_cases (same_path q root) _ i)
+
+-- ---- what stands above a path is a path
+
+onto_append : (b : ℕ) (parts more : List (List ℕ)) → 0 < length parts → onto_first b (parts ++ more) ≡ onto_first b parts ++ more
+onto_append b [] more some = absurd (omega (arith, some))
+onto_append b (part ∷ parts) more some = refl
+
+split_at_slash : (mid more : List ℕ) → slice_split is_slash (mid ++ 47 ∷ more) ≡ slice_split is_slash mid ++ slice_split is_slash more
+split_at_slash [] more = refl
+split_at_slash (b ∷ bs) more =
+    elim (is_slash b) as (λ s. is_slash b ≡ s → slice_split is_slash (b ∷ bs ++ 47 ∷ more) ≡ slice_split is_slash (b ∷ bs) ++ slice_split is_slash more) [
+      | true ↦ λ s. slice_split-cons_yes is_slash b (bs ++ 47 ∷ more) s ∙ ap (λ l. [] ∷ l) (split_at_slash bs more) ∙ ap (λ l. l ++ slice_split is_slash more) (sym (slice_split-cons_yes is_slash b bs s))
+      | false ↦ λ s. slice_split-cons_no is_slash b (bs ++ 47 ∷ more) s ∙ ap (onto_first b) (split_at_slash bs more)
+          ∙ onto_append b (slice_split is_slash bs) (slice_split is_slash more) (omega (arith, length-slice_split is_slash bs))
+          ∙ ap (λ l. l ++ slice_split is_slash more) (sym (slice_split-cons_no is_slash b bs s))
+    ] refl
+
+components_of_front : (mid more : List ℕ) → list_all is_component (slice_split is_slash (mid ++ 47 ∷ more)) ≡ true → list_all is_component (slice_split is_slash mid) ≡ true
+components_of_front mid more h =
+    (and_parts _ _ (sym (list_all-append is_component (slice_split is_slash mid) (slice_split is_slash more)) ∙ ap (list_all is_component) (sym (split_at_slash mid more)) ∙ h)).0
+
+pub parent_is_path : (path q : List ℕ) → is_path path ≡ true → is_among (parents path) q ≡ true → is_path q ≡ true
+parent_is_path [] q is h = absurd (false≢true h)
+parent_is_path (x ∷ []) q is h = absurd (false≢true h)
+parent_is_path (x ∷ y ∷ rest) q is h =
+    let k : is_among (root ∷ fronts (x ∷ []) (y ∷ rest)) q ≡ true = sym (ap (λ ps. is_among ps q) (parents-shape x y rest)) ∙ h in
+    let ends = and_parts (begins_with_slash (x ∷ y ∷ rest) && nat_le (length (x ∷ y ∷ rest)) 4096) _ is in
+    let front = and_parts (begins_with_slash (x ∷ y ∷ rest)) _ ends.0 in
+    ⊎_elim
+    (λ e. ap is_path (same_path-true q root e))
+    (λ e.
+    let c = fronts_cut (x ∷ []) (y ∷ rest) q e in
+    let short : length q ≤ 4096 = omega (arith, parent_shorter (x ∷ y ∷ rest) q h, leb→le (length (x ∷ y ∷ rest)) 4096 (subst T (sym front.1) tt)) in
+    let all : list_all is_component (slice_split is_slash (y ∷ rest)) ≡ true =
+    ⊎_elim (λ one. absurd (omega (arith, eqb-true (length (x ∷ y ∷ rest)) 1 one))) (λ all. all) (or_cases (length (x ∷ y ∷ rest) == 1) _ ends.1) in
+    let inner : list_all is_component (slice_split is_slash c.0) ≡ true = components_of_front c.0 c.1 (sym (ap (λ t. list_all is_component (slice_split is_slash t)) c.3) ∙ all) in
+    let fits : nat_le (length (x ∷ c.0)) 4096 ≡ true = le-leb (length (x ∷ c.0)) 4096 (omega (arith, ap length c.2)) in
+    ap is_path c.2 ∙ ap (λ b. (b && nat_le (length (x ∷ c.0)) 4096) && ((length (x ∷ c.0) == 1) || list_all is_component (slice_split is_slash c.0))) front.0
+    ∙ ap (λ b. b && ((length (x ∷ c.0) == 1) || list_all is_component (slice_split is_slash c.0))) fits
+    ∙ or_right (length (x ∷ c.0) == 1) _ inner)
+    (or_cases (same_path q root) _ k)

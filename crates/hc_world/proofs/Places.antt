@@ -1,24 +1,9 @@
 -- The names in a directory, found from place to place.
-use Rattle.std.proofs.Common.{◌≡◌, ℕ, ◌+◌, ◌<◌, ◌≤◌, Bool, true, false, not, ◌&&◌, ◌||◌, cond, List, [], ◌∷◌, ◌++◌, length, take, drop, map, nat_eq, nat_lt, Option, Some, None, Vec, refl, sym, ap, ◌∙◌, subst, inl, inr, ◌⊎◌, append_assoc, append-nil, arith, rules}
-use mathlib.Core.Logic.{⊎_elim}
-use Rattle.std.specs.declared.alloc.Global.{Global}
+use Rattle.hc_world.proofs.Common.{◌≡◌, ℕ, ◌+◌, ◌<◌, ◌≤◌, Bool, true, false, not, ◌&&◌, ◌||◌, cond, List, [], ◌∷◌, ◌++◌, length, take, drop, map, nat_eq, nat_lt, Option, Some, None, Vec, refl, sym, ap, ◌∙◌, subst, inl, inr, ◌⊎◌, append_assoc, append-nil, arith, rules, ⊎_elim, Global, Less, keys, AllByRecursion, cons_option, filter, filter_map, list_any, starts_with, keys_of, is_lt, nat_cmp, slice_cmp, bytes_decides, false≢true, cases_Bool, false_from_ne_true, drop-append-le, drop_more, length-take-le, take-append-drop, ends_with_slash, is_slash, World, as_name, name_behind_slash, name_in, Entry, entry_of, world_of, GoesOn, IsFirstFrom, front_of, is_before, is_up_to, keys_behind, keys_from, name_behind, IsNextSlash}
 use Rattle.std.specs.declared.ops.Bound.TheVariants.{Included, Unbounded}
-use Rattle.std.specs.declared.cmp.Ordering.TheVariants.{Less}
+use Rattle.std.proofs.Math.Bool.{or-true}
 use Rattle.std.specs.BTreeMap.Range.{entries_between}
-use Rattle.std.specs.FinMap.{keys}
-use Rattle.std.specs.List.{AllByRecursion, cons_option, filter, filter_map, list_any, starts_with}
 use Rattle.std.specs.List.Sorted.{IsStrictlySortedBy}
-use Rattle.std.specs.Map.{keys_of}
-use Rattle.std.specs.Ordering.{is_lt, nat_cmp}
-use Rattle.std.specs.Cmp.Lexicographic.{slice_cmp, bytes_decides}
-use Rattle.std.proofs.lemmas.Bool.{false≢true, cases_Bool, false_from_ne_true}
-use Rattle.std.proofs.lemmas.List.{drop-append-le, drop_more, length-take-le, take-append-drop}
-use Rattle.hc_base.specs.Paths.{ends_with_slash, is_slash}
-use Rattle.hc_model.specs.World.{World, as_name, name_behind_slash, name_in}
-use Rattle.hc_world.specs.declared.entries.Entry.{Entry}
-use Rattle.hc_world.specs.Entries.{entry_of, world_of}
-use Rattle.hc_world.specs.Places.{GoesOn, IsFirstFrom, front_of, is_before, is_up_to, keys_behind, keys_from, name_behind}
-use Rattle.hc_world.specs.Slashes.{IsNextSlash}
 use Rattle.hc_world.proofs.Ascending.{Ascend, Entries, keys-world_of}
 use Rattle.hc_world.proofs.Order.{before-from_not_up_to, before_all_below, before_if_up_to, before_longer, before_then_up_to, below_child, none_between, not_before_front, not_before_itself, starts_so, up_to-from_before}
 
@@ -86,11 +71,7 @@ GoesOn-behind front path place is =
 
 any_slash : (front rest : List ℕ) → list_any is_slash (front ++ 47 ∷ rest) ≡ true
 any_slash [] rest = refl
-any_slash (x ∷ xs) rest = ap (λ b. is_slash x || b) (any_slash xs rest) ∙ or_true (is_slash x)
-  where
-    or_true : (b : Bool) → (b || true) ≡ true
-    or_true true = refl
-    or_true false = refl
+any_slash (x ∷ xs) rest = ap (λ b. is_slash x || b) (any_slash xs rest) ∙ or-true (is_slash x)
 
 no_name : (front rest : List ℕ) → as_name (front ++ 47 ∷ rest) ≡ None
 no_name front rest =

@@ -1,11 +1,6 @@
 -- Reading a path from slash to slash.
-use Rattle.std.proofs.Common.{◌≡◌, ◌≢◌, ℕ, zero, suc, ◌+◌, ◌-◌, ◌<◌, ◌≤◌, cond, List, [], ◌∷◌, ◌++◌, length, take, drop, slice_index, sym, ap, ◌∙◌, add-zero, arith}
-use mathlib.Core.Logic.{⊎_elim}
-use Rattle.std.proofs.lemmas.Bool.{ne_eqb, cases_lt}
-use Rattle.std.proofs.lemmas.List.{take_more, drop_more, take_all, drop_all}
-use Rattle.hc_model.specs.World.{fronts}
+use Rattle.hc_world.proofs.Common.{◌≡◌, ◌≢◌, ℕ, zero, suc, ◌+◌, ◌-◌, ◌<◌, ◌≤◌, cond, List, [], ◌∷◌, ◌++◌, length, take, drop, slice_index, sym, ap, ◌∙◌, add-zero, arith, ⊎_elim, ne_eqb, cases_lt, take_more, drop_more, take_all, drop_all, fronts, HasNoSlash, IsNextSlash, fronts_from, steps_from}
 use Rattle.hc_model.specs.Walking.{steps}
-use Rattle.hc_world.specs.Slashes.{HasNoSlash, IsNextSlash, fronts_from, steps_from}
 
 -- What no step changes is the same after many.
 carried : {A : Type 0} (f : ℕ → A) (from n : ℕ) → ((k : ℕ) → from ≤ k → k < from + n → f k ≡ f (k + 1)) → f from ≡ f (from + n)

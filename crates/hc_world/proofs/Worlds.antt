@@ -1,30 +1,18 @@
 -- EditsFiles of a world.
-use Rattle.std.proofs.Common.{◌≡◌, ℕ, ◌+◌, ◌<◌, Bool, true, false, not, ◌&&◌, ◌||◌, cond, eqb, List, [], ◌∷◌, length, take, Option, Some, None, Result, Ok, Err, IsSome, Contains, refl, sym, ap, ◌∙◌, subst, arith, rules}
-use mathlib.Core.Logic.{⊎_elim}
+use Rattle.hc_world.proofs.Common.{◌≡◌, ℕ, ◌+◌, ◌<◌, Bool, true, false, not, ◌&&◌, ◌||◌, cond, eqb, List, [], ◌∷◌, length, take, Option, Some, None, Result, Ok, Err, IsSome, Contains, refl, sym, ap, ◌∙◌, subst, arith, rules, ⊎_elim, list_any, nat_cmp, slice_cmp, get, insert, remove, get-remove, get-empty, empty, cases_Bool, false≢true, true≢false, and_parts, eqb-true, cond-true, cond-false, cond_both, false_from_ne_true, nat_list_cmp_total, eq_by_cmp_equiv, Node, dir, file, text, is_dir, is_file, kind_of, Absent, Dir, File, World, IsWorld, root, parents, with_dirs, with_node, new_world, is_path, is_under_file, list_dir, put_file, EditsFiles, IsEdit, add_in, IsNextSlash, fronts_from}
 use Rattle.std.specs.Bool.{⊤}
-use Rattle.std.specs.List.{list_any}
+use Rattle.std.proofs.Math.Bool.{or-false}
 use Rattle.std.specs.Result.{is_err}
-use Rattle.std.specs.Ordering.{nat_cmp}
-use Rattle.std.specs.Cmp.Lexicographic.{slice_cmp}
 use Rattle.std.proofs.lemmas.Map.Lookups.{exact_bytes}
-use Rattle.std.specs.FinMap.{get, insert, remove, get-remove, get-empty, empty}
-use Rattle.std.proofs.lemmas.Bool.{cases_Bool, false≢true, true≢false, and_parts, eqb-true, cond-true, cond-false, cond_both, false_from_ne_true}
-use Rattle.std.proofs.lemmas.Cmp.{nat_list_cmp_total, eq_by_cmp_equiv}
 use Rattle.std.proofs.lemmas.List.Elements.{All-contains_itself, All-weaker}
 use Rattle.std.proofs.lemmas.List.Folds.{list_any_none}
 use Rattle.std.proofs.lemmas.Map.Views.{Contains-from_any, list_any-from_Contains, tells_apart}
-use Rattle.hc_model.specs.Node.{Node, dir, file, text, is_dir, is_file, kind_of}
-use Rattle.hc_model.specs.declared.walk.Kind.TheVariants.{Absent, Dir, File}
-use Rattle.hc_model.specs.World.{World, IsWorld, root, parents, with_dirs, with_node, new_world, is_path, is_under_file, list_dir, put_file}
-use Rattle.hc_world.specs.Edits.{EditsFiles, IsEdit}
-use Rattle.hc_world.specs.Entries.{add_in}
 use Rattle.hc_base.specs.declared.codes.TheConstants.{IS_DIRECTORY, PATH_FORM, UNDER_FILE}
 use Rattle.hc_base.specs.declared.fault.Fault.{Fault}
 use Rattle.hc_base.specs.declared.fault.Fault.TheVariants.{NoMemory, Refused}
-use Rattle.hc_world.specs.Slashes.{IsNextSlash, fronts_from}
 use Rattle.hc_world.proofs.Lookups.{same_path, same_path-true, same_world, get_inserted}
 use Rattle.hc_world.proofs.Slashes.{fronts_from-some}
-use Rattle.hc_world.proofs.Parents.{is_among, parents-long, parent_shorter, parents_of_parent}
+use Rattle.hc_world.proofs.Parents.{is_among, parent_is_path, parents-long, parent_shorter, parents_of_parent}
 
 -- ---- what stands at a path
 
@@ -45,12 +33,6 @@ file_from_kind None h = cc
 file_from_kind (Some dir) h = cc
 file_from_kind (Some file) h = refl
 file_from_kind (Some (text bytes)) h = refl
-
-pub not_dir_from_kind : (o : Option Node) → (kind_of o ≡ Dir → ⊥) → is_dir o ≡ false
-not_dir_from_kind None h = refl
-not_dir_from_kind (Some dir) h = absurd (h refl)
-not_dir_from_kind (Some file) h = refl
-not_dir_from_kind (Some (text bytes)) h = refl
 
 -- ---- an insertion
 
@@ -184,8 +166,19 @@ dir_stays w path node q h is =
     get-made_apart w path node q (apart q path (λ e. false≢true (sym h ∙ ap (λ p. is_dir (get w p)) (sym e) ∙ ap is_dir is)))
     ∙ cond_both (is_among (parents path) q) (Some dir) (get w q) (λ o. o ≡ Some dir) (λ _. refl) (λ _. is)
 
-IsWorld-made : (w : World) (path : List ℕ) (node : Node) → IsWorld w → is_dir (get w path) ≡ false → IsWorld (with_node w path node)
-IsWorld-made w path node is h = record {
+key_made : (w : World) (path : List ℕ) (node : Node) (q : List ℕ) → IsWorld w → is_path path ≡ true → IsSome (get (with_node w path node) q) → is_path q ≡ true
+key_made w path node q is formed there =
+    ⊎_elim
+    (λ e. ap is_path (same_path-true q path e) ∙ formed)
+    (λ e. ⊎_elim
+    (λ a. parent_is_path path q formed a)
+    (λ a. is.keys_are_paths q (subst IsSome (get-made_apart w path node q e ∙ cond-false _ (Some dir) (get w q) a) there))
+    (cases_Bool (is_among (parents path) q)))
+    (cases_Bool (same_path q path))
+
+IsWorld-made : (w : World) (path : List ℕ) (node : Node) → IsWorld w → is_path path ≡ true → is_dir (get w path) ≡ false → IsWorld (with_node w path node)
+IsWorld-made w path node is formed h = record {
+  keys_are_paths = λ q there. key_made w path node q is formed there;
   root_is_dir = dir_stays w path node root h is.root_is_dir;
   parents_are_dirs = λ q above there c.
       let k = is_among-from_Contains (parents q) above c in
@@ -204,16 +197,16 @@ IsEdit_same path old new is e = record {
   others = λ q _ _. ap (λ w. get w q) e;
 }
 
-IsEdit-made : (w : World) (path : List ℕ) (node : Node) → IsWorld w → is_dir (get w path) ≡ false → IsEdit path w (with_node w path node)
-IsEdit-made w path node is h = record {
-  valid = IsWorld-made w path node is h;
+IsEdit-made : (w : World) (path : List ℕ) (node : Node) → IsWorld w → is_path path ≡ true → is_dir (get w path) ≡ false → IsEdit path w (with_node w path node)
+IsEdit-made w path node is formed h = record {
+  valid = IsWorld-made w path node is formed h;
   others = λ q ne no. get-made_apart w path node q (apart q path ne)
       ∙ cond-false _ (Some dir) (get w q) (false_from_ne_true _ (λ e. no (Contains-from_any (tells_apart exact_bytes) q (parents path) e)));
 }
 
 pub IsEdit-from_Edits : (result : Result ⊤ (Fault ℕ)) (w new : World) (path : List ℕ) (node : Node) → IsWorld w → is_path path ≡ true → is_dir (get w path) ≡ false → EditsFiles result w new (put_file w path node) → IsEdit path w new
 IsEdit-from_Edits (Ok _) w new path node is formed h e =
-    subst (IsEdit path w) (ok_from_add_in w new (parents path) path node (sym (put-parents w path node formed h) ∙ e)) (IsEdit-made w path node is h)
+    subst (IsEdit path w) (ok_from_add_in w new (parents path) path node (sym (put-parents w path node formed h) ∙ e)) (IsEdit-made w path node is formed h)
 IsEdit-from_Edits (Err (Refused code)) w new path node is formed h e = IsEdit_same path w new is e.1
 IsEdit-from_Edits (Err NoMemory) w new path node is formed h e = IsEdit_same path w new is e
 
@@ -225,22 +218,10 @@ EditsFiles-from_add result w new path node is formed h e = subst (EditsFiles res
 list_dir_formed : (w : World) (path : List ℕ) → is_path path ≡ true → list_dir w path ≡ cond (is_under_file w path || is_file (get w path)) (Err UNDER_FILE) (Ok (with_node w path dir))
 list_dir_formed w path h = ap (λ b. cond (not b) (Err PATH_FORM) (cond (is_under_file w path || is_file (get w path)) (Err UNDER_FILE) (Ok (with_node w path dir)))) h
 
-or_true : (a b : Bool) → b ≡ true → (a || b) ≡ true
-or_true true b h = refl
-or_true false b h = h
-
-or_false : (a b : Bool) → b ≡ false → (a || b) ≡ a
-or_false true b h = refl
-or_false false b h = h
-
-pub list_dir-file : (w : World) (path : List ℕ) → is_path path ≡ true → is_file (get w path) ≡ true → list_dir w path ≡ Err UNDER_FILE
-list_dir-file w path formed h =
-    list_dir_formed w path formed ∙ ap (λ b. cond b (Err UNDER_FILE) (Ok (with_node w path dir))) (or_true (is_under_file w path) _ h)
-
 -- Where nothing is, it is an entry like any other.
 pub list_dir-absent : (w : World) (path : List ℕ) → is_path path ≡ true → get w path ≡ None → list_dir w path ≡ put_file w path dir
 list_dir-absent w path formed h =
-    list_dir_formed w path formed ∙ ap (λ b. cond b (Err UNDER_FILE) (Ok (with_node w path dir))) (or_false (is_under_file w path) _ (ap is_file h))
+    list_dir_formed w path formed ∙ ap (λ b. cond b (Err UNDER_FILE) (Ok (with_node w path dir))) (ap (λ b. is_under_file w path || b) (ap is_file h) ∙ or-false (is_under_file w path))
     ∙ sym (ap (λ b. cond (is_under_file w path) (Err UNDER_FILE) (cond b (Err IS_DIRECTORY) (Ok (with_node w path dir)))) (ap is_dir h)) ∙ sym (put_formed w path dir formed)
 
 with_node_same : (w : World) (path : List ℕ) → IsWorld w → get w path ≡ Some dir → with_node w path dir ≡ w
@@ -264,6 +245,11 @@ list_dir-dir w path is formed h =
 
 pub IsWorld-new_world : IsWorld new_world
 IsWorld-new_world = record {
+  keys_are_paths = λ q there.
+      ⊎_elim
+      (λ e. ap is_path (same_path-true q root e))
+      (λ e. absurd (search (rules, subst IsSome (get_inserted empty root dir q ∙ cond-false _ (Some dir) (get empty q) e ∙ get-empty (slice_cmp nat_cmp) q) there)))
+      (cases_Bool (same_path q root));
   root_is_dir = get_inserted empty root dir root;
   parents_are_dirs = λ q above there c.
       ⊎_elim

@@ -1,11 +1,21 @@
 -- What an edit leaves.
-use Rattle.std.specs.Prelude.{◌≡◌, ◌≢◌, ℕ, ◌+◌, ⊤, List, Result, Ok, Err, Contains}
+use Rattle.std.specs.Prelude.{◌≡◌, ◌≢◌, ℕ, ◌+◌, ⊤, List, Result, Ok, Err, Contains, refl}
+use Rattle.std.specs.Coded.{Coded, code_by, coded×, coded_ℕ}
 use Rattle.std.specs.FinMap.{get}
-use Rattle.hc_model.specs.World.{World, Edited, IsWorld, list_dir, list_file, parents}
+use Rattle.hc_model.specs.World.{World, world_code, IsWorld, list_dir, list_file, parents}
 use Rattle.hc_base.specs.declared.fault.Fault.{Fault}
 use Rattle.hc_base.specs.declared.fault.Fault.TheVariants.{NoMemory, Refused}
 use Rattle.hc_world.specs.declared.world.ListKind.{ListKind}
 use Rattle.hc_world.specs.declared.world.ListKind.TheVariants.{File, Dir}
+
+-- The files of a world that is edited, and how many edits were accepted.
+pub record Edited : Type 0 where
+  pub files : World
+  pub edits : ℕ
+
+abbrev pub edited_code : Coded Edited
+edited_code =
+    code_by (World × ℕ) (coded× world_code coded_ℕ) (λ e. (e.files, e.edits)) (λ p. record { files = p.0; edits = p.1 }) (λ _. refl)
 
 abbrev pub listed : World → List ℕ → ListKind → Result World ℕ
 listed world path File = list_file world path

@@ -2,3 +2,4 @@ pub mod Edits
 pub mod Entries
 pub mod Places
 pub mod Slashes
+pub mod Walks

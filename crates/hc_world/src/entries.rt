@@ -15,7 +15,7 @@ use std::alloc::Global;
 use std::collections::BTreeMap;
 
 /// What the world has at a path.
-#[derive(Debug, Drop)]
+#[derive(Drop)]
 pub(crate) enum Entry {
     Dir,
     /// A file without a text.
@@ -44,7 +44,8 @@ pub(crate) fn add(
     from: usize,
     entry: Entry,
 ) -> Result<(), WorldFault>
-    ensures { EditsFiles result (world_of entries.old.entries) (world_of entries.new.entries) (add_in (world_of entries.old.entries) (fronts_from path.now from) path.now (node_of entry)) }
+    ensures { EditsFiles result (world_of entries.old.entries) (world_of entries.new.entries)
+        (add_in (world_of entries.old.entries) (fronts_from path.now from) path.now (node_of entry)) }
 {
     let Some(slash) = next_slash(path, from) else {
         entries.insert(path.to_vec(alloc)?, entry)?;
@@ -73,7 +74,8 @@ pub(crate) fn put_file(
     file: Entry,
 ) -> Result<(), WorldFault>
     requires { IsWorld (world_of entries.old.entries) }
-    ensures edit { EditsFiles result (world_of entries.old.entries) (world_of entries.new.entries) (put_file (world_of entries.old.entries) path.now (node_of file)) }
+    ensures edit { EditsFiles result (world_of entries.old.entries) (world_of entries.new.entries)
+        (put_file (world_of entries.old.entries) path.now (node_of file)) }
     ensures kept { IsEdit path.now (world_of entries.old.entries) (world_of entries.new.entries) }
 {
     if !is_path(path) {
@@ -93,7 +95,8 @@ pub(crate) fn make_dir(
     path: &[u8],
 ) -> Result<(), WorldFault>
     requires { IsWorld (world_of entries.old.entries) }
-    ensures edit { EditsFiles result (world_of entries.old.entries) (world_of entries.new.entries) (list_dir (world_of entries.old.entries) path.now) }
+    ensures edit { EditsFiles result (world_of entries.old.entries) (world_of entries.new.entries)
+        (list_dir (world_of entries.old.entries) path.now) }
     ensures kept { IsEdit path.now (world_of entries.old.entries) (world_of entries.new.entries) }
 {
     if !is_path(path) {

@@ -34,7 +34,8 @@ fn names_below(
     entries: &BTreeMap<Vec<u8>, Entry>,
     directory: &[u8],
 ) -> Result<List<Text>, NoMemory>
-    ensures { IfOk result (λ names. names ≡ filter_map (name_in directory.now) (keys (world_of entries.now.entries))) }
+    ensures { IfOk result (λ names.
+        names ≡ filter_map (name_in directory.now) (keys (world_of entries.now.entries))) }
 {
     let front = front_of(alloc, directory)?;
     let mut names = List::new(alloc);

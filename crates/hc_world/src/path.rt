@@ -5,6 +5,7 @@ ghost use Rattle.hc_base.specs.Bytes.{is_control};
 ghost use Rattle.hc_model.specs.World.{is_component, is_path};
 ghost use Rattle.hc_world.specs.Slashes.{HasNoSlash, IsNextSlash};
 
+use hc_base::bytes::DELETE;
 use hc_base::paths::is_dots;
 
 /// The most bytes of a path, and of the name of a file in its directory.
@@ -37,7 +38,7 @@ fn is_component(name: &[u8]) -> bool
 fn has_control(name: &[u8]) -> bool
     ensures { result ≡ list_any is_control name.now }
 {
-    name.iter().any(|b| *b < b' ' || *b == 127)
+    name.iter().any(|b| *b < b' ' || *b == DELETE)
 }
 
 /// The place of the first slash at or after `from`.

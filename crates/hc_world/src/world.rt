@@ -8,9 +8,10 @@ ghost use Rattle.hc_world.specs.Edits.{Edits, IsEdit, listed};
 
 use crate::entries::{Entry, kind_at, make_dir, put_file};
 use crate::names::names;
-use crate::walk::walk;
+use crate::walk::follow;
 use hc_base::{Fault, List, NoMemory, Text};
-use hc_model::{Kind, Walk};
+use hc_model::{Kind, Texts, Walk};
+use hc_steps::Log;
 use std::alloc::Global;
 use std::collections::BTreeMap;
 use std::marker::Model;
@@ -20,7 +21,7 @@ pub type WorldFault = Fault<u8>;
 
 /// Files and directories by their absolute paths. The root is always there, and what is above a
 /// path is a directory.
-#[derive(Debug, Drop)]
+#[derive(Drop)]
 pub struct World {
     alloc: Global,
     entries: BTreeMap<Vec<u8>, Entry>,
@@ -28,7 +29,7 @@ pub struct World {
 }
 
 /// What `World::list` makes.
-#[derive(Clone, Copy, Debug, PartialEq, Eq)]
+#[derive(Clone, Copy, PartialEq, Eq)]
 pub enum ListKind {
     File,
     Dir,
@@ -36,10 +37,11 @@ pub enum ListKind {
 
 impl Model for World {
     ghost use Rattle.hc_model.specs.World as model;
+    ghost use Rattle.hc_world.specs.Edits.{Edited, edited_code};
 
-    ghost Value = { model.Edited };
+    ghost Value = { Edited };
 
-    ghost coded = { model.edited_code };
+    ghost coded = { edited_code };
 
     ghost use Rattle.hc_world.specs.Entries.{world_of};
 
@@ -135,10 +137,23 @@ impl World {
         }
     }
 
-    /// Follows a name through the directories. It takes memory for the answer alone.
+    /// Follows a name through the directories.
+    #[tactic(auto, using(crate::proofs::Walks::walk_is))]
     pub fn walk(&self, name: &[u8]) -> Result<Walk, NoMemory>
         ensures { IfOk result (λ w. w ≡ walk_in self.now.files name.now) }
     {
-        walk(self.alloc, &self.entries, name)
+        let mut log = Log::new(self.alloc, Some(0));
+        match follow(self, &mut log, name) {
+            Ok(walk) => Ok(walk),
+            Err(_) => Err(NoMemory),
+        }
+    }
+}
+
+impl Texts for World {
+    ghost texts = { λ w path. text_of (get w.files path) };
+
+    fn text(&self, path: &[u8]) -> Option<&str> {
+        World::text(self, path)
     }
 }

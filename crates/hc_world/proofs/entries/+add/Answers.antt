@@ -1,10 +1,5 @@
-use Rattle.std.proofs.Common.{◌≡◌, ◌+◌, true, false, None, Ok, sym, ap, ◌∙◌, subst, take, refl, rules}
+use Rattle.hc_world.proofs.Common.{◌≡◌, ◌+◌, true, false, None, Ok, sym, ap, ◌∙◌, subst, take, refl, rules, get, insert, remove, dir, EditsFiles, world_of, node_of, add_in, fronts_from}
 use Rattle.std.specs.Result.{is_err}
-use Rattle.std.specs.FinMap.{get, insert, remove}
-use Rattle.hc_model.specs.Node.{dir}
-use Rattle.hc_world.specs.Edits.{EditsFiles}
-use Rattle.hc_world.specs.Entries.{world_of, node_of, add_in}
-use Rattle.hc_world.specs.Slashes.{fronts_from}
 use Rattle.hc_world.proofs.Lookups.{world_inserted, world_removed}
 use Rattle.hc_world.proofs.Slashes.{fronts_from-none, fronts_from-some}
 use Rattle.hc_world.proofs.Worlds.{dir_from_kind, none_from_kind, file_from_kind, add_in-file, add_in-dir, add_in-absent, Edits_undone, Edits_made, remove_inserted}

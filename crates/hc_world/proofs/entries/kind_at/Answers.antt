@@ -1,7 +1,4 @@
-use Rattle.std.proofs.Common.{Some, sym, ap, ◌∙◌}
-use Rattle.std.specs.Option.{option_map, option_copied}
-use Rattle.hc_model.specs.Node.{kind_of}
-use Rattle.hc_world.specs.Entries.{node_of}
+use Rattle.hc_world.proofs.Common.{Some, sym, ap, ◌∙◌, option_map, option_copied, kind_of, node_of}
 use Rattle.hc_world.proofs.Lookups.{get-world_of}
 use Rattle.hc_world.proofs.entries.kind_at.Goals as goal
 

@@ -1,10 +1,6 @@
-use Rattle.std.proofs.Common.{◌≡◌, true, false, Option, Some, None, refl, sym, ap, ◌∙◌}
+use Rattle.hc_world.proofs.Common.{◌≡◌, true, false, Option, Some, None, refl, sym, ap, ◌∙◌, get, Dir, Node, dir, file, text, kind_of, is_dir, world_of, node_of}
 use denote.Enum.Bare.{sameb}
-use Rattle.std.specs.FinMap.{get}
 use Rattle.hc_model.specs.contracts.walk.Kind.{the_type}
-use Rattle.hc_model.specs.declared.walk.Kind.TheVariants.{Dir}
-use Rattle.hc_model.specs.Node.{Node, dir, file, text, kind_of, is_dir}
-use Rattle.hc_world.specs.Entries.{world_of, node_of}
 use Rattle.hc_world.proofs.Worlds.{put-is_dir, IsEdit-from_Edits, EditsFiles-from_add}
 use Rattle.hc_world.proofs.entries.put_file.Goals as goal
 

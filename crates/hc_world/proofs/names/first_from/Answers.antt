@@ -1,6 +1,4 @@
-use Rattle.std.proofs.Common.{sym, ◌∙◌, subst}
-use Rattle.hc_world.specs.Entries.{world_of}
-use Rattle.hc_world.specs.Places.{IsFirstFrom}
+use Rattle.hc_world.proofs.Common.{sym, ◌∙◌, subst, world_of, IsFirstFrom}
 use Rattle.hc_world.proofs.Places.{first_in_world, none_in_world}
 use Rattle.hc_world.proofs.names.first_from.Goals as goal
 

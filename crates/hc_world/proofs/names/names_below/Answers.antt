@@ -1,9 +1,4 @@
-use Rattle.std.proofs.Common.{◌≡◌, [], ◌∷◌, ◌++◌, Some, None, append-nil, sym, ap, ◌∙◌, subst, rules}
-use Rattle.std.specs.FinMap.{keys}
-use Rattle.std.specs.List.{filter_map}
-use Rattle.std.specs.Option.{option_map}
-use Rattle.hc_world.specs.Entries.{world_of}
-use Rattle.hc_world.specs.Places.{GoesOn, keys_from, name_behind}
+use Rattle.hc_world.proofs.Common.{◌≡◌, [], ◌∷◌, ◌++◌, Some, None, append-nil, sym, ap, ◌∙◌, subst, rules, keys, filter_map, option_map, world_of, GoesOn, keys_from, name_behind}
 use Rattle.hc_world.proofs.Places.{fewer_left, keys_from-nil, names-behind, names_end, names_go_on}
 use Rattle.hc_world.proofs.names.names_below.Goals as goal
 

@@ -1,8 +1,4 @@
-use Rattle.std.proofs.Common.{◌≡◌, ◌++◌, length}
-use Rattle.std.specs.FinMap.{keys}
-use Rattle.std.specs.List.{filter_map}
-use Rattle.hc_world.specs.Entries.{world_of}
-use Rattle.hc_world.specs.Places.{keys_from, name_behind}
+use Rattle.hc_world.proofs.Common.{◌≡◌, ◌++◌, length, keys, filter_map, world_of, keys_from, name_behind}
 use Rattle.hc_world.proofs.names.names_below.Given as goal
 
 -- the names so far, and those of the paths at the place or behind it

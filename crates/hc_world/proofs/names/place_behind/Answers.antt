@@ -1,5 +1,4 @@
-use Rattle.std.proofs.Common.{◌≡◌, true, sym, ◌∙◌, subst, Some, rules}
-use Rattle.hc_world.specs.Places.{GoesOn, is_before}
+use Rattle.hc_world.proofs.Common.{◌≡◌, true, sym, ◌∙◌, subst, Some, rules, GoesOn, is_before}
 use Rattle.hc_world.proofs.Order.{is_before-lt}
 use Rattle.hc_world.proofs.Places.{GoesOn-behind, GoesOn-child, GoesOn-end, GoesOn-front}
 use Rattle.hc_world.proofs.names.place_behind.Goals as goal

@@ -1,8 +1,6 @@
-use Rattle.std.proofs.Common.{rules, tests}
+use Rattle.hc_world.proofs.Common.{rules, tests, is_slash, is_component}
 use Rattle.std.proofs.lemmas.Iterator.Search.{all_from_yields_List}
 use Rattle.std.proofs.lemmas.Iterator.Splits.{YieldsList-from_slice_split}
-use Rattle.hc_base.specs.Paths.{is_slash}
-use Rattle.hc_model.specs.World.{is_component}
 use Rattle.hc_world.proofs.path.has_components.Goals as goal
 
 pub returns : goal.returns

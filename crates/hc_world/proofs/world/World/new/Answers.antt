@@ -1,6 +1,4 @@
-use Rattle.std.proofs.Common.{◌≡◌, sym, subst, rules}
-use Rattle.hc_model.specs.World.{IsWorld, new_world}
-use Rattle.hc_world.specs.Entries.{world_of}
+use Rattle.hc_world.proofs.Common.{◌≡◌, sym, subst, rules, IsWorld, new_world, world_of}
 use Rattle.hc_world.proofs.Worlds.{IsWorld-new_world}
 use Rattle.hc_world.proofs.world.World.new.Goals as goal
 

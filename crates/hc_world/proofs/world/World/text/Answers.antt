@@ -1,9 +1,4 @@
-use Rattle.std.proofs.Common.{◌≡◌, Some, None, sym, ap, ◌∙◌, rules}
-use Rattle.std.specs.FinMap.{get}
-use Rattle.std.specs.Option.{option_map, option_copied}
-use Rattle.hc_model.specs.Node.{text_of}
-use Rattle.hc_model.specs.World.{Edited}
-use Rattle.hc_world.specs.Entries.{node_of}
+use Rattle.hc_world.proofs.Common.{◌≡◌, Some, None, sym, ap, ◌∙◌, rules, get, option_map, option_copied, text_of, Edited, node_of}
 use Rattle.hc_world.proofs.Lookups.{get-world_of}
 use Rattle.hc_world.proofs.world.World.text.Goals as goal
 
