@@ -2,5 +2,6 @@ pub mod Tests
 pub mod FoundView
 pub mod Filled
 pub mod Locations
+pub mod Servers
 pub mod Mapping
 pub mod ServersView

@@ -1,8 +1,9 @@
 -- Where a redirect sends a request.
 -- Apache manual, mod_alias, Redirect; what it leaves open is our own choice.
-use Rattle.std.specs.Prelude.{ℕ, ◌==◌, List, [], ◌∷◌, ◌++◌, Bool, ◌&&◌, ◌||◌, length, nat_le, nat_lt, codes, decimal, if◌then◌else◌}
+use Rattle.std.specs.Prelude.{ℕ, ◌==◌, List, [], ◌∷◌, ◌++◌, length, nat_le, nat_lt, codes, decimal}
+use Rattle.std.specs.Prelude.{Bool, ◌&&◌, ◌||◌, if◌then◌else◌}
 use Rattle.std.specs.List.{list_any}
-use Rattle.hc_base.specs.Bytes.{colon, question}
+use Rattle.hc_base.specs.Bytes.{colon, is_question, question}
 use Rattle.hc_base.specs.Paths.{begins_with_slash}
 use Rattle.hc_target.specs.Escapes.{escaped}
 use Rattle.hc_model.specs.declared.mapping.Redirect.{Redirect}
@@ -35,22 +36,21 @@ origin caller =
 
 -- ---- the location
 
-abbrev pub is_question : ℕ → Bool
-is_question b = b == question
-
 -- A target that begins with a slash is one of the server's own.
 abbrev pub absolute : Caller → List ℕ → List ℕ
 absolute caller target = if begins_with_slash target then origin caller ++ target else target
 
--- The query follows, unless it is empty or the target has one.
-abbrev pub with_query : List ℕ → List ℕ → List ℕ
-with_query query target =
-    if (length query == 0) || list_any is_question target then target else target ++ question ∷ query
+-- The query is left out where it is empty, and where the target has one.
+abbrev pub query_part : List ℕ → List ℕ → List ℕ
+query_part target query = if (length query == 0) || list_any is_question target then [] else question ∷ query
+
+abbrev pub location_to : Caller → List ℕ → List ℕ → List ℕ → List ℕ
+location_to caller target rest query = absolute caller target ++ escaped rest ++ query_part target query
 
 -- The target with its groups, what follows the prefix, escaped, and the query.
 abbrev pub location : Caller → Redirect → Found → List ℕ → List ℕ
 location caller redirect found query =
-    with_query query (absolute caller (filled found.groups redirect.to) ++ escaped found.rest)
+    location_to caller (filled found.groups redirect.to) found.rest query
 
 -- ---- the answer
 

@@ -1,14 +1,11 @@
 -- How a URL path becomes a file name, or is sent away.
 -- Apache manual, mod_alias, "Order of Processing"; core, DocumentRoot; "Mapping URLs to Filesystem
--- Locations". That a host's entries come before those of the main server, and repeated slashes of a
--- name become one, is our own choice.
-use Rattle.std.specs.Prelude.{ℕ, ◌<◌, ⊤, List, [], ◌∷◌, ◌++◌, length, slice_get, Option, Some, None, option_map}
+-- Locations". That a host's entries come before those of the main server is our own choice.
+use Rattle.std.specs.Prelude.{ℕ, List, [], ◌∷◌, ◌++◌, Option, Some, None, option_map}
 use Rattle.std.specs.List.{flat_map}
 use Rattle.std.specs.Option.{option_or}
-use Rattle.hc_base.specs.Paths.{merge_slashes}
 use Rattle.hc_model.specs.declared.config.Config.{Config}
 use Rattle.hc_model.specs.declared.config.HostId.{HostId}
-use Rattle.hc_model.specs.declared.config.HostId.TheVariants.{Main, Nth}
 use Rattle.hc_model.specs.declared.config.Server.{Server}
 use Rattle.hc_model.specs.declared.mapping.Alias.{Alias}
 use Rattle.hc_model.specs.declared.mapping.Redirect.{Redirect}
@@ -19,23 +16,8 @@ use Rattle.hc_alias.specs.declared.mapping.Mapped.{Mapped}
 use Rattle.hc_alias.specs.declared.mapping.Mapped.TheVariants as mapped
 use Rattle.hc_alias.specs.Filled.{filled}
 use Rattle.hc_alias.specs.Locations.{sent_by}
+use Rattle.hc_alias.specs.Servers.{servers_of}
 use Rattle.hc_alias.specs.Tests.{Found, first_taking}
-
--- ---- the servers that answer
-
--- A virtual host is one of the configuration's.
-abbrev pub IsHostOf : Config → HostId → Type 0
-IsHostOf config Main = ⊤
-IsHostOf config (Nth place) = place < length config.hosts
-
--- The host, if there is one, before the main server.
-abbrev pub host_before : Option Server → List Server → List Server
-host_before None servers = servers
-host_before (Some host) servers = host ∷ servers
-
-abbrev pub servers_of : Config → HostId → List Server
-servers_of config Main = config.main ∷ []
-servers_of config (Nth place) = host_before (slice_get config.hosts place) (config.main ∷ [])
 
 -- ---- redirects
 
@@ -44,6 +26,9 @@ redirect_spot redirect = record { place = redirect.place; span = redirect.span }
 
 abbrev pub away_by : Caller → List ℕ → Redirect × Found → Away
 away_by caller query taken = record { outcome = sent_by caller taken.0 taken.1 query; from = redirect_spot taken.0 }
+
+abbrev pub redirects_of : List Server → List Redirect
+redirects_of servers = flat_map (λ server. server.redirects) servers
 
 -- Where the first redirect of a list that takes the path sends the request.
 abbrev pub away : List Redirect → List ℕ → List ℕ → Caller → Option Away
@@ -56,8 +41,10 @@ abbrev pub alias_spot : Alias → Spot
 alias_spot alias = record { place = alias.place; span = alias.span }
 
 abbrev pub named_by : Alias × Found → Mapped
-named_by taken =
-    mapped.Name (merge_slashes (filled taken.1.groups taken.0.to ++ taken.1.rest)) (Some (alias_spot taken.0))
+named_by taken = mapped.Name (filled taken.1.groups taken.0.to ++ taken.1.rest) (Some (alias_spot taken.0))
+
+abbrev pub maps_of : List Server → List Alias
+maps_of servers = flat_map (λ server. server.maps) servers
 
 -- The name that the first alias of a list gives that takes the path.
 abbrev pub aliased : List Alias → List ℕ → Option Mapped
@@ -70,7 +57,7 @@ root_of (server ∷ servers) = option_or server.root (root_of servers)
 
 abbrev pub under_root : Option (List ℕ) → List ℕ → Mapped
 under_root None path = mapped.NoRoot
-under_root (Some root) path = mapped.Name (merge_slashes (root ++ path)) None
+under_root (Some root) path = mapped.Name (root ++ path) None
 
 -- ---- the mapping
 
@@ -85,9 +72,8 @@ unless_away (Some sent) other = mapped.Away sent
 -- The redirects of all these servers come before their aliases, and these before the root.
 abbrev pub mapped_among : List Server → List ℕ → List ℕ → Caller → Mapped
 mapped_among servers path query caller =
-    unless_away (away (flat_map (λ server. server.redirects) servers) path query caller)
-    (or_named (aliased (flat_map (λ server. server.maps) servers) path)
-    (under_root (root_of servers) path))
+    unless_away (away (redirects_of servers) path query caller)
+    (or_named (aliased (maps_of servers) path) (under_root (root_of servers) path))
 
 abbrev pub map_url : Config → HostId → List ℕ → List ℕ → Caller → Mapped
 map_url config host path query caller = mapped_among (servers_of config host) path query caller

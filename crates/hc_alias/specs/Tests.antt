@@ -1,6 +1,7 @@
 -- Which URL paths an alias or a redirect takes, and what it finds in them.
 -- Apache manual, mod_alias: Alias, AliasMatch, Redirect, RedirectMatch.
-use Rattle.std.specs.Prelude.{ℕ, ◌-◌, ◌==◌, List, [], ◌∷◌, length, take, drop, Bool, ◌&&◌, ◌||◌, nat_eq, Option, Some, None, option_map, if◌then◌else◌}
+use Rattle.std.specs.Prelude.{ℕ, ◌-◌, ◌==◌, List, [], ◌∷◌, length, take, drop, nat_eq}
+use Rattle.std.specs.Prelude.{Bool, ◌&&◌, ◌||◌, Option, Some, None, option_map, if◌then◌else◌}
 use Rattle.std.specs.List.{starts_with}
 use Rattle.hc_base.specs.Paths.{begins_with_slash, ends_with_slash}
 use Rattle.hc_base.specs.declared.place.Span.{Span}

@@ -3,7 +3,8 @@ ghost use Rattle.std.specs.String.{string_bytes};
 ghost use Rattle.hc_base.specs.Bytes.{colon};
 ghost use Rattle.hc_alias.specs.FoundView.{found_of};
 ghost use Rattle.hc_alias.specs.Locations as definition;
-ghost use Rattle.hc_alias.specs.Locations.{default_port, is_redirection, origin, port_part, scheme_name, with_query};
+ghost use Rattle.hc_alias.specs.Locations.{default_port, is_redirection, origin, port_part, scheme_name};
+ghost use Rattle.hc_alias.specs.Locations.{location_to, query_part};
 
 use crate::filled::filled;
 use crate::tests::Found;
@@ -63,28 +64,42 @@ fn origin(alloc: Global, caller: &Caller) -> Result<Vec<u8>, NoMemory>
 }
 
 /// A target that begins with a slash is one of the server's own.
-fn absolute(alloc: Global, caller: &Caller, target: Vec<u8>) -> Result<Vec<u8>, NoMemory>
-    ensures { IfOk result (λ text. text.items ≡ definition.absolute caller.now target.items) }
+fn absolute(alloc: Global, caller: &Caller, target: &[u8]) -> Result<Vec<u8>, NoMemory>
+    ensures { IfOk result (λ text. text.items ≡ definition.absolute caller.now target.now) }
 {
-    if !begins_with_slash(&target) {
-        return Ok(target);
+    if !begins_with_slash(target) {
+        return target.to_vec(alloc);
     }
     let mut text = origin(alloc, caller)?;
-    text.extend_from_slice(&target)?;
+    text.extend_from_slice(target)?;
     Ok(text)
 }
 
-/// The query follows, unless it is empty or the target has one.
-fn with_query(query: &[u8], target: Vec<u8>) -> Result<Vec<u8>, NoMemory>
-    ensures { IfOk result (λ text. text.items ≡ with_query query.now target.items) }
+/// The query is left out where it is empty, and where the target has one.
+fn push_query(out: &mut Vec<u8>, target: &[u8], query: &[u8]) -> Result<(), NoMemory>
+    ensures { OnOk result (out.new.items ≡ out.old.items ++ query_part target.now query.now) }
 {
     if query.is_empty() || target.contains(&b'?') {
-        return Ok(target);
+        return Ok(());
     }
-    let mut text = target;
-    text.push(b'?')?;
-    text.extend_from_slice(query)?;
-    Ok(text)
+    out.push(b'?')?;
+    out.extend_from_slice(query)
+}
+
+fn location_to(
+    alloc: Global,
+    caller: &Caller,
+    target: &[u8],
+    rest: &[u8],
+    query: &[u8],
+) -> Result<Text, NoMemory>
+    ensures { IfOk result (λ text. text ≡ location_to caller.now target.now rest.now query.now) }
+{
+    let mut text = absolute(alloc, caller, target)?;
+    let rest = escape_path(alloc, rest)?;
+    text.extend_from_slice(rest.as_bytes())?;
+    push_query(&mut text, target, query)?;
+    Ok(Text::from(text))
 }
 
 /// The target with its groups, what follows the prefix, escaped, and the query.
@@ -99,10 +114,7 @@ fn location(
         text ≡ definition.location caller.now redirect.now (found_of found.now) query.now) }
 {
     let target = filled(alloc, redirect.to.as_slice(), found)?;
-    let mut text = absolute(alloc, caller, target)?;
-    let rest = escape_path(alloc, found.rest())?;
-    text.extend_from_slice(rest.as_bytes())?;
-    Ok(Text::from(with_query(query, text)?))
+    location_to(alloc, caller, &target, found.rest(), query)
 }
 
 /// The status is one of a redirect.

@@ -1,25 +1,23 @@
 ghost use Rattle.std.specs.Prelude.{◌≡◌, IfOk};
-ghost use Rattle.std.specs.List.{flat_map};
 ghost use Rattle.std.specs.Option.{option_map};
-ghost use Rattle.hc_base.specs.Paths.{merge_slashes};
 ghost use Rattle.hc_alias.specs.FoundView.{found_of};
 ghost use Rattle.hc_alias.specs.Mapping as definition;
-ghost use Rattle.hc_alias.specs.Mapping.{IsHostOf, aliased, away, named_by, root_of, under_root};
+ghost use Rattle.hc_alias.specs.Mapping.{aliased, away, maps_of, named_by, redirects_of, root_of, under_root};
+ghost use Rattle.hc_alias.specs.Servers.{IsHostOf, servers_of};
 ghost use Rattle.hc_alias.specs.ServersView.{servers_view};
 
 use crate::filled::filled;
 use crate::locations::sent_by;
+use crate::servers::server_at;
 use crate::tests::{Found, first_taking};
-use hc_base::paths::begins_with_slash;
 use hc_base::{NoMemory, Place, Span, Text};
 use hc_model::{Alias, Caller, Config, HostId, Outcome, Redirect, Server, Spot};
 use std::alloc::Global;
 
 /// What a URL path is mapped to.
-#[derive(Debug, Drop)]
+#[derive(Clone, Drop)]
 pub enum Mapped {
-    /// A file name without repeated slashes, and the alias that gave it; none where it is the
-    /// document root's.
+    /// A file name, and the alias that gave it; none where it is the document root's.
     Name { name: Text, from: Option<Spot> },
     /// The request is sent away.
     Away(Away),
@@ -28,7 +26,7 @@ pub enum Mapped {
 }
 
 /// The answer of a redirect, and the redirect.
-#[derive(Debug, Drop)]
+#[derive(Clone, Drop)]
 pub struct Away {
     pub outcome: Outcome,
     pub from: Spot,
@@ -100,11 +98,11 @@ impl<'c> Servers<'c> {
     /// The servers that answer for a host.
     fn of(config: &'c Config, host: HostId) -> Servers<'c>
         requires { IsHostOf config.now host }
-        ensures { servers_view result ≡ definition.servers_of config.now host }
+        ensures { servers_view result ≡ servers_of config.now host }
     {
         let host = match host {
             HostId::Main => None,
-            HostId::Nth(place) => config.hosts.as_slice().get(place as usize),
+            HostId::Nth(_) => Some(server_at(config, host)),
         };
         Servers {
             host,
@@ -122,7 +120,7 @@ impl<'c> Servers<'c> {
         caller: &Caller,
     ) -> Result<Option<Away>, NoMemory>
         ensures { IfOk result (λ sent.
-            sent ≡ away (flat_map (λ server. server.redirects) (servers_view self.now)) path.now query.now caller.now) }
+            sent ≡ away (redirects_of (servers_view self.now)) path.now query.now caller.now) }
     {
         let main = self.main.redirects.as_slice();
         let Some(host) = self.host else {
@@ -137,8 +135,7 @@ impl<'c> Servers<'c> {
     /// The name that the first alias gives that takes the path.
     #[tactic(auto, using(crate::proofs::Taking::first_of_both))]
     fn aliased(&self, alloc: Global, path: &[u8]) -> Result<Option<Mapped>, NoMemory>
-        ensures { IfOk result (λ name.
-            name ≡ aliased (flat_map (λ server. server.maps) (servers_view self.now)) path.now) }
+        ensures { IfOk result (λ name. name ≡ aliased (maps_of (servers_view self.now)) path.now) }
     {
         let main = self.main.maps.as_slice();
         let Some(host) = self.host else {
@@ -178,7 +175,7 @@ fn named_by(alloc: Global, alias: &Alias, found: &Found<'_>) -> Result<Mapped, N
     let mut name = filled(alloc, alias.to.as_slice(), found)?;
     name.extend_from_slice(found.rest())?;
     Ok(Mapped::Name {
-        name: merge_slashes(alloc, &name)?,
+        name: Text::from(name),
         from: Some(spot(&alias.place, alias.span)?),
     })
 }
@@ -193,20 +190,7 @@ fn under_root(alloc: Global, root: Option<&Text>, path: &[u8]) -> Result<Mapped,
     let mut name = root.as_bytes().to_vec(alloc)?;
     name.extend_from_slice(path)?;
     Ok(Mapped::Name {
-        name: merge_slashes(alloc, &name)?,
+        name: Text::from(name),
         from: None,
     })
-}
-
-/// The bytes with each run of slashes as one.
-fn merge_slashes(alloc: Global, bytes: &[u8]) -> Result<Text, NoMemory>
-    ensures { IfOk result (λ merged. merged ≡ merge_slashes bytes.now) }
-{
-    let mut merged = Vec::new(alloc);
-    for (index, byte) in bytes.iter().enumerate() {
-        if *byte != b'/' || !begins_with_slash(&bytes[index + 1..]) {
-            merged.push(*byte)?;
-        }
-    }
-    Ok(Text::from(merged))
 }
