@@ -1,0 +1,4 @@
+pub mod Variables
+pub mod VariablesView
+pub mod Says
+pub mod Known

@@ -1,0 +1,21 @@
+-- What the chunks of a text give that end at a byte which no name of a variable has.
+use Rattle.std.specs.Prelude.{ℕ, ◌==◌, List, [], ◌∷◌, ◌++◌, drop, Bool, false, ◌&&◌, Option, if◌then◌else◌}
+use Rattle.hc_base.specs.Bytes.{brace_close, brace_open, colon, dollar}
+use Rattle.hc_says.specs.Variables.{stands_for}
+use Rattle.hc_says.specs.declared.variables.Chunk.{Chunk}
+
+-- The bytes begin with `${`.
+abbrev pub begins_variable : List ℕ → Bool
+begins_variable [] = false
+begins_variable (b ∷ []) = false
+begins_variable (b ∷ c ∷ bs) = (b == dollar) && (c == brace_open)
+
+-- What bytes without `}` and `:` give together with a `}` behind them: the first `${` begins a
+-- variable.
+abbrev pub closed : (List ℕ → Option (List ℕ)) → List ℕ → List ℕ
+closed value [] = brace_close ∷ []
+closed value (b ∷ bs) = if begins_variable (b ∷ bs) then stands_for value (drop 1 bs) else b ∷ closed value bs
+
+-- What a chunk gives with the byte behind it.
+abbrev pub chunk_made : (List ℕ → Option (List ℕ)) → Chunk → List ℕ
+chunk_made value chunk = if chunk.closes then closed value chunk.front.now else chunk.front.now ++ colon ∷ []
