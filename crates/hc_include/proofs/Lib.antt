@@ -1,10 +1,6 @@
-pub mod Includes
-pub mod Indexes
-pub mod Levels
+pub mod Common
 pub mod Counting
-pub mod Parts
-pub mod Replacing
-pub mod Rising
-pub mod Rows
-pub mod Steps
-pub mod Wild
+pub mod Ending
+pub mod Paths
+pub mod Texts
+pub mod Whole

@@ -1,282 +1,243 @@
-ghost use Rattle.std.specs.Prelude.{◌≡◌, ◌+◌, ◌≤◌, ◌++◌, ◌∷◌, [], None, IfOk, length};
-ghost use Rattle.hc_model.specs.World as model;
+ghost use Rattle.std.specs.Prelude.{◌≡◌, ◌+◌, ◌≤◌, ◌++◌, ◌∷◌, [], ℕ, IfOk};
 ghost use Rattle.hc_lines.specs.Logical.{lines_of};
-ghost use Rattle.hc_lines.specs.declared.line.FileKind.TheVariants.{Config};
-ghost use Rattle.hc_nodes.specs.NodeView.{nodes_view};
-ghost use Rattle.hc_nodes.specs.Parts.{tree_of};
-ghost use Rattle.hc_nodes.specs.Tree.{nodes_of, refusal_of};
-ghost use Rattle.hc_include.specs.Flat as flat_list;
-ghost use Rattle.hc_include.specs.Flat.{Reader, file_read, files_read, lines_read, missing_rule, nodes_read, read_from, rule, tree_read};
-ghost use Rattle.hc_include.specs.Flattened.{IsFlat};
-ghost use Rattle.hc_include.specs.LevelsView.{levels_read};
-ghost use Rattle.hc_include.specs.StandingView.{seen};
+ghost use Rattle.hc_steps.specs.Ran.{Logged, Ran};
+ghost use Rattle.hc_steps.specs.Run.{run};
+ghost use Rattle.hc_steps.specs.Shown.{shown_by};
+ghost use Rattle.hc_steps.specs.Step.{Shown, ends, in_order};
+ghost use Rattle.hc_nodes.specs.Tree.{refusal_of};
+ghost use Rattle.hc_include.specs.Counting.{Counts};
+ghost use Rattle.hc_include.specs.Flat.{file_read, having_read, line_read, lines_read, lines_unless};
+ghost use Rattle.hc_include.specs.Flat.{missing, inner, stopped_at, text_read, within};
 
 use crate::around::Around;
-use crate::directive::Next;
-use crate::entry::stopped_at;
-use crate::flat::Flat;
-use crate::kept::Standing;
-use crate::order::is_there;
-use crate::reads::in_order;
-use crate::walk::{Level, advance};
+use crate::candidates::is_there;
+use crate::change::change_by;
+use crate::reading::{Reading, Stopped};
 use hc_base::codes::{CONTENT_MISSING, INCLUDE_MISSING};
-use hc_base::{Fault, List, NoMemory, Steps, Text};
-use hc_lines::{FileKind, Line, logical_lines};
-use hc_model::Read;
-use hc_nodes::{Node, first_refusal, read_part};
-use hc_world::World;
+use hc_base::{AtByte, Fault, List, NoMemory, Place, Refusal, Steps, Text};
+use hc_lines::{Line, logical_lines};
+use hc_model::Kind;
+use hc_nodes::first_refusal;
+use hc_steps::Log;
+use hc_world::{FoundText, World, text_at};
 use std::alloc::Global;
 use std::sync::ledger::Ledger;
 
-/// The most files that stand within each other, without the main file.
-const DEEPEST: u32 = 32;
-
-/// The flat list of the configuration of a main file (Apache manual, "Configuration Files"; core,
-/// Include, IncludeOptional, Define, IfDefine, IfModule): its lines and those of the files that it
-/// includes, each at its place, with their variables replaced.
-///
-/// `bytes` rises by the bytes of the texts that are read, each time that one is. More than 2^32
-/// entries find no memory.
-#[tactic(auto, unfolding(crate::specs::Flat::read_from))]
-pub fn flatten<L: Ledger>(
-    alloc: Global,
+/// Reads a file where the reading stands.
+#[tactic(auto, using(hc_steps::proofs::Going::ran_no_memory))]
+#[cycle(files)]
+pub(crate) fn read_file<L: Ledger>(
     world: &World,
-    main: &[u8],
+    log: &mut Log,
     bytes: &mut Steps<L>,
-) -> Result<Flat, NoMemory>
-    ensures flat { IfOk result (IsFlat world.now.files main.now) }
-    ensures bytes { IfOk result (λ _. bytes.new ≡ bytes.old + (read_from world.now.files main.now).bytes) }
-    ensures rise { bytes.old ≤ bytes.new }
+    around: &Around,
+    reading: Reading,
+) -> Result<Reading, Fault<Stopped>>
+    ensures read { Ran result log.old log.new
+        (run (file_read around.now (inner around.now) reading) (shown_by world.now.files)) }
+    ensures bytes { Counts result bytes.old bytes.new reading.bytes }
 {
-    let mut looked = List::new(alloc);
-    looked.push(Read::TextOf(Text::copy_of(alloc, main)?))?;
-    let standing = Standing::new(alloc, looked);
-    let within = List::new(alloc);
-    let standing = read_file(alloc, world, DEEPEST, &[], main, &within, standing, bytes)?;
-    Ok(Flat {
-        file: Text::copy_of(alloc, main)?,
-        entries: standing.entries,
-        stop: standing.stop,
-        reads: in_order(alloc, standing.looked.as_slice())?,
-    })
+    let found: Result<FoundText, Fault<Stopped>> = text_at(world, log, around.file.as_bytes());
+    match found {
+        Ok(found) => read_text(world, log, bytes, around, reading, &found),
+        Err(_) => Err(Fault::NoMemory),
+    }
 }
 
-// Reads a file, behind the files of the chain, within these openings; so many more files may stand
-// within it.
+// The rules of a file's lines come first, then those of its sections.
+#[tactic(auto, using(hc_steps::proofs::Going::ran_no_memory))]
 #[cycle(files)]
-fn read_file<L: Ledger>(
-    alloc: Global,
+fn read_text<L: Ledger>(
     world: &World,
-    room: u32,
-    chain: &[Text],
-    file: &[u8],
-    within: &List<u32>,
-    standing: Standing,
+    log: &mut Log,
     bytes: &mut Steps<L>,
-) -> Result<Standing, NoMemory>
-    ensures read { IfOk result (λ later. seen later bytes.new ≡ file_read world.now.files room chain.now file.now within.now (seen standing bytes.old)) }
-    ensures rise { bytes.old ≤ bytes.new }
+    around: &Around,
+    reading: Reading,
+    found: &FoundText,
+) -> Result<Reading, Fault<Stopped>>
+    ensures read { Ran result log.old log.new
+        (run (text_read around.now (inner around.now) reading found.now.kind found.now.text)
+        (shown_by world.now.files)) }
+    ensures bytes { Counts result bytes.old bytes.new reading.bytes }
 {
-    let around = around_of(alloc, room, chain, file)?;
-    match world.text(file) {
-        Some(text) => read_lines(alloc, world, &around, text, within, standing, bytes),
-        None => stopped_at(&around, 0, missing_code(world, file), standing),
+    let Some(text) = found.text() else {
+        return stop(around, 0, reading, missing(found.kind()));
+    };
+    let kind = reading.setting.kind;
+    let reading = having_read(reading, text)?;
+    match logical_lines(log.allocator(), text, kind, bytes) {
+        Ok(lines) => read_tree(world, log, bytes, around, reading, &lines),
+        Err(Fault::Refused(broken)) => {
+            stop(around, broken.line, reading, AtByte::rule(broken.code))
+        }
+        Err(Fault::NoMemory) => Err(Fault::NoMemory),
     }
 }
 
 // Why a file has no text.
-fn missing_code(world: &World, file: &[u8]) -> u8
-    ensures { rule result ≡ missing_rule world.now.files file.now }
+fn missing(kind: Kind) -> AtByte
+    ensures { result ≡ missing kind }
 {
-    if is_there(world, file) {
-        CONTENT_MISSING
+    if is_there(kind) {
+        AtByte::rule(CONTENT_MISSING)
     } else {
-        INCLUDE_MISSING
+        AtByte::rule(INCLUDE_MISSING)
     }
 }
 
-fn around_of(alloc: Global, room: u32, chain: &[Text], file: &[u8]) -> Result<Around, NoMemory>
-    ensures { IfOk result (λ around. around ≡ record { file = file.now; chain = chain.now ++ file.now ∷ []; room = room }) }
+// More than 2^64 bytes find no memory.
+fn having_read(mut reading: Reading, text: &str) -> Result<Reading, NoMemory>
+    ensures { IfOk result (λ later. later ≡ having_read text.now reading) }
+{
+    let Some(bytes) = reading.bytes.checked_add(text.len() as u64) else {
+        return Err(NoMemory);
+    };
+    reading.bytes = bytes;
+    Ok(reading)
+}
+
+#[tactic(auto, using(hc_steps::proofs::Going::telling))]
+fn stop(
+    around: &Around,
+    line: u32,
+    reading: Reading,
+    broken: AtByte,
+) -> Result<Reading, Fault<Stopped>>
+    ensures read { (log : Logged) (shown : Shown)
+        → Ran result log log (run (ends (stopped_at around.now line reading broken)) shown) }
+    ensures bytes { (count : ℕ) → Counts result count count reading.bytes }
+{
+    Err(Fault::Refused(stopped_at(around, line, reading, broken)?))
+}
+
+fn stopped_at(
+    around: &Around,
+    line: u32,
+    reading: Reading,
+    broken: AtByte,
+) -> Result<Stopped, NoMemory>
+    ensures { IfOk result (λ stopped. stopped ≡ stopped_at around.now line reading broken) }
+{
+    let file = around.file.clone()?;
+    let refusal = Refusal::at(reading.entries.allocator(), Place { file, line }, broken);
+    Ok(Stopped { reading, refusal })
+}
+
+#[tactic(auto, using(hc_steps::proofs::Going::ran_no_memory))]
+#[cycle(files)]
+fn read_tree<L: Ledger>(
+    world: &World,
+    log: &mut Log,
+    bytes: &mut Steps<L>,
+    around: &Around,
+    reading: Reading,
+    lines: &[Line],
+) -> Result<Reading, Fault<Stopped>>
+    ensures read { Ran result log.old log.new
+        (run (lines_unless around.now (inner around.now) reading lines.now (refusal_of lines.now))
+        (shown_by world.now.files)) }
+    ensures bytes { Counts result bytes.old bytes.new reading.bytes }
+{
+    match first_refusal(log.allocator(), lines)? {
+        Some(broken) => stop(around, broken.line, reading, AtByte::rule(broken.code)),
+        None => {
+            let reading = reading.with_room(lines.len());
+            read_lines(world, log, bytes, around, reading, lines)
+        }
+    }
+}
+
+#[tactic(auto, using(hc_steps::proofs::Going::items, hc_steps::proofs::Going::ran_no_memory))]
+#[cycle(files)]
+fn read_lines<L: Ledger>(
+    world: &World,
+    log: &mut Log,
+    bytes: &mut Steps<L>,
+    around: &Around,
+    mut reading: Reading,
+    lines: &[Line],
+) -> Result<Reading, Fault<Stopped>>
+    ensures read { Ran result log.old log.new
+        (run (in_order (line_read around.now (inner around.now)) reading lines.now) (shown_by world.now.files)) }
+    ensures bytes { Counts result bytes.old bytes.new reading.bytes }
+{
+    for line in lines {
+        reading = read_line(world, log, bytes, around, reading, line)?;
+    }
+    Ok(reading)
+}
+
+// A line, and the files that come behind it.
+#[tactic(auto, using(hc_steps::proofs::Going::ran_no_memory))]
+#[cycle(files)]
+fn read_line<L: Ledger>(
+    world: &World,
+    log: &mut Log,
+    bytes: &mut Steps<L>,
+    around: &Around,
+    reading: Reading,
+    line: &Line,
+) -> Result<Reading, Fault<Stopped>>
+    ensures read { Ran result log.old log.new
+        (run (line_read around.now (inner around.now) reading line.now) (shown_by world.now.files)) }
+    ensures bytes { Counts result bytes.old bytes.new reading.bytes }
+{
+    let change = match change_by(world, log, around, &reading, line) {
+        Ok(change) => change,
+        Err(Fault::Refused(broken)) => return stop(around, line.number, reading, broken),
+        Err(Fault::NoMemory) => return Err(Fault::NoMemory),
+    };
+    let (reading, files) = reading.changed(log.allocator(), around, line, change)?;
+    read_files(world, log, bytes, around, reading, files.as_slice())
+}
+
+// Reads files one after another within the one that is read.
+#[tactic(auto, using(hc_steps::proofs::Going::items, hc_steps::proofs::Going::ran_no_memory))]
+#[cycle(files)]
+fn read_files<L: Ledger>(
+    world: &World,
+    log: &mut Log,
+    bytes: &mut Steps<L>,
+    around: &Around,
+    mut reading: Reading,
+    files: &[Text],
+) -> Result<Reading, Fault<Stopped>>
+    ensures read { Ran result log.old log.new
+        (run (in_order (inner around.now) reading files.now) (shown_by world.now.files)) }
+    ensures bytes { Counts result bytes.old bytes.new reading.bytes }
+{
+    if around.room == 0 {
+        return Ok(reading);
+    }
+    for file in files {
+        let inner = within(
+            log.allocator(),
+            around.room - 1,
+            around.chain.as_slice(),
+            file,
+        )?;
+        reading = read_file(world, log, bytes, &inner, reading)?;
+    }
+    Ok(reading)
+}
+
+/// A file behind these, where so many may stand within it.
+pub(crate) fn within(
+    alloc: Global,
+    room: u32,
+    chain: &[Text],
+    file: &Text,
+) -> Result<Around, NoMemory>
+    ensures { IfOk result (λ around. around ≡ within room chain.now file.now) }
 {
     let mut files = List::new(alloc);
     for outer in chain {
         files.push(outer.clone()?)?;
     }
-    files.push(Text::copy_of(alloc, file)?)?;
+    files.push(file.clone()?)?;
     Ok(Around {
-        file: Text::copy_of(alloc, file)?,
+        file: file.clone()?,
         chain: files,
         room,
     })
-}
-
-// The rules of a file's lines come first, then those of its sections.
-#[cycle(files)]
-fn read_lines<L: Ledger>(
-    alloc: Global,
-    world: &World,
-    around: &Around,
-    text: &str,
-    within: &List<u32>,
-    standing: Standing,
-    bytes: &mut Steps<L>,
-) -> Result<Standing, NoMemory>
-    ensures read { IfOk result (λ later. seen later bytes.new ≡ lines_read world.now.files around.now (files_read world.now.files around.now.room around.now.chain) within.now (lines_of Config text.now) (seen standing (bytes.old + length text.now))) }
-    ensures rise { bytes.old ≤ bytes.new }
-{
-    match logical_lines(alloc, text, FileKind::Config, bytes) {
-        Ok(lines) => read_tree(alloc, world, around, &lines, within, standing, bytes),
-        Err(Fault::Refused(broken)) => stopped_at(around, broken.line, broken.code, standing),
-        Err(Fault::NoMemory) => Err(NoMemory),
-    }
-}
-
-#[cycle(files)]
-fn read_tree<L: Ledger>(
-    alloc: Global,
-    world: &World,
-    around: &Around,
-    lines: &[Line],
-    within: &List<u32>,
-    standing: Standing,
-    bytes: &mut Steps<L>,
-) -> Result<Standing, NoMemory>
-    ensures read { IfOk result (λ later. seen later bytes.new ≡ tree_read world.now.files around.now (files_read world.now.files around.now.room around.now.chain) within.now (nodes_of lines.now) (seen standing bytes.old)) }
-    ensures rise { bytes.old ≤ bytes.new }
-{
-    match first_refusal(alloc, lines)? {
-        Some(broken) => stopped_at(around, broken.line, broken.code, standing),
-        None => read_parts(alloc, world, around, lines, within, standing, bytes),
-    }
-}
-
-// Reads lines that break no rule of sections, part by part.
-#[cycle(files)]
-fn read_parts<L: Ledger>(
-    alloc: Global,
-    world: &World,
-    around: &Around,
-    lines: &[Line],
-    within: &List<u32>,
-    mut standing: Standing,
-    bytes: &mut Steps<L>,
-) -> Result<Standing, NoMemory>
-    requires { refusal_of lines.now ≡ None }
-    ensures read { IfOk result (λ later. seen later bytes.new ≡ nodes_read world.now.files around.now (files_read world.now.files around.now.room around.now.chain) (tree_of lines.now) within.now (seen standing bytes.old)) }
-    ensures rise { bytes.old ≤ bytes.new }
-{
-    let mut at = 0usize;
-    while at < lines.len() {
-        let part = read_part(alloc, lines.split_at(at).1)?;
-        standing = read_body(alloc, world, around, &part.nodes, within, standing, bytes)?;
-        at += part.lines;
-    }
-    Ok(standing)
-}
-
-#[cycle(files)]
-fn read_body<L: Ledger>(
-    alloc: Global,
-    world: &World,
-    around: &Around,
-    nodes: &[Node],
-    within: &List<u32>,
-    standing: Standing,
-    bytes: &mut Steps<L>,
-) -> Result<Standing, NoMemory>
-    ensures read { IfOk result (λ later. seen later bytes.new ≡ nodes_read world.now.files around.now (files_read world.now.files around.now.room around.now.chain) (nodes_view nodes.now) within.now (seen standing bytes.old)) }
-    ensures rise { bytes.old ≤ bytes.new }
-{
-    let levels = first_level(alloc, nodes, within)?;
-    read_levels(alloc, world, around, levels, standing, bytes)
-}
-
-// The level of a file's nodes.
-fn first_level<'n, 'l, 't>(
-    alloc: Global,
-    nodes: &'n [Node<'l, 't>],
-    within: &List<u32>,
-) -> Result<Vec<Level<'n, 'l, 't>>, NoMemory>
-    ensures { IfOk result (λ levels. (world : model.World) (around : Around) (read : Reader) (standing : flat_list.Standing) → levels_read world around read levels.items standing ≡ nodes_read world around read (nodes_view nodes.now) within.now standing) }
-{
-    let mut levels = Vec::new(alloc);
-    levels.push(Level {
-        nodes,
-        within: within.copy()?,
-        close: None,
-    })?;
-    Ok(levels)
-}
-
-#[cycle(files)]
-fn read_levels<L: Ledger>(
-    alloc: Global,
-    world: &World,
-    around: &Around,
-    mut levels: Vec<Level>,
-    mut standing: Standing,
-    bytes: &mut Steps<L>,
-) -> Result<Standing, NoMemory>
-    ensures read { IfOk result (λ later. seen later bytes.new ≡ levels_read world.now.files around.now (files_read world.now.files around.now.room around.now.chain) levels.entry.items (seen standing bytes.old)) }
-    ensures rise { bytes.old ≤ bytes.new }
-{
-    for _ in 0..u64::MAX {
-        if levels.is_empty() || standing.is_stopped() {
-            return Ok(standing);
-        }
-        standing = match advance(alloc, world, around, &mut levels, standing)? {
-            Next::Line(standing) => standing,
-            Next::Files {
-                standing,
-                files,
-                within,
-            } => read_files(
-                alloc,
-                world,
-                around.room,
-                around.chain.as_slice(),
-                &files,
-                &within,
-                standing,
-                bytes,
-            )?,
-        };
-    }
-    Err(NoMemory)
-}
-
-// Reads files one after another, where so many may stand within each other.
-#[cycle(files)]
-fn read_files<L: Ledger>(
-    alloc: Global,
-    world: &World,
-    room: u32,
-    chain: &[Text],
-    files: &[Text],
-    within: &List<u32>,
-    mut standing: Standing,
-    bytes: &mut Steps<L>,
-) -> Result<Standing, NoMemory>
-    ensures read { IfOk result (λ later. seen later bytes.new ≡ files_read world.now.files room chain.now within.now files.now (seen standing bytes.old)) }
-    ensures rise { bytes.old ≤ bytes.new }
-{
-    if room == 0 {
-        return Ok(standing);
-    }
-    for file in files {
-        if standing.is_stopped() {
-            return Ok(standing);
-        }
-        standing = read_file(
-            alloc,
-            world,
-            room - 1,
-            chain,
-            file.as_bytes(),
-            within,
-            standing,
-            bytes,
-        )?;
-    }
-    Ok(standing)
 }

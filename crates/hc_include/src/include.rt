@@ -1,236 +1,117 @@
-ghost use Rattle.std.specs.Prelude.{◌≡◌, ◌∷◌, ◌++◌, ℕ, not, map, option_map, IfOk};
-ghost use Rattle.hc_base.specs.Bytes.{slash};
+ghost use Rattle.std.specs.Prelude.{◌≡◌, ◌++◌, ◌∷◌, IfOk};
 ghost use Rattle.std.specs.List.{list_any};
-ghost use Rattle.hc_include.specs.Earlier.{same_text};
-ghost use Rattle.hc_include.specs.Flat.{Reader, files_included, files_rule, full_path, has_text, included, included_by, is_around, is_include, is_optional, named_included, no_files_rule, only_word, parts_included, rule, some_files_rule, stopped, with_words};
-ghost use Rattle.hc_include.specs.NextView.{after};
-ghost use Rattle.hc_include.specs.StandingView.{seen};
+ghost use Rattle.hc_base.specs.Bytes.{slash};
+ghost use Rattle.hc_steps.specs.Ran.{Ran};
+ghost use Rattle.hc_steps.specs.Run.{run};
+ghost use Rattle.hc_steps.specs.Shown.{shown_by};
+ghost use Rattle.hc_include.specs.Include.{below_root, files_among, include_files, include_refusal, is_around, path_of};
+ghost use Rattle.hc_says.specs.Says.{is_among};
 
 use crate::around::Around;
-use crate::directive::Next;
-use crate::entry::stopped_at;
-use crate::kept::Standing;
-use crate::named::{Named, components, named_by};
-use crate::order::files_among;
-use crate::wildcard::path_refusal;
-use crate::words::is_named;
+use crate::candidates::{Candidates, components_of, paths_of, texts_of};
+use crate::order::in_byte_order;
 use hc_base::codes::{
     CONTENT_MISSING, INCLUDE_CYCLE, INCLUDE_MISSING, INCLUDE_TOO_DEEP, NO_SERVER_ROOT,
 };
 use hc_base::paths::begins_with_slash;
-use hc_base::{CowStr, Fault, NoMemory, Text};
-use hc_lines::conf_words;
-use hc_model::Entry;
+use hc_base::{AtByte, Fault, List, NoMemory, Text};
+use hc_says::Utf8;
+use hc_steps::Log;
 use hc_world::World;
 use std::alloc::Global;
 
-/// The directive includes files.
-pub(crate) fn is_include(name: &[u8]) -> bool
-    ensures { result ≡ is_include name.now }
-{
-    is_named("Include", name) || is_named("IncludeOptional", name)
-}
-
-/// Reads an Include or IncludeOptional; `rest` is what follows its name.
-pub(crate) fn read_include(
-    alloc: Global,
+/// The files that an Include reads (Apache manual, core, Include, IncludeOptional).
+#[tactic(auto, unfolding(crate::specs::Include::include_files), using(hc_steps::proofs::Going::going))]
+pub(crate) fn include_files(
     world: &World,
+    log: &mut Log,
     around: &Around,
-    entry: Entry,
-    rest: &str,
-    standing: Standing,
-) -> Result<Next, NoMemory>
-    requires { rest.now ≡ entry.rest }
-    ensures { IfOk result (λ next. (read : Reader) (bytes : ℕ) → after read bytes next ≡ with_words around.now entry (included_by world.now.files around.now read entry) (seen standing bytes)) }
+    optional: bool,
+    root: &Option<Utf8>,
+    path: &Utf8,
+) -> Result<List<Text>, Fault<AtByte>>
+    ensures { Ran result log.old log.new
+        (run (include_files around.now optional root.now path.now) (shown_by world.now.files)) }
 {
-    match conf_words(alloc, rest) {
-        Ok(words) => included_by(alloc, world, around, entry, rest, &words, standing),
-        Err(Fault::Refused(broken)) => {
-            stop_at(around, entry.spot.place.line, broken.code, standing)
-        }
-        Err(Fault::NoMemory) => Err(NoMemory),
-    }
+    let full = path_of(world, log, root, path)?;
+    let components = components_of(world, log, &full)?;
+    let paths = paths_of(world, log, &components)?;
+    let among = texts_of(world, log, &paths)?;
+    files_among(world, log, around, optional, among)
 }
 
-fn stop_at(around: &Around, line: u32, code: u8, standing: Standing) -> Result<Next, NoMemory>
-    ensures { IfOk result (λ next. (read : Reader) (bytes : ℕ) → after read bytes next ≡ stopped around.now.file line (rule code) (seen standing bytes)) }
-{
-    Ok(Next::Line(stopped_at(around, line, code, standing)?))
-}
-
-fn included_by(
-    alloc: Global,
+#[tactic(auto, unfolding(crate::specs::Include::path_of), using(hc_steps::proofs::Going::telling))]
+fn path_of(
     world: &World,
-    around: &Around,
-    entry: Entry,
-    rest: &str,
-    words: &[CowStr],
-    standing: Standing,
-) -> Result<Next, NoMemory>
-    requires { rest.now ≡ entry.rest }
-    ensures { IfOk result (λ next. (read : Reader) (bytes : ℕ) → after read bytes next ≡ included_by world.now.files around.now read entry words.now (seen standing bytes)) }
+    log: &mut Log,
+    root: &Option<Utf8>,
+    path: &Utf8,
+) -> Result<Text, Fault<AtByte>>
+    ensures { Ran result log.old log.new (run (path_of root.now path.now) (shown_by world.now.files)) }
 {
-    match only_word(words) {
-        Some(path) => included(alloc, world, around, entry, rest, path, standing),
-        None => Ok(Next::Line(standing.with_entry(entry, rest)?)),
+    let bytes = path.as_str().as_bytes();
+    if begins_with_slash(bytes) {
+        return Ok(Text::copy_of(log.allocator(), bytes)?);
     }
+    below_root(world, log, root, path)
 }
 
-fn only_word<'w>(words: &'w [CowStr]) -> Option<&'w str>
-    ensures { option_map (λ word. word.now) result ≡ only_word words.now }
-{
-    match words {
-        [word] => Some(word.as_str()),
-        _ => None,
-    }
-}
-
-fn included(
-    alloc: Global,
+#[tactic(auto, unfolding(crate::specs::Include::below_root), using(hc_steps::proofs::Going::telling))]
+fn below_root(
     world: &World,
-    around: &Around,
-    entry: Entry,
-    rest: &str,
-    path: &str,
-    standing: Standing,
-) -> Result<Next, NoMemory>
-    requires { rest.now ≡ entry.rest }
-    ensures { IfOk result (λ next. (read : Reader) (bytes : ℕ) → after read bytes next ≡ included world.now.files around.now read entry path.now (seen standing bytes)) }
+    log: &mut Log,
+    root: &Option<Utf8>,
+    path: &Utf8,
+) -> Result<Text, Fault<AtByte>>
+    ensures { Ran result log.old log.new (run (below_root root.now path.now) (shown_by world.now.files)) }
 {
-    match full_path(alloc, standing.root(), path.as_bytes())? {
-        Some(path) => {
-            let parts = components(alloc, path.as_bytes())?;
-            parts_included(alloc, world, around, entry, rest, &parts, standing)
-        }
-        None => Ok(Next::Line(stopped_at(
-            around,
-            entry.spot.place.line,
-            NO_SERVER_ROOT,
-            standing,
-        )?)),
-    }
-}
-
-// A relative path is taken from the server root; without one there is no path.
-fn full_path(alloc: Global, root: Option<&str>, path: &[u8]) -> Result<Option<Text>, NoMemory>
-    ensures { IfOk result (λ full. full ≡ full_path (option_map (λ r. r.now) root.entry) path.now) }
-{
-    if begins_with_slash(path) {
-        return Ok(Some(Text::copy_of(alloc, path)?));
-    }
     match root {
-        Some(directory) => Ok(Some(below(alloc, directory.as_bytes(), path)?)),
-        None => Ok(None),
+        Some(directory) => Ok(joined(log.allocator(), directory, path)?),
+        None => Err(Fault::Refused(AtByte::rule(NO_SERVER_ROOT))),
     }
 }
 
-fn below(alloc: Global, directory: &[u8], path: &[u8]) -> Result<Text, NoMemory>
+fn joined(alloc: Global, directory: &Utf8, path: &Utf8) -> Result<Text, NoMemory>
     ensures { IfOk result (λ full. full ≡ directory.now ++ slash ∷ path.now) }
 {
-    let mut full = directory.to_vec(alloc)?;
+    let mut full = directory.as_str().as_bytes().to_vec(alloc)?;
     full.push(b'/')?;
-    full.extend_from_slice(path)?;
+    full.extend_from_slice(path.as_str().as_bytes())?;
     Ok(Text::from(full))
 }
 
-fn parts_included(
-    alloc: Global,
+#[tactic(auto, unfolding(crate::specs::Include::files_among), using(hc_steps::proofs::Going::telling))]
+fn files_among(
     world: &World,
+    log: &mut Log,
     around: &Around,
-    entry: Entry,
-    rest: &str,
-    parts: &[&[u8]],
-    standing: Standing,
-) -> Result<Next, NoMemory>
-    requires { rest.now ≡ entry.rest }
-    ensures { IfOk result (λ next. (read : Reader) (bytes : ℕ) → after read bytes next ≡ parts_included world.now.files around.now read entry (map (λ part. part.now) parts.now) (seen standing bytes)) }
+    optional: bool,
+    among: Candidates,
+) -> Result<List<Text>, Fault<AtByte>>
+    ensures { Ran result log.old log.new (run (files_among around.now optional among) (shown_by world.now.files)) }
 {
-    match path_refusal(alloc, parts)? {
-        Some(broken) => Ok(Next::Line(standing.stopped(
-            &around.file,
-            entry.spot.place.line,
-            broken,
-        )?)),
-        None => {
-            let named = named_by(alloc, world, parts)?;
-            named_included(alloc, world, around, entry, rest, named, standing)
-        }
+    match include_refusal(around, optional, &among) {
+        Some(code) => Err(Fault::Refused(AtByte::rule(code))),
+        None => Ok(in_byte_order(log.allocator(), among.files.as_slice())?),
     }
 }
 
-fn named_included(
-    alloc: Global,
-    world: &World,
-    around: &Around,
-    entry: Entry,
-    rest: &str,
-    named: Named,
-    standing: Standing,
-) -> Result<Next, NoMemory>
-    requires { rest.now ≡ entry.rest }
-    ensures { IfOk result (λ next. (read : Reader) (bytes : ℕ) → after read bytes next ≡ named_included world.now.files around.now read entry named (seen standing bytes)) }
+// Why the files can't be read where the reading stands.
+fn include_refusal(around: &Around, optional: bool, among: &Candidates) -> Option<u8>
+    ensures { result ≡ include_refusal around.now optional among.now }
 {
-    let files = files_among(alloc, world, &named.paths)?;
-    let standing = standing.having_looked(named.looked)?;
-    files_included(world, around, entry, rest, files, standing)
-}
-
-fn files_included(
-    world: &World,
-    around: &Around,
-    entry: Entry,
-    rest: &str,
-    files: Vec<Text>,
-    standing: Standing,
-) -> Result<Next, NoMemory>
-    requires { rest.now ≡ entry.rest }
-    ensures { IfOk result (λ next. (read : Reader) (bytes : ℕ) → after read bytes next ≡ files_included world.now.files around.now read entry files.items (seen standing bytes)) }
-{
-    match files_rule(world, around, is_optional(entry.name.as_bytes()), &files) {
-        Some(code) => Ok(Next::Line(stopped_at(around, entry.spot.place.line, code, standing)?)),
-        None => Ok(Next::Files {
-            within: entry.within.copy()?,
-            standing: standing.with_entry(entry, rest)?,
-            files,
-        }),
-    }
-}
-
-fn is_optional(name: &[u8]) -> bool
-    ensures { result ≡ is_optional name.now }
-{
-    is_named("IncludeOptional", name)
-}
-
-// Why the files of an Include can't be read, the smallest number first.
-fn files_rule(world: &World, around: &Around, is_optional: bool, files: &[Text]) -> Option<u8>
-    ensures { result ≡ files_rule world.now.files around.now is_optional files.now }
-{
+    let files = among.files.as_slice();
     if files.is_empty() {
-        no_files_rule(is_optional)
-    } else {
-        some_files_rule(world, around, files)
-    }
-}
-
-fn no_files_rule(is_optional: bool) -> Option<u8>
-    ensures { result ≡ no_files_rule is_optional }
-{
-    if is_optional {
-        None
-    } else {
-        Some(INCLUDE_MISSING)
-    }
-}
-
-fn some_files_rule(world: &World, around: &Around, files: &[Text]) -> Option<u8>
-    ensures { result ≡ some_files_rule world.now.files around.now files.now }
-{
-    if any_around(around, files) {
+        if optional {
+            None
+        } else {
+            Some(INCLUDE_MISSING)
+        }
+    } else if any_around(around, files) {
         Some(INCLUDE_CYCLE)
     } else if around.room == 0 {
         Some(INCLUDE_TOO_DEEP)
-    } else if any_without_text(world, files) {
+    } else if among.lacks_text {
         Some(CONTENT_MISSING)
     } else {
         None
@@ -240,29 +121,19 @@ fn some_files_rule(world: &World, around: &Around, files: &[Text]) -> Option<u8>
 fn any_around(around: &Around, files: &[Text]) -> bool
     ensures { result ≡ list_any (is_around around.now) files.now }
 {
-    files.iter().any(|file| is_around(around, file.as_bytes()))
+    files.iter().any(|file| is_around(around, file))
 }
 
-fn is_around(around: &Around, file: &[u8]) -> bool
+fn is_around(around: &Around, file: &Text) -> bool
     ensures { result ≡ is_around around.now file.now }
 {
     is_among(around.chain.as_slice(), file)
 }
 
-fn is_among(chain: &[Text], file: &[u8]) -> bool
-    ensures { result ≡ list_any (same_text file.now) chain.now }
+fn is_among(texts: &[Text], text: &Text) -> bool
+    ensures { result ≡ is_among texts.now text.now }
 {
-    chain.iter().any(|other| file == other.as_bytes())
-}
-
-fn any_without_text(world: &World, files: &[Text]) -> bool
-    ensures { result ≡ list_any (λ path. not (has_text world.now.files path)) files.now }
-{
-    files.iter().any(|file| !has_text(world, file.as_bytes()))
-}
-
-fn has_text(world: &World, path: &[u8]) -> bool
-    ensures { result ≡ has_text world.now.files path.now }
-{
-    world.text(path).is_some()
+    texts
+        .iter()
+        .any(|other| other.as_bytes() == text.as_bytes())
 }

@@ -2,26 +2,14 @@
 #![tactic(auto)]
 
 mod around;
-mod directive;
-mod earlier;
-mod entries;
-mod entry;
+mod candidates;
+mod change;
+mod component;
 mod files;
-mod flat;
-mod gathered;
 mod include;
-mod kept;
-mod named;
+pub mod laws;
+mod main_file;
 mod order;
-mod reads;
-mod section;
-mod standing;
-mod variables;
-mod walk;
-mod wildcard;
-mod words;
+mod reading;
 
-pub use entries::{Entries, EntriesFrom};
-pub use files::flatten;
-pub use flat::Flat;
-pub use gathered::{defines, modules};
+pub use main_file::flatten;

@@ -1,104 +1,74 @@
-use Rattle.std.proofs.Common.{◌≡◌, ◌+◌, ◌++◌, ◌∷◌, [], ap, arith, drop, length, sym, ◌∙◌}
-use Rattle.std.proofs.lemmas.Bool.{eqb-true}
-use Rattle.std.proofs.lemmas.List.{drop-drop, drop_all, drop_more, length-drop, nil_from_length}
-use Rattle.std.proofs.lemmas.Result.{IfOk-weaker}
-use Rattle.hc_lines.specs.Logical.{lines_of}
-use Rattle.hc_lines.specs.declared.line.FileKind.TheVariants as file_kind
-use Rattle.hc_nodes.specs.Parts.{tree_of}
-use Rattle.hc_nodes.specs.Tree.{refusal_of}
-use Rattle.hc_include.specs.Flat.{files_read, lines_read, nodes_read, rule, stopped, text_read}
-use Rattle.hc_include.specs.LevelsView.{levels_read}
-use Rattle.hc_include.specs.StandingView.{seen}
-use Rattle.hc_include.proofs.Levels.{levels_stopped}
-use Rattle.hc_include.proofs.Parts.{part_read, tree_refused, tree_whole}
-use Rattle.hc_include.proofs.Includes.{files_more, files_none, files_stopped, none_from}
+use Rattle.hc_include.proofs.Common.{arith, ap, refl, sym, ◌∙◌, in_order, text_at, item_faults, item_more, ran_leaves, ran_on, file_read, line_read, missing, reader_in, Stopped}
+use Rattle.hc_include.specs.Lines.{files_of}
+use Rattle.hc_include.proofs.Counting.{counts_then, rose_then}
+use Rattle.hc_include.proofs.Ending.{ending_on, stopped_behind}
+use Rattle.hc_include.proofs.Texts.{as_read, file_within, free_lines, no_files, no_text, refused_lines, refused_text, text_lines}
 use Rattle.hc_include.proofs.files.+files.Goals as goal
-use Rattle.hc_include.proofs.files.+files.Goals.{read_levels-then-is_empty-via-then-is_empty, read_levels-then-is_empty-via-else-is_empty+then-is_stopped}
 
-pub read_file-returns-in-Some-clause-read : goal.read_file-returns-in-Some-clause-read
-read_file-returns-in-Some-clause-read g t c =
-    IfOk-weaker c.read_lines.result _ _ (λ later is. is
-    ∙ ap (λ around. lines_read c.args.world.now.files around (files_read c.args.world.now.files around.room around.chain) c.args.within.now (lines_of file_kind.Config c.in-Some.text.now)
-    (seen c.args.standing (c.args.bytes.now + length c.in-Some.text.now))) c.in_ok-around.ensures
-    ∙ ap (λ text. text_read c.args.world.now.files (record { file = c.args.file.now; chain = c.args.chain.now ++ c.args.file.now ∷ []; room = c.args.room })
-    (files_read c.args.world.now.files c.args.room (c.args.chain.now ++ c.args.file.now ∷ [])) c.args.within.now text (seen c.args.standing c.args.bytes.now)) c.in-Some.ensures) c.read_lines.ensures.read
+pub read_file-returns-in-Ok-clause-read : goal.read_file-returns-in-Ok-clause-read
+unfolding file_read
+read_file-returns-in-Ok-clause-read g t c = ran_on _ _ _ _ _ _ _ _ _ _ c.in-Ok.ensures (ap text_at c.as_bytes.ensures) c.read_text.ensures.read refl
 
-pub read_tree-returns-in-Some-clause-read : goal.read_tree-returns-in-Some-clause-read
-read_tree-returns-in-Some-clause-read g t c =
-    IfOk-weaker c.stopped_at.result _ _ (λ later is. is c.args.bytes.now
-    ∙ sym (tree_refused c.args.world.now.files c.args.around.now (files_read c.args.world.now.files c.args.around.now.room c.args.around.now.chain) c.args.within.now
-    c.args.lines.now c.in-Some.broken (sym c.in_ok-broken.ensures ∙ c.in-Some.is) (seen c.args.standing c.args.bytes.now)))
-    c.stopped_at.ensures
+pub read_files-returns-then-around-eq0-clause-read : goal.read_files-returns-then-around-eq0-clause-read
+read_files-returns-then-around-eq0-clause-read g t c =
+    let none = ap (λ room. in_order (reader_in room c.args.around.now.chain) c.args.reading c.args.files.now) c.if-around-eq0.true ∙ no_files c.args.around.now.chain c.args.reading c.args.files.now in
+    as_read _ _ _ _ _ _ (sym none) (ran_leaves Stopped _ _ _ _ refl)
 
-pub read_tree-returns-in-None-clause-read : goal.read_tree-returns-in-None-clause-read
-read_tree-returns-in-None-clause-read g t c =
-    IfOk-weaker c.read_parts.result _ _ (λ later is. is
-    ∙ sym (tree_whole c.args.world.now.files c.args.around.now (files_read c.args.world.now.files c.args.around.now.room c.args.around.now.chain) c.args.within.now
-    c.args.lines.now (sym c.in_ok-broken.ensures ∙ c.in-None.is) (seen c.args.standing c.args.bytes.now)))
-    c.read_parts.ensures.read
-
-pub read_parts-loop-at-preserved : goal.read_parts-loop-at-preserved
-read_parts-loop-at-preserved g t c =
-    let lines = drop c.loop-at.at c.args.lines.now in
-    let is = rw c.split_at.ensures.back at c.in_ok-part.ensures in
-    let behind = drop-drop c.in_ok-part.part.lines c.loop-at.at c.args.lines.now in
-    record {
-      read = ap (λ lines. nodes_read c.args.world.now.files c.args.around.now (files_read c.args.world.now.files c.args.around.now.room c.args.around.now.chain) (tree_of lines) c.args.within.now
-          (seen c.in_ok-standing.standing c.read_body.new.bytes)) (sym behind)
-          ∙ part_read c.args.world.now.files c.args.around.now (files_read c.args.world.now.files c.args.around.now.room c.args.around.now.chain) c.args.within.now lines c.in_ok-part.part
-          (seen c.loop-at.standing c.loop-at.bytes) (seen c.in_ok-standing.standing c.read_body.new.bytes) is (rw c.deref.ensures.value at c.in_ok-standing.ensures.read)
-          ∙ c.loop-at.invariant.read;
-      free = ap refusal_of (sym behind) ∙ is.free;
-      within = omega (arith, is.within, length-drop c.loop-at.at c.args.lines.now, c.loop-at.invariant.within);
-      rise = omega (arith, c.loop-at.invariant.rise, c.in_ok-standing.ensures.rise);
-    }
-
-pub read_lines-returns-in-Err-Refused-clause-read : goal.read_lines-returns-in-Err-Refused-clause-read
-read_lines-returns-in-Err-Refused-clause-read g t c =
-    let refused = rw c.in-Err-Refused.field-0-is at c.in-Err-Refused.ensures.lines in
-    IfOk-weaker c.stopped_at.result _ _ (λ later is. (rw c.in-Err-Refused.field-0-is at (is c.logical_lines.new.bytes))
-    ∙ ap (λ bytes. stopped c.args.around.now.file c.in-Err-Refused.broken.line (rule c.in-Err-Refused.broken.code) (seen c.args.standing bytes)) c.logical_lines.ensures.bytes
-    ∙ ap (λ lines. lines_read c.args.world.now.files c.args.around.now (files_read c.args.world.now.files c.args.around.now.room c.args.around.now.chain) c.args.within.now lines (seen c.args.standing (c.args.bytes.now + length c.args.text.now))) (sym refused))
-    c.stopped_at.ensures
-
-pub read_file-returns-clause-read : goal.read_file-returns-clause-read
-read_file-returns-clause-read g t c =
-    IfOk-weaker c.stopped_at.result _ _ (λ later is. is c.args.bytes.now
-    ∙ ap (λ around. stopped around.file 0 (rule c.missing_code.result) (seen c.args.standing c.args.bytes.now)) c.in_ok-around.ensures
-    ∙ ap (λ broken. stopped c.args.file.now 0 broken (seen c.args.standing c.args.bytes.now)) c.missing_code.ensures
-    ∙ ap (λ text. text_read c.args.world.now.files (record { file = c.args.file.now; chain = c.args.chain.now ++ c.args.file.now ∷ []; room = c.args.room })
-    (files_read c.args.world.now.files c.args.room (c.args.chain.now ++ c.args.file.now ∷ [])) c.args.within.now text (seen c.args.standing c.args.bytes.now)) c.in-None.ensures) c.stopped_at.ensures
-
-pub read_files-returns-then-is_stopped-clause-read : goal.read_files-returns-then-is_stopped-clause-read
-read_files-returns-then-is_stopped-clause-read g t c =
-    sym (files_stopped c.args.world.now.files c.args.room c.args.chain.now c.args.within.now (drop c.loop-file.file-index c.args.files.now) (seen c.loop-file.standing c.loop-file.bytes)
-    (sym c.is_stopped.ensures ∙ c.if-is_stopped.true)) ∙ c.loop-file.invariant.read
-
-pub read_files-returns-clause-read : goal.read_files-returns-clause-read
-read_files-returns-clause-read g t c =
-    sym (ap (λ files. files_read c.args.world.now.files c.args.room c.args.chain.now c.args.within.now files (seen c.loop-file.standing c.loop-file.bytes))
-    (drop_all c.loop-file.file-index c.args.files.now (omega arith)) ∙ files_none c.args.world.now.files c.args.room c.args.chain.now c.args.within.now (seen c.loop-file.standing c.loop-file.bytes))
-    ∙ c.loop-file.invariant.read
+pub read_files-returns-in_err-reading-clause-read : goal.read_files-returns-in_err-reading-clause-read
+read_files-returns-in_err-reading-clause-read g t c =
+    item_faults (reader_in c.args.around.now.room c.args.around.now.chain) c.loop-file.reading c.file-item.result c.args.files.now c.loop-file.file-index _ _ _ _ _ _ _ _ c.loop-file.invariant.read c.loop-file-test.true c.file-item.is
+    c.in_err-reading.ensures.read (file_within _ _ _ _ _ (omega (arith, c.if-around-eq0.false)) (rw c.as_slice.ensures at c.in_ok-inner.ensures)) c.from_residual-in_err-reading.ensures.1
 
 pub read_files-loop-file-preserved : goal.read_files-loop-file-preserved
 read_files-loop-file-preserved g t c = record {
-  read = files_more c.args.world.now.files c.args.room c.args.chain.now c.args.within.now c.file-item.result (drop (c.loop-file.file-index + 1) c.args.files.now)
-      (seen c.loop-file.standing c.loop-file.bytes) (seen c.in_ok-standing.standing c.read_file.new.bytes) (omega arith)
-      (none_from _ (sym c.is_stopped.ensures ∙ c.if-is_stopped.false)) (rw c.as_bytes.ensures at c.in_ok-standing.ensures.read)
-      ∙ ap (λ file. files_read c.args.world.now.files c.args.room c.args.chain.now c.args.within.now (file ∷ drop (c.loop-file.file-index + 1) c.args.files.now) (seen c.loop-file.standing c.loop-file.bytes)) c.file-item.is
-      ∙ ap (λ files. files_read c.args.world.now.files c.args.room c.args.chain.now c.args.within.now files (seen c.loop-file.standing c.loop-file.bytes)) (sym (drop_more c.args.files.now c.loop-file.file-index c.file-item.result (omega arith)))
-      ∙ c.loop-file.invariant.read;
-  rise = omega (arith, c.loop-file.invariant.rise, c.in_ok-standing.ensures.rise);
+  read = item_more (reader_in c.args.around.now.room c.args.around.now.chain) c.loop-file.reading _ c.file-item.result c.args.files.now c.loop-file.file-index _ _ _ _ _ _ c.loop-file.invariant.read c.loop-file-test.true c.file-item.is
+      c.in_ok-reading.ensures.read (file_within _ _ _ _ _ (omega (arith, c.if-around-eq0.false)) (rw c.as_slice.ensures at c.in_ok-inner.ensures));
+  bytes = rose_then _ _ _ _ _ _ c.loop-file.invariant.bytes c.in_ok-reading.ensures.bytes;
 }
 
-pub read_levels-returns-then-is_empty-clause-read : goal.read_levels-returns-then-is_empty-clause-read
-read_levels-returns-then-is_empty-clause-read g t c =
-    elim c.then-is_empty.branch [
-      | read_levels-then-is_empty-via-then-is_empty w ↦
-          (let zero : length c.loop.levels.items ≡ 0 = omega (arith, c.loop.levels.ok.0, eqb-true _ 0 (sym c.is_empty.ensures ∙ w.if-is_empty.true)) in
-          sym (ap (λ levels. levels_read c.args.world.now.files c.args.around.now (files_read c.args.world.now.files c.args.around.now.room c.args.around.now.chain) levels (seen c.loop.standing c.loop.bytes))
-          (nil_from_length c.loop.levels.items zero)) ∙ c.loop.invariant.read)
-      | read_levels-then-is_empty-via-else-is_empty+then-is_stopped w ↦
-          sym (levels_stopped c.args.world.now.files c.args.around.now (files_read c.args.world.now.files c.args.around.now.room c.args.around.now.chain) c.loop.levels.items (seen c.loop.standing c.loop.bytes)
-          (sym w.is_stopped.ensures ∙ w.if-is_stopped.true)) ∙ c.loop.invariant.read
-    ]
+pub read_line-returns-in-Err-Refused-clause-read : goal.read_line-returns-in-Err-Refused-clause-read
+unfolding line_read
+read_line-returns-in-Err-Refused-clause-read g t c = stopped_behind _ _ _ _ _ _ _ _ (rw c.in-Err-Refused.field-0-is at c.in-Err-Refused.ensures) (c.stop.ensures.read _ _)
+
+pub read_line-returns-clause-read : goal.read_line-returns-clause-read
+unfolding line_read
+read_line-returns-clause-read g t c = ran_on _ _ _ _ _ _ _ _ _ _ (ending_on _ _ _ _ _ _ c.in-Ok.ensures) refl c.read_files.ensures.read
+    (ap (in_order (reader_in c.args.around.now.room c.args.around.now.chain) c.in_ok-reading.reading) (c.as_slice.ensures ∙ c.in_ok-reading.ensures.1)
+    ∙ ap (λ reading. in_order (reader_in c.args.around.now.room c.args.around.now.chain) reading (files_of c.in-Ok.change)) c.in_ok-reading.ensures.0)
+
+pub read_lines-returns-in_err-reading-clause-read : goal.read_lines-returns-in_err-reading-clause-read
+read_lines-returns-in_err-reading-clause-read g t c =
+    item_faults (line_read c.args.around.now (reader_in c.args.around.now.room c.args.around.now.chain)) c.loop-line.reading c.line-item.result c.args.lines.now c.loop-line.line-index _ _ _ _ _ _ _ _ c.loop-line.invariant.read c.loop-line-test.true c.line-item.is
+    c.in_err-reading.ensures.read refl c.from_residual.ensures.1
+
+pub read_lines-loop-line-preserved : goal.read_lines-loop-line-preserved
+read_lines-loop-line-preserved g t c = record {
+  read = item_more (line_read c.args.around.now (reader_in c.args.around.now.room c.args.around.now.chain)) c.loop-line.reading _ c.line-item.result c.args.lines.now c.loop-line.line-index _ _ _ _ _ _ c.loop-line.invariant.read c.loop-line-test.true c.line-item.is
+      c.in_ok-reading.ensures.read refl;
+  bytes = rose_then _ _ _ _ _ _ c.loop-line.invariant.bytes c.in_ok-reading.ensures.bytes;
+}
+
+pub read_text-returns-in_default-clause-read : goal.read_text-returns-in_default-clause-read
+read_text-returns-in_default-clause-read g t c =
+    as_read _ _ _ _ _ _ (no_text _ _ _ _ _ _ c.in_default.ensures (c.missing.ensures ∙ ap missing c.kind.ensures)) (c.stop.ensures.read _ _)
+
+pub read_text-returns-in-Ok-clause-read : goal.read_text-returns-in-Ok-clause-read
+read_text-returns-in-Ok-clause-read g t c =
+    as_read _ _ _ _ _ _ (text_lines _ _ _ _ _ _ _ _ c.in-Some.ensures c.in-Ok.ensures.lines c.in_ok-reading.ensures) (rw c.deref.ensures.value at c.read_tree.ensures.read)
+
+pub read_text-returns-in-Err-Refused-clause-read : goal.read_text-returns-in-Err-Refused-clause-read
+read_text-returns-in-Err-Refused-clause-read g t c =
+    as_read _ _ _ _ _ _ (refused_text _ _ _ _ _ _ _ _ _ c.in-Some.ensures (rw c.in-Err-Refused.field-0-is at c.in-Err-Refused.ensures.lines) c.rule.ensures c.in_ok-reading.ensures) (c.stop-in-Err-Refused.ensures.read _ _)
+
+pub read_text-returns-in-Err-Refused-clause-bytes : goal.read_text-returns-in-Err-Refused-clause-bytes
+read_text-returns-in-Err-Refused-clause-bytes g t c =
+    let later = ap (λ reading. reading.bytes) c.in_ok-reading.ensures in
+    counts_then _ _ _ _ _ (record { same = omega (arith, later, c.logical_lines.ensures.bytes); rise = omega (arith, c.logical_lines.ensures.bytes) }) (c.stop-in-Err-Refused.ensures.bytes c.logical_lines.new.bytes)
+
+pub read_tree-returns-in-Some-clause-read : goal.read_tree-returns-in-Some-clause-read
+read_tree-returns-in-Some-clause-read g t c =
+    as_read _ _ _ _ _ _ (refused_lines _ _ _ _ _ _ _ (sym c.in-Some.is ∙ c.in_ok-broken.ensures) c.rule.ensures) (c.stop.ensures.read _ _)
+
+pub read_tree-returns-in-None-clause-read : goal.read_tree-returns-in-None-clause-read
+read_tree-returns-in-None-clause-read g t c =
+    as_read _ _ _ _ _ _ (free_lines _ _ _ _ _ (sym c.in-None.is ∙ c.in_ok-broken.ensures)) (rw c.with_room-reading.ensures at c.read_lines.ensures.read)

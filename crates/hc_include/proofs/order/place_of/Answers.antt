@@ -1,7 +1,6 @@
-use Rattle.std.proofs.Common.{rules, of_calls}
+use Rattle.hc_include.proofs.Common.{rules, of_calls, comes_first, place_is}
 use Rattle.std.proofs.lemmas.Fn.{always_returns_same}
-use Rattle.hc_include.specs.Named.{comes_first}
-use Rattle.hc_include.proofs.Rising.{place_is, paths_chain}
+use Rattle.hc_include.proofs.Paths.{paths_chain}
 use Rattle.hc_include.proofs.order.place_of.Goals as goal
 
 pub returns-clause-value : goal.returns-clause-value

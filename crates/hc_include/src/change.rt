@@ -1,0 +1,195 @@
+ghost use Rattle.std.specs.Prelude.{◌≡◌, IfOk};
+ghost use Rattle.hc_steps.specs.Ran.{Ran};
+ghost use Rattle.hc_steps.specs.Run.{run};
+ghost use Rattle.hc_steps.specs.Shown.{shown_by};
+ghost use Rattle.hc_include.specs.Lines.{change_by, directive_read, dropping, files_said, included};
+ghost use Rattle.hc_include.specs.Lines.{is_too_long, kept_line, opening_read, said_in};
+
+use crate::around::Around;
+use crate::include::include_files;
+use crate::reading::Reading;
+use hc_base::codes::WRONG_ARGUMENTS;
+use hc_base::{AtByte, Fault, List, NoMemory, Text};
+use hc_lines::{Line, skip_blanks};
+use hc_nodes::{inside_brackets, is_close, is_complete, split_name};
+use hc_says::{Says, Utf8, body_kept, said_of};
+use hc_steps::Log;
+use hc_world::World;
+
+/// The most bytes of a line once its variables are replaced.
+const LONGEST_REPLACED: usize = 1_048_576;
+
+/// What a line changes.
+#[derive(Drop)]
+pub enum Change {
+    /// So many sections are open in a body that is dropped.
+    Drops(u32),
+    Closes,
+    /// A section with this between its brackets, whose body is kept or not.
+    Opens {
+        inside: Utf8,
+        is_kept: bool,
+    },
+    /// A directive of this text, with what it says and the files that come behind it.
+    Keeps {
+        text: Utf8,
+        says: Says,
+        files: List<Text>,
+    },
+}
+
+/// What a line changes, by what was read before it.
+#[tactic(auto, unfolding(crate::specs::Lines::change_by), using(hc_steps::proofs::Going::telling))]
+pub(crate) fn change_by(
+    world: &World,
+    log: &mut Log,
+    around: &Around,
+    reading: &Reading,
+    line: &Line,
+) -> Result<Change, Fault<AtByte>>
+    ensures { Ran result log.old log.new (run (change_by around.now reading.now line.now) (shown_by world.now.files)) }
+{
+    if reading.dropped == 0 {
+        return kept_line(world, log, around, reading, line);
+    }
+    Ok(dropping(reading.dropped, line)?)
+}
+
+// Behind a line of a body that is dropped. The close of its own section is kept.
+fn dropping(dropped: u32, line: &Line) -> Result<Change, NoMemory>
+    ensures { IfOk result (λ change. change ≡ dropping dropped line.now) }
+{
+    if is_close(line) {
+        if dropped == 1 {
+            return Ok(Change::Closes);
+        }
+        return Ok(Change::Drops(dropped.saturating_sub(1)));
+    }
+    if !is_complete(line) {
+        return Ok(Change::Drops(dropped));
+    }
+    match dropped.checked_add(1) {
+        Some(more) => Ok(Change::Drops(more)),
+        None => Err(NoMemory),
+    }
+}
+
+#[tactic(auto, unfolding(crate::specs::Lines::kept_line), using(hc_steps::proofs::Going::telling))]
+fn kept_line(
+    world: &World,
+    log: &mut Log,
+    around: &Around,
+    reading: &Reading,
+    line: &Line,
+) -> Result<Change, Fault<AtByte>>
+    ensures { Ran result log.old log.new (run (kept_line around.now reading.now line.now) (shown_by world.now.files)) }
+{
+    if is_close(line) {
+        return Ok(Change::Closes);
+    }
+    if is_complete(line) {
+        let inside = reading.replaced(log.allocator(), inside_brackets(line))?;
+        return opening_read(world, log, reading, inside);
+    }
+    let text = reading.replaced(log.allocator(), line.text.as_str())?;
+    directive_read(world, log, around, reading, text)
+}
+
+#[tactic(auto, unfolding(crate::specs::Lines::opening_read), using(hc_steps::proofs::Going::telling))]
+fn opening_read(
+    world: &World,
+    log: &mut Log,
+    reading: &Reading,
+    inside: Utf8,
+) -> Result<Change, Fault<AtByte>>
+    ensures { Ran result log.old log.new (run (opening_read reading.now inside) (shown_by world.now.files)) }
+{
+    // The brackets are two bytes.
+    if is_too_long(inside.as_str().len() + 2) {
+        return Err(Fault::Refused(AtByte::rule(WRONG_ARGUMENTS)));
+    }
+    let (name, rest) = split_name(inside.as_str());
+    match body_kept(
+        log.allocator(),
+        &reading.defines,
+        &reading.modules,
+        name,
+        rest,
+    ) {
+        Ok(is_kept) => Ok(Change::Opens { inside, is_kept }),
+        Err(fault) => Err(fault),
+    }
+}
+
+fn is_too_long(len: usize) -> bool
+    ensures { result ≡ is_too_long len }
+{
+    len > LONGEST_REPLACED
+}
+
+#[tactic(auto, unfolding(crate::specs::Lines::directive_read), using(hc_steps::proofs::Going::going))]
+fn directive_read(
+    world: &World,
+    log: &mut Log,
+    around: &Around,
+    reading: &Reading,
+    text: Utf8,
+) -> Result<Change, Fault<AtByte>>
+    ensures { Ran result log.old log.new
+        (run (directive_read around.now reading.now text) (shown_by world.now.files)) }
+{
+    let says = said_in(world, log, &text)?;
+    let files = files_said(world, log, around, reading, &says)?;
+    Ok(Change::Keeps { text, says, files })
+}
+
+#[tactic(auto, unfolding(crate::specs::Lines::said_in), using(hc_steps::proofs::Going::telling))]
+fn said_in(world: &World, log: &mut Log, text: &Utf8) -> Result<Says, Fault<AtByte>>
+    ensures { Ran result log.old log.new (run (said_in text.now) (shown_by world.now.files)) }
+{
+    if is_too_long(text.as_str().len()) {
+        return Err(Fault::Refused(AtByte::rule(WRONG_ARGUMENTS)));
+    }
+    let (name, rest) = split_name(skip_blanks(text.as_str()));
+    match said_of(log.allocator(), name, rest) {
+        Ok(says) => Ok(says),
+        Err(fault) => Err(fault),
+    }
+}
+
+#[tactic(auto, unfolding(crate::specs::Lines::files_said), using(hc_steps::proofs::Going::ran_leaves))]
+fn files_said(
+    world: &World,
+    log: &mut Log,
+    around: &Around,
+    reading: &Reading,
+    says: &Says,
+) -> Result<List<Text>, Fault<AtByte>>
+    ensures { Ran result log.old log.new
+        (run (files_said around.now reading.now says.now) (shown_by world.now.files)) }
+{
+    match says {
+        Says::Includes { optional, path } => {
+            included(world, log, around, reading, *optional, path)
+        }
+        _ => Ok(List::new(log.allocator())),
+    }
+}
+
+#[tactic(auto, unfolding(crate::specs::Lines::included), using(hc_steps::proofs::Going::ran_leaves))]
+fn included(
+    world: &World,
+    log: &mut Log,
+    around: &Around,
+    reading: &Reading,
+    optional: bool,
+    path: &Utf8,
+) -> Result<List<Text>, Fault<AtByte>>
+    ensures { Ran result log.old log.new
+        (run (included around.now reading.now optional path.now) (shown_by world.now.files)) }
+{
+    if !reading.setting.includes {
+        return Ok(List::new(log.allocator()));
+    }
+    include_files(world, log, around, optional, &reading.root, path)
+}

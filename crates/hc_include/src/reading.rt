@@ -1,0 +1,161 @@
+ghost use Rattle.std.specs.Prelude.{◌≡◌, IfOk};
+ghost use Rattle.hc_flat.specs.EntriesView.{innermost};
+ghost use Rattle.hc_include.specs.Lines.{changed, closed_at, files_of, kept_at, opened_at};
+ghost use Rattle.hc_include.specs.Lines.{replaced_in, spot_of};
+
+use crate::around::Around;
+use crate::change::Change;
+use hc_base::{List, NoMemory, Refusal, Text};
+use hc_flat::{Entries, EntryView, Places};
+use hc_lines::{FileKind, Line, skip_blanks};
+use hc_model::EntryForm;
+use hc_nodes::split_name;
+use hc_says::{Defines, Modules, Says, Utf8, replaced, with_define, with_module, with_root};
+use std::alloc::Global;
+
+/// How a text is read.
+#[derive(Clone, Copy)]
+pub struct Setting {
+    pub kind: FileKind,
+    /// Include and IncludeOptional read files.
+    pub includes: bool,
+}
+
+/// What was read so far.
+#[derive(Drop)]
+pub struct Reading {
+    pub setting: Setting,
+    pub entries: Entries,
+    /// What they say, with what was said before the first.
+    pub defines: Defines,
+    pub modules: Modules,
+    pub root: Option<Utf8>,
+    /// The places, among the entries, of the openings that are open, the outermost first.
+    pub openings: Places,
+    /// In a body that is dropped, how many sections are open from its own on; elsewhere 0.
+    pub dropped: u32,
+    /// The bytes of the texts.
+    pub bytes: u64,
+}
+
+/// The first refusal, and what was read before it.
+#[derive(Drop)]
+pub struct Stopped {
+    pub reading: Reading,
+    pub refusal: Refusal,
+}
+
+impl Reading {
+    /// A text with its variables replaced.
+    pub(crate) fn replaced(&self, alloc: Global, text: &str) -> Result<Utf8, NoMemory>
+        ensures { IfOk result (λ made. made ≡ replaced_in self.now text.now) }
+    {
+        Ok(Utf8::from(replaced(alloc, text, &self.defines)?))
+    }
+
+    /// The same, with room for so many entries more where there is memory for it.
+    pub(crate) fn with_room(mut self, entries: usize) -> Reading
+        ensures { result ≡ self }
+    {
+        self.entries = self.entries.with_room(entries);
+        self
+    }
+
+    /// What was read behind a line that changes this, and the files that come behind it.
+    pub(crate) fn changed(
+        self,
+        alloc: Global,
+        around: &Around,
+        line: &Line,
+        change: Change,
+    ) -> Result<(Reading, List<Text>), NoMemory>
+        ensures { IfOk result (λ both.
+            (both.0 ≡ changed (spot_of around.now line.now) self change) × (both.1 ≡ files_of change)) }
+    {
+        match change {
+            Change::Drops(dropped) => Ok((self.dropping(dropped), List::new(alloc))),
+            Change::Closes => Ok((self.closed(around, line)?, List::new(alloc))),
+            Change::Opens { inside, is_kept } => {
+                let opened = self.opened(around, line, inside.as_str(), is_kept)?;
+                Ok((opened, List::new(alloc)))
+            }
+            Change::Keeps { text, says, files } => {
+                Ok((self.kept(around, line, text.as_str(), says)?, files))
+            }
+        }
+    }
+
+    fn dropping(mut self, dropped: u32) -> Reading
+        ensures { result ≡ record self { dropped = dropped } }
+    {
+        self.dropped = dropped;
+        self
+    }
+
+    // The innermost opening is closed.
+    fn closed(mut self, around: &Around, line: &Line) -> Result<Reading, NoMemory>
+        ensures { IfOk result (λ later.
+            later ≡ closed_at (spot_of around.now line.now) (innermost self.openings) self) }
+    {
+        let Some(place) = self.openings.last() else {
+            return Ok(self);
+        };
+        let place = place as usize;
+        self.entries = self
+            .entries
+            .with_close(place, &around.file, line.number, line.span)?;
+        self.openings = self.openings.without_last();
+        self.dropped = 0;
+        Ok(self)
+    }
+
+    fn opened(
+        mut self,
+        around: &Around,
+        line: &Line,
+        inside: &str,
+        is_kept: bool,
+    ) -> Result<Reading, NoMemory>
+        ensures { IfOk result (λ later. later ≡ opened_at (spot_of around.now line.now) inside.now is_kept self) }
+    {
+        let place = self.entries.len();
+        let (name, rest) = split_name(inside);
+        self.entries = self.entries.with(EntryView {
+            file: &around.file,
+            line: line.number,
+            span: line.span,
+            form: EntryForm::Opening,
+            name,
+            rest,
+            within: self.openings.as_slice(),
+        })?;
+        self.openings = self.openings.with(place)?;
+        self.dropped = u32::from(!is_kept);
+        Ok(self)
+    }
+
+    fn kept(
+        mut self,
+        around: &Around,
+        line: &Line,
+        text: &str,
+        says: Says,
+    ) -> Result<Reading, NoMemory>
+        ensures { IfOk result (λ later. later ≡ kept_at (spot_of around.now line.now) text.now says self) }
+    {
+        let (name, rest) = split_name(skip_blanks(text));
+        self.entries = self.entries.with(EntryView {
+            file: &around.file,
+            line: line.number,
+            span: line.span,
+            form: EntryForm::Directive,
+            name,
+            rest,
+            within: self.openings.as_slice(),
+        })?;
+        self.defines = with_define(self.defines, &says)?;
+        self.modules = with_module(self.modules, &says)?;
+        self.root = with_root(self.root, says);
+        Ok(self)
+    }
+}
