@@ -1,3 +1,2 @@
-pub mod Judged
-pub mod Gathering
 pub mod Runs
+pub mod Places

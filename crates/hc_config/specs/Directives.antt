@@ -1,139 +1,135 @@
--- The directives and sections that are built so far: what words each takes, and what it does.
+-- The directives and sections that are built so far: what words each takes, and what it gives.
 -- Apache manual: core; mod_alias, Alias; mod_so, LoadModule; mod_userdir, UserDir. What is not built
 -- is refused as if it had no name; our own choice.
-use Rattle.std.specs.Prelude.{ℕ, ◌==◌, List, [], ◌∷◌, Bool, ◌&&◌, if◌then◌else◌, Option, Some, None, Result, Ok, Err, codes}
+use Rattle.std.specs.Prelude.{ℕ, ◌-◌, List, [], ◌∷◌, length, take, Bool, ◌&&◌, nat_le, nat_lt, if◌then◌else◌}
+use Rattle.std.specs.Prelude.{Option, Some, None, Result, Ok, Err, codes}
 use Rattle.std.specs.Str.{str_eq_ignore_ascii_case}
-use Rattle.hc_base.specs.Paths.{begins_with_slash}
+use Rattle.hc_base.specs.Paths.{begins_with_slash, ends_with_slash}
 use Rattle.hc_base.specs.declared.fault.AtByte.{AtByte}
-use Rattle.hc_model.specs.declared.mapping.Alias.{Alias}
 use Rattle.hc_model.specs.declared.mapping.PathTest.{PathTest}
-use Rattle.hc_model.specs.declared.mapping.PathTest.TheVariants.{Prefix}
 use Rattle.hc_model.specs.declared.spot.Spot.{Spot}
 use Rattle.hc_model.specs.declared.template.Piece.{Piece}
-use Rattle.hc_model.specs.declared.template.Piece.TheVariants.{Bytes}
-use Rattle.hc_table.specs.declared.meaning.TheConstants.{ACCESS_FILE_NAME, ALIAS, ALIAS_MATCH, DEFINE, DOCUMENT_ROOT, IF_DEFINE, IF_MODULE, INCLUDE, INCLUDE_OPTIONAL, INERT, LOAD_MODULE, REDIRECT, REDIRECT_MATCH, REDIRECT_PERMANENT, REDIRECT_TEMP, SCRIPT_ALIAS, SERVER_ROOT, USER_DIR, USE_CANONICAL_NAME}
-use Rattle.hc_config.specs.Statuses.{has_url, permanent, status_of, temporary}
-use Rattle.hc_config.specs.Targets.{Aiming, Testing, group_target, own_group_target, plain_target, prefix_test, search_test, wrong}
+use Rattle.hc_table.specs.declared.meaning.TheConstants.{ACCESS_FILE_NAME, ALIAS, ALIAS_MATCH, DEFINE, DOCUMENT_ROOT}
+use Rattle.hc_table.specs.declared.meaning.TheConstants.{IF_DEFINE, IF_MODULE, INCLUDE, INCLUDE_OPTIONAL, INERT, LOAD_MODULE}
+use Rattle.hc_table.specs.declared.meaning.TheConstants.{REDIRECT, REDIRECT_MATCH, REDIRECT_PERMANENT, REDIRECT_TEMP}
+use Rattle.hc_table.specs.declared.meaning.TheConstants.{SCRIPT_ALIAS, SERVER_ROOT, USER_DIR, USE_CANONICAL_NAME}
+use Rattle.hc_config.specs.Among.{Among}
+use Rattle.hc_config.specs.Rows.{by_number}
+use Rattle.hc_config.specs.Statuses.{first_status, has_url}
+use Rattle.hc_config.specs.Targets.{own_target_by, target_by, test_by, wrong}
 use Rattle.hc_config.specs.declared.effect.Effect.{Effect}
 use Rattle.hc_config.specs.declared.effect.Effect.TheVariants.{Nothing, Root, Map, Send}
+use Rattle.hc_config.specs.declared.status.TheConstants.{PERMANENT, TEMPORARY}
+use Rattle.hc_config.specs.declared.targets.PathForm.{PathForm}
+use Rattle.hc_config.specs.declared.targets.PathForm.TheVariants.{Plain, Match}
 
--- What the words of a directive do, or the rule that they break.
-abbrev pub Taking : Type 0
-Taking = Spot → List (List ℕ) → Result Effect AtByte
+-- What an entry gives with these words, or the rule that they break.
+abbrev pub Giving : Type 0
+Giving = Among → List (List ℕ) → Result Effect AtByte
 
-abbrev pub wrong_arguments : Result Effect AtByte
-wrong_arguments = Err wrong
+-- What the words alone decide.
+abbrev pub by_words : (List (List ℕ) → Result Effect AtByte) → Giving
+by_words gives among words = gives words
 
 abbrev pub if_fits : Bool → Effect → Result Effect AtByte
-if_fits fits effect = if fits then Ok effect else wrong_arguments
+if_fits fits effect = if fits then Ok effect else Err wrong
 
 -- ---- forms of words
 
-abbrev pub any_words : Taking
-any_words spot words = Ok Nothing
+abbrev pub any_arguments : List (List ℕ) → Result Effect AtByte
+any_arguments words = Ok Nothing
 
-abbrev pub one_word : Taking
-one_word spot (word ∷ []) = Ok Nothing
-one_word spot words = wrong_arguments
-
-abbrev pub one_or_two_words : Taking
-one_or_two_words spot (word ∷ []) = Ok Nothing
-one_or_two_words spot (word ∷ other ∷ []) = Ok Nothing
-one_or_two_words spot words = wrong_arguments
+-- At least and at most so many words.
+abbrev pub counted : ℕ → ℕ → List (List ℕ) → Result Effect AtByte
+counted least most words = if_fits (nat_le least (length words) && nat_le (length words) most) Nothing
 
 -- Just this word, without case.
-abbrev pub only : List ℕ → Taking
-only wanted spot (word ∷ []) = if_fits (str_eq_ignore_ascii_case wanted word) Nothing
-only wanted spot words = wrong_arguments
+abbrev pub this_argument : List ℕ → List (List ℕ) → Result Effect AtByte
+this_argument wanted (word ∷ []) = if_fits (str_eq_ignore_ascii_case wanted word) Nothing
+this_argument wanted words = Err wrong
 
 -- One path, which begins with a slash.
-abbrev pub server_root : Taking
-server_root spot (path ∷ []) = if_fits (begins_with_slash path) Nothing
-server_root spot words = wrong_arguments
+abbrev pub server_root : List (List ℕ) → Result Effect AtByte
+server_root (path ∷ []) = if_fits (begins_with_slash path) Nothing
+server_root words = Err wrong
 
-abbrev pub document_root : Taking
-document_root spot (path ∷ []) = if_fits (begins_with_slash path) (Root path)
-document_root spot words = wrong_arguments
+-- A final slash is dropped, but for `/`.
+abbrev pub without_final_slash : List ℕ → List ℕ
+without_final_slash path = if nat_lt 1 (length path) && ends_with_slash path then take (length path - 1) path else path
 
--- A URL path and the path of its files.
-abbrev pub alias_of : Spot → List ℕ → List ℕ → Alias
-alias_of spot from to = record { place = spot.place; span = spot.span; from = Prefix from; to = Bytes to ∷ [] }
+abbrev pub document_root : List (List ℕ) → Result Effect AtByte
+document_root (path ∷ []) = if_fits (begins_with_slash path) (Root (without_final_slash path))
+document_root words = Err wrong
 
-abbrev pub alias : Taking
-alias spot (from ∷ to ∷ []) = if_fits (begins_with_slash from && begins_with_slash to) (Map (alias_of spot from to))
-alias spot words = wrong_arguments
+-- ---- aliases and redirects
 
--- A pattern and the path of its files, with groups filled in.
-abbrev pub mapped : Spot → Result (List Piece) AtByte → Result PathTest AtByte → Result Effect AtByte
-mapped spot (Err broken) from = Err broken
-mapped spot (Ok to) (Err broken) = Err broken
-mapped spot (Ok to) (Ok from) = Ok (Map (record { place = spot.place; span = spot.span; from = from; to = to }))
+-- A target and a test of paths. What is wrong with the target comes first: no number is smaller.
+abbrev pub aimed : Result (List Piece) AtByte → Result PathTest AtByte → (List Piece → PathTest → Effect) → Result Effect AtByte
+aimed (Err broken) from gives = Err broken
+aimed (Ok to) (Err broken) gives = Err broken
+aimed (Ok to) (Ok from) gives = Ok (gives to from)
 
-abbrev pub alias_match : Taking
-alias_match spot (pattern ∷ target ∷ []) = mapped spot (own_group_target target) (search_test pattern)
-alias_match spot words = wrong_arguments
+-- Which paths, and where their files are.
+abbrev pub mapped : Spot → List Piece → PathTest → Effect
+mapped spot to from = Map (record { place = spot.place; span = spot.span; from = from; to = to })
 
--- ---- redirects
+abbrev pub alias_by : PathForm → Giving
+alias_by form among (from ∷ to ∷ []) = aimed (own_target_by form to) (test_by form from) (mapped among.entry.spot)
+alias_by form among words = Err wrong
 
-abbrev pub sent : Spot → ℕ → Result (List Piece) AtByte → Result PathTest AtByte → Result Effect AtByte
-sent spot status (Err broken) from = Err broken
-sent spot status (Ok to) (Err broken) = Err broken
-sent spot status (Ok to) (Ok from) =
-    Ok (Send (record { place = spot.place; span = spot.span; from = from; to = to; status = status }))
+abbrev pub sent : Spot → ℕ → List Piece → PathTest → Effect
+sent spot status to from = Send (record { place = spot.place; span = spot.span; from = from; to = to; status = status })
 
 -- Which paths, and the URL.
-abbrev pub sent_to_url : Testing → Aiming → ℕ → Taking
-sent_to_url test aim status spot (from ∷ url ∷ []) = sent spot status (aim url) (test from)
-sent_to_url test aim status spot words = wrong_arguments
+abbrev pub sent_to_url : PathForm → ℕ → Giving
+sent_to_url form status among (from ∷ url ∷ []) = aimed (target_by form url) (test_by form from) (sent among.entry.spot status)
+sent_to_url form status among words = Err wrong
 
 -- Which paths alone.
-abbrev pub sent_alone : Testing → ℕ → Taking
-sent_alone test status spot (from ∷ []) = sent spot status (Ok []) (test from)
-sent_alone test status spot words = wrong_arguments
+abbrev pub sent_alone : PathForm → ℕ → Giving
+sent_alone form status among (from ∷ []) = aimed (Ok []) (test_by form from) (sent among.entry.spot status)
+sent_alone form status among words = Err wrong
 
-abbrev pub sent_with : Testing → Aiming → ℕ → Taking
-sent_with test aim status spot words =
-    if has_url status then sent_to_url test aim status spot words else sent_alone test status spot words
+abbrev pub sent_with : PathForm → ℕ → Giving
+sent_with form status among words =
+    if has_url status then sent_to_url form status among words else sent_alone form status among words
 
 -- A status may come first.
-abbrev pub sent_behind : Testing → Aiming → Option ℕ → List ℕ → Taking
-sent_behind test aim (Some status) word spot words = sent_with test aim status spot words
-sent_behind test aim None word spot words = sent_with test aim temporary spot (word ∷ words)
+abbrev pub sent_behind : PathForm → Result (Option ℕ) AtByte → List ℕ → Giving
+sent_behind form (Err broken) word among words = Err broken
+sent_behind form (Ok (Some status)) word among words = sent_with form status among words
+sent_behind form (Ok None) word among words = sent_with form TEMPORARY among (word ∷ words)
 
-abbrev pub redirect_by : Testing → Aiming → Taking
-redirect_by test aim spot [] = wrong_arguments
-redirect_by test aim spot (word ∷ words) = sent_behind test aim (status_of word) word spot words
+abbrev pub redirect_by : PathForm → Giving
+redirect_by form among [] = Err wrong
+redirect_by form among (word ∷ words) = sent_behind form (first_status word) word among words
 
 -- ---- by meaning
 
 -- A further directive is a further row.
-abbrev pub built : List (ℕ × Taking)
-built =
-    (SERVER_ROOT, server_root) ∷
-    (DOCUMENT_ROOT, document_root) ∷
-    (DEFINE, one_or_two_words) ∷
-    (INCLUDE, one_word) ∷
-    (INCLUDE_OPTIONAL, one_word) ∷
-    (ALIAS, alias) ∷
-    (SCRIPT_ALIAS, alias) ∷
-    (ALIAS_MATCH, alias_match) ∷
-    (REDIRECT, redirect_by prefix_test plain_target) ∷
-    (REDIRECT_MATCH, redirect_by search_test group_target) ∷
-    (REDIRECT_PERMANENT, sent_to_url prefix_test plain_target permanent) ∷
-    (REDIRECT_TEMP, sent_to_url prefix_test plain_target temporary) ∷
-    (USE_CANONICAL_NAME, only (codes "Off")) ∷
-    (USER_DIR, only (codes "disabled")) ∷
-    (ACCESS_FILE_NAME, only (codes ".htaccess")) ∷
-    (LOAD_MODULE, any_words) ∷
-    (INERT, any_words) ∷
-    (IF_DEFINE, one_word) ∷
-    (IF_MODULE, one_word) ∷
+abbrev pub givings : List (ℕ × Giving)
+givings =
+    (SERVER_ROOT, by_words server_root) ∷
+    (DOCUMENT_ROOT, by_words document_root) ∷
+    (DEFINE, by_words (counted 1 2)) ∷
+    (INCLUDE, by_words (counted 1 1)) ∷
+    (INCLUDE_OPTIONAL, by_words (counted 1 1)) ∷
+    (ALIAS, alias_by Plain) ∷
+    (SCRIPT_ALIAS, alias_by Plain) ∷
+    (ALIAS_MATCH, alias_by Match) ∷
+    (REDIRECT, redirect_by Plain) ∷
+    (REDIRECT_MATCH, redirect_by Match) ∷
+    (REDIRECT_PERMANENT, sent_to_url Plain PERMANENT) ∷
+    (REDIRECT_TEMP, sent_to_url Plain TEMPORARY) ∷
+    (USE_CANONICAL_NAME, by_words (this_argument (codes "Off"))) ∷
+    (USER_DIR, by_words (this_argument (codes "disabled"))) ∷
+    (ACCESS_FILE_NAME, by_words (this_argument (codes ".htaccess"))) ∷
+    (LOAD_MODULE, by_words any_arguments) ∷
+    (INERT, by_words any_arguments) ∷
+    (IF_DEFINE, by_words (counted 1 1)) ∷
+    (IF_MODULE, by_words (counted 1 1)) ∷
     []
 
-abbrev pub taking_among : ℕ → List (ℕ × Taking) → Option Taking
-taking_among meaning [] = None
-taking_among meaning (row ∷ rows) = if meaning == row.0 then Some row.1 else taking_among meaning rows
-
--- What a directive or section of this meaning takes, where it is built.
-abbrev pub taking : ℕ → Option Taking
-taking meaning = taking_among meaning built
+-- What a directive or section of this meaning gives, where it is built.
+abbrev pub giving : ℕ → Option Giving
+giving meaning = by_number meaning givings

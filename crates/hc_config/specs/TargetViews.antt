@@ -11,9 +11,9 @@ abbrev pub with_run : List ℕ → List Piece → List Piece
 with_run [] pieces = pieces
 with_run (b ∷ bs) pieces = with_byte b (with_run bs pieces)
 
-abbrev pub behind : Next → List ℕ
-behind (next.Group number rest) = rest.now
-behind (next.Byte byte rest) = rest.now
+abbrev pub left_by : Next → List ℕ
+left_by (next.Group number rest) = rest.now
+left_by (next.Byte byte rest) = rest.now
 
 abbrev pub template_by : Next → List Piece
 template_by (next.Group number rest) = Group number ∷ template_of rest.now

@@ -6,6 +6,7 @@ use Rattle.std.specs.Char.{is_ascii_digit}
 use Rattle.std.specs.List.{list_any}
 use Rattle.hc_base.specs.Bytes.{ampersand, backslash, digit_zero, dollar}
 use Rattle.hc_base.specs.Paths.{begins_with_slash}
+use Rattle.hc_base.specs.Rules.{rule}
 use Rattle.hc_base.specs.declared.codes.TheConstants.{WRONG_ARGUMENTS}
 use Rattle.hc_base.specs.declared.fault.AtByte.{AtByte}
 use Rattle.hc_model.specs.declared.mapping.PathTest.{PathTest}
@@ -13,30 +14,26 @@ use Rattle.hc_model.specs.declared.mapping.PathTest.TheVariants.{Prefix, Search}
 use Rattle.hc_model.specs.declared.template.Piece.{Piece}
 use Rattle.hc_model.specs.declared.template.Piece.TheVariants.{Bytes, CondGroup, Group, Lookup', Var}
 use Rattle.hc_pattern.specs.Reading.{parse_pattern}
+use Rattle.hc_config.specs.declared.targets.PathForm.{PathForm}
+use Rattle.hc_config.specs.declared.targets.PathForm.TheVariants.{Plain, Match}
 
 abbrev pub wrong : AtByte
-wrong = record { code = WRONG_ARGUMENTS; at = 0 }
+wrong = rule WRONG_ARGUMENTS
 
 -- ---- which paths
 
--- A word as a test of paths, or the rule that it breaks.
-abbrev pub Testing : Type 0
-Testing = List ℕ → Result PathTest AtByte
-
-abbrev pub prefix_test : Testing
+abbrev pub prefix_test : List ℕ → Result PathTest AtByte
 prefix_test word = if begins_with_slash word then Ok (Prefix word) else Err wrong
 
-unfoldable pub search_test : Testing
+unfoldable pub search_test : List ℕ → Result PathTest AtByte
 search_test word = elim (parse_pattern word false) [ Ok pattern ↦ Ok (Search pattern) | Err broken ↦ Err broken ]
 
+-- A word as a test of paths, or the rule that it breaks.
+abbrev pub test_by : PathForm → List ℕ → Result PathTest AtByte
+test_by Plain word = prefix_test word
+test_by Match word = search_test word
+
 -- ---- targets
-
--- A word as a target, or the rule that it breaks.
-abbrev pub Aiming : Type 0
-Aiming = List ℕ → Result (List Piece) AtByte
-
-abbrev pub plain_target : Aiming
-plain_target word = Ok (Bytes word ∷ [])
 
 -- A byte before pieces.
 abbrev pub with_byte : ℕ → List Piece → List Piece
@@ -59,9 +56,14 @@ template_of (b ∷ c ∷ bs) =
 abbrev pub is_other_sign : ℕ → Bool
 is_other_sign b = (b == ampersand) || (b == backslash)
 
-abbrev pub group_target : Aiming
+abbrev pub group_target : List ℕ → Result (List Piece) AtByte
 group_target word = if list_any is_other_sign word then Err wrong else Ok (template_of word)
 
+-- A word as a target, or the rule that it breaks: as it stands, or with groups.
+abbrev pub target_by : PathForm → List ℕ → Result (List Piece) AtByte
+target_by Plain word = Ok (Bytes word ∷ [])
+target_by Match word = group_target word
+
 -- One of the server's own.
-abbrev pub own_group_target : Aiming
-own_group_target word = if begins_with_slash word then group_target word else Err wrong
+abbrev pub own_target_by : PathForm → List ℕ → Result (List Piece) AtByte
+own_target_by form word = if begins_with_slash word then target_by form word else Err wrong

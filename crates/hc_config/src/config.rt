@@ -1,15 +1,18 @@
-ghost use Rattle.std.specs.Prelude.{◌≡◌, IfOk, OnOk};
+ghost use Rattle.std.specs.Prelude.{◌≡◌, [], IfOk, OnOk, Err};
 ghost use Rattle.hc_base.specs.Gives.{Gives};
-ghost use Rattle.hc_config.specs.Configuration.{built, no_body, no_server, rootless};
-ghost use Rattle.hc_config.specs.Judging.{IsFaultOf, config_with, finished, gathered_from, nothing_gathered, with_effect, with_root};
-ghost use Rattle.hc_config.specs.Rules.{refusal_of};
+ghost use Rattle.hc_base.specs.Rules.{refusal_at};
+ghost use Rattle.hc_flat.specs.EntriesView.{entry_of};
+ghost use Rattle.hc_config.specs.Configuration.{built, config_of, finished, gathered_from, main_server, no_body};
+ghost use Rattle.hc_config.specs.Configuration.{nothing_gathered, rootless, unless_rootless, unless_stopped};
+ghost use Rattle.hc_config.specs.Configuration.{with_effect};
 
+use crate::among::{Among, place_of};
 use crate::effect::Effect;
 use crate::rules::judge;
 use hc_base::codes::NO_DOCUMENT_ROOT;
 use hc_base::{AtByte, Fault, List, NoMemory, Place, Refusal, Text};
-use hc_include::{EntriesFrom, Flat, defines, modules};
-use hc_model::{Alias, Body, Config, Entry, Inherit, Merging, Redirect, Server};
+use hc_flat::{Entries, EntryView, Flat};
+use hc_model::{Alias, Body, Config, Inherit, Merging, Redirect, Server};
 use hc_table::directives;
 use std::alloc::Global;
 
@@ -22,41 +25,38 @@ pub type BuildFault = Fault<Refusal>;
 /// entry that breaks a rule is refused, by the rule with the smallest number; behind all entries
 /// what stopped the reading; and last a list without `DocumentRoot`, at line 0 of the file that
 /// reading began with. The order of refusals is our own choice.
-#[tactic(auto, using(crate::proofs::Gathering::built_is))]
+#[tactic(auto, unfolding(crate::specs::Configuration::built))]
 pub fn build(alloc: Global, flat: &Flat) -> Result<Config, BuildFault>
     ensures { Gives result (built flat.now) }
 {
-    match gather(alloc, flat.entries.all()) {
+    match gather(alloc, &flat.entries) {
         Ok(gathered) => finish(alloc, flat, gathered),
         Err(fault) => Err(fault),
     }
 }
 
-// What stopped the reading comes behind the entries, and last that there is no document root.
+// What stopped the reading comes behind the entries.
 fn finish(alloc: Global, flat: &Flat, gathered: Gathered) -> Result<Config, BuildFault>
-    ensures { Gives result (finished flat.now gathered) }
+    ensures { Gives result (unless_stopped flat.now gathered flat.now.stop) }
 {
     match &flat.stop {
         Some(refusal) => Err(Fault::Refused(refusal.clone()?)),
-        None => with_root(alloc, flat, gathered),
+        None => finish_rooted(alloc, flat, gathered),
     }
 }
 
-#[tactic(auto, using(crate::proofs::Gathering::rooted))]
-fn with_root(alloc: Global, flat: &Flat, gathered: Gathered) -> Result<Config, BuildFault>
-    ensures { Gives result (with_root flat.now gathered gathered.root) }
+// Last comes that there is no document root.
+fn finish_rooted(alloc: Global, flat: &Flat, gathered: Gathered) -> Result<Config, BuildFault>
+    ensures { Gives result (unless_rootless flat.now gathered gathered.root) }
 {
-    if gathered.root.is_none() {
-        return Err(Fault::Refused(rootless(alloc, &flat.file)?));
-    }
-    match config_with(alloc, flat, gathered) {
-        Ok(config) => Ok(config),
-        Err(NoMemory) => Err(Fault::NoMemory),
+    match &gathered.root {
+        Some(_) => Ok(config_of(alloc, flat, gathered)?),
+        None => Err(Fault::Refused(rootless(alloc, &flat.file)?)),
     }
 }
 
-/// What entries do to the main server.
-#[derive(Debug, Drop)]
+/// What entries give.
+#[derive(Drop)]
 pub(crate) struct Gathered {
     /// The last document root so far.
     root: Option<Text>,
@@ -66,25 +66,43 @@ pub(crate) struct Gathered {
     maps: List<Alias>,
 }
 
-fn gather(alloc: Global, entries: EntriesFrom) -> Result<Gathered, BuildFault>
-    ensures { Gives result (gathered_from nothing_gathered entries.entry) }
+#[tactic(auto, using(crate::proofs::Places::before_more))]
+fn gather(alloc: Global, entries: &Entries) -> Result<Gathered, BuildFault>
+    ensures { Gives result (gathered_from nothing_gathered [] entries.now) }
 {
     let names = directives();
     let mut gathered = Gathered {
         root: None,
         redirects: List::new(alloc),
-        maps: List::new(alloc),
+        maps: room_for(alloc, entries.len()),
     };
-    let mut left = entries;
-    'entries: while let Some((entry, behind)) = left.split_first(alloc)? {
-        match judge(alloc, &names.rows, &entry) {
+    for place in 0..entries.len() {
+        let entry = entries.entry(place);
+        let among = Among {
+            alloc,
+            names: &names.rows,
+            entries,
+            place,
+            entry,
+        };
+        match judge(&among) {
             Ok(effect) => perform(&mut gathered, effect)?,
-            Err(Fault::Refused(broken)) => return Err(refused(alloc, &entry, broken)),
+            Err(Fault::Refused(broken)) => return refused(alloc, entry, broken),
             Err(Fault::NoMemory) => return Err(Fault::NoMemory),
         }
-        left = behind;
     }
     Ok(gathered)
+}
+
+// No aliases, with room for so many where there is memory for it: a list that grows by doubling leaves
+// holes as large as itself.
+fn room_for(alloc: Global, aliases: usize) -> List<Alias>
+    ensures { result ≡ [] }
+{
+    match Vec::with_capacity(alloc, aliases) {
+        Ok(room) => List::from(room),
+        Err(_) => List::new(alloc),
+    }
 }
 
 fn perform(gathered: &mut Gathered, effect: Effect) -> Result<(), NoMemory>
@@ -101,60 +119,46 @@ fn perform(gathered: &mut Gathered, effect: Effect) -> Result<(), NoMemory>
     }
 }
 
-fn refused(alloc: Global, entry: &Entry, broken: AtByte) -> BuildFault
-    ensures { IsFaultOf (refusal_of entry.now broken) result }
+fn refused(alloc: Global, entry: EntryView, broken: AtByte) -> Result<Gathered, BuildFault>
+    ensures { Gives result (Err (refusal_at (entry_of entry.entry).spot.place broken)) }
 {
-    match refusal_of(alloc, entry, broken) {
-        Ok(refusal) => Fault::Refused(refusal),
-        Err(NoMemory) => Fault::NoMemory,
-    }
-}
-
-fn refusal_of(alloc: Global, entry: &Entry, broken: AtByte) -> Result<Refusal, NoMemory>
-    ensures { IfOk result (λ refusal. refusal ≡ refusal_of entry.now broken) }
-{
-    Ok(Refusal {
-        place: entry.spot.place.clone()?,
-        code: broken.code,
-        at: broken.at,
-        field: Text::from(Vec::new(alloc)),
-    })
+    let place = place_of(entry)?;
+    Err(Fault::Refused(Refusal::at(alloc, place, broken)))
 }
 
 fn rootless(alloc: Global, file: &Text) -> Result<Refusal, NoMemory>
     ensures { IfOk result (λ refusal. refusal ≡ rootless file.now) }
 {
-    Ok(Refusal {
-        place: Place {
-            file: file.clone()?,
-            line: 0,
-        },
-        code: NO_DOCUMENT_ROOT,
-        at: 0,
-        field: Text::from(Vec::new(alloc)),
-    })
+    let place = Place {
+        file: file.clone()?,
+        line: 0,
+    };
+    Ok(Refusal::at(alloc, place, AtByte::rule(NO_DOCUMENT_ROOT)))
 }
 
-#[tactic(auto, unfolding(crate::specs::Judging::config_with))]
-fn config_with(alloc: Global, flat: &Flat, gathered: Gathered) -> Result<Config, NoMemory>
-    ensures { IfOk result (λ config. config ≡ config_with flat.now gathered) }
+#[tactic(auto, unfolding(crate::specs::Configuration::config_of))]
+fn config_of(alloc: Global, flat: &Flat, gathered: Gathered) -> Result<Config, NoMemory>
+    ensures { IfOk result (λ config. config ≡ config_of flat.now gathered) }
 {
+    let defines = flat.defines.copy()?;
+    let modules = flat.modules.copy()?;
+    let reads = flat.reads.copy()?;
     Ok(Config {
-        main: server_of(alloc, gathered),
+        main: main_server(alloc, gathered),
         hosts: List::new(alloc),
-        defines: defines(alloc, flat.entries.all())?,
-        modules: modules(alloc, flat.entries.all())?,
-        reads: flat.reads.copy()?,
+        defines,
+        modules,
+        reads,
     })
 }
 
 // A main server of which nothing else is said.
-fn server_of(alloc: Global, gathered: Gathered) -> Server
-    ensures { result ≡ record no_server { root = gathered.root; redirects = gathered.redirects; maps = gathered.maps } }
+fn main_server(alloc: Global, gathered: Gathered) -> Server
+    ensures { result ≡ main_server gathered }
 {
     Server {
         place: Place {
-            file: Text::from(Vec::new(alloc)),
+            file: Text::new(alloc),
             line: 0,
         },
         addresses: List::new(alloc),

@@ -1,6 +1,7 @@
 //! The configuration that a flat list of entries gives, or the first rule that it breaks.
 #![tactic(auto)]
 
+mod among;
 mod config;
 mod effect;
 mod redirect;

@@ -1,107 +1,95 @@
-ghost use Rattle.std.specs.Prelude.{◌≡◌};
+ghost use Rattle.std.specs.Prelude.{◌≡◌, Ok};
 ghost use Rattle.hc_base.specs.Gives.{Gives};
+ghost use Rattle.hc_flat.specs.EntriesView.{entry_of};
+ghost use Rattle.hc_config.specs.Among.{among_of};
 ghost use Rattle.hc_config.specs.Directives.{redirect_by, sent, sent_alone, sent_to_url, sent_with};
-ghost use Rattle.hc_config.specs.Targets.{group_target, plain_target, prefix_test, search_test};
 
-use crate::effect::{Effect, EffectFault, WRONG};
-use crate::status::{TEMPORARY, has_url, status_of};
-use crate::targets::{group_target, plain_target, prefix_test, search_test};
-use hc_base::{CowStr, List, NoMemory};
-use hc_model::{PathTest, Redirect, Spot, Template};
-use std::alloc::Global;
+use crate::among::{Among, place_of};
+use crate::effect::{Effect, EffectFault, REFUSED};
+use crate::status::{TEMPORARY, first_status, has_url};
+use crate::targets::{PathForm, target_by, test_by};
+use hc_base::{CowStr, Fault, List};
+use hc_flat::EntryView;
+use hc_model::{PathTest, Redirect, Template};
 
-// `Redirect [status] url-path [url]` (Apache manual, mod_alias): without a status it is 302, and only
-// a status from 300 to 399 has a URL.
-pub(crate) fn redirect(alloc: Global, spot: &Spot, words: &[CowStr]) -> Result<Effect, EffectFault>
-    ensures { Gives result (redirect_by prefix_test plain_target spot.now words.now) }
+/// `Redirect [status] url-path [url]`, and `RedirectMatch` with a pattern (Apache manual, mod_alias):
+/// without a status it is 302, and only a status from 300 to 399 has a URL.
+pub(crate) fn redirect(
+    form: PathForm,
+    among: &Among,
+    words: &[CowStr],
+) -> Result<Effect, EffectFault>
+    ensures { Gives result (redirect_by form (among_of among.now) words.now) }
 {
     let [first, rest @ ..] = words else {
-        return Err(WRONG);
+        return Err(REFUSED);
     };
-    match status_of(first.as_str()) {
-        Some(status) => redirect_with(alloc, status, spot, rest),
-        None => redirect_with(alloc, TEMPORARY, spot, words),
+    match first_status(first.as_str()) {
+        Ok(Some(status)) => redirect_with(form, status, among, rest),
+        Ok(None) => redirect_with(form, TEMPORARY, among, words),
+        Err(broken) => Err(Fault::Refused(broken)),
     }
 }
 
 fn redirect_with(
-    alloc: Global,
+    form: PathForm,
     status: u16,
-    spot: &Spot,
+    among: &Among,
     words: &[CowStr],
 ) -> Result<Effect, EffectFault>
-    ensures { Gives result (sent_with prefix_test plain_target status spot.now words.now) }
+    ensures { Gives result (sent_with form status (among_of among.now) words.now) }
 {
     if has_url(status) {
-        return redirect_as(alloc, status, spot, words);
-    }
-    match words {
-        [from] => send(spot, status, List::new(alloc), prefix_test(alloc, from)?),
-        _ => Err(WRONG),
+        redirect_as(form, status, among, words)
+    } else {
+        redirect_alone(form, status, among, words)
     }
 }
 
-// `RedirectPermanent url-path url` and its kin (mod_alias).
+/// `RedirectPermanent url-path url` and its kin (mod_alias).
 pub(crate) fn redirect_as(
-    alloc: Global,
+    form: PathForm,
     status: u16,
-    spot: &Spot,
+    among: &Among,
     words: &[CowStr],
 ) -> Result<Effect, EffectFault>
-    ensures { Gives result (sent_to_url prefix_test plain_target status spot.now words.now) }
+    ensures { Gives result (sent_to_url form status (among_of among.now) words.now) }
 {
     match words {
         [from, url] => {
-            let to = plain_target(alloc, url)?;
-            send(spot, status, to, prefix_test(alloc, from)?)
+            let to = target_by(among.alloc, form, url)?;
+            send(among.entry, status, to, test_by(among.alloc, form, from)?)
         }
-        _ => Err(WRONG),
+        _ => Err(REFUSED),
     }
 }
 
-// `RedirectMatch [status] pattern [url]` (mod_alias).
-pub(crate) fn redirect_match(
-    alloc: Global,
-    spot: &Spot,
-    words: &[CowStr],
-) -> Result<Effect, EffectFault>
-    ensures { Gives result (redirect_by search_test group_target spot.now words.now) }
-{
-    let [first, rest @ ..] = words else {
-        return Err(WRONG);
-    };
-    match status_of(first.as_str()) {
-        Some(status) => match_with(alloc, status, spot, rest),
-        None => match_with(alloc, TEMPORARY, spot, words),
-    }
-}
-
-fn match_with(
-    alloc: Global,
+// A status alone.
+fn redirect_alone(
+    form: PathForm,
     status: u16,
-    spot: &Spot,
+    among: &Among,
     words: &[CowStr],
 ) -> Result<Effect, EffectFault>
-    ensures { Gives result (sent_with search_test group_target status spot.now words.now) }
+    ensures { Gives result (sent_alone form status (among_of among.now) words.now) }
 {
     match words {
-        [from, url] if has_url(status) => {
-            let to = group_target(alloc, url)?;
-            send(spot, status, to, search_test(alloc, from)?)
-        }
-        [from] if !has_url(status) => {
-            send(spot, status, List::new(alloc), search_test(alloc, from)?)
-        }
-        _ => Err(WRONG),
+        [from] => send(
+            among.entry,
+            status,
+            List::new(among.alloc),
+            test_by(among.alloc, form, from)?,
+        ),
+        _ => Err(REFUSED),
     }
 }
 
-fn send(spot: &Spot, status: u16, to: Template, from: PathTest) -> Result<Effect, EffectFault>
-    ensures { Gives result (sent spot.now status (Ok to) (Ok from)) }
+fn send(entry: EntryView, status: u16, to: Template, from: PathTest) -> Result<Effect, EffectFault>
+    ensures { Gives result (Ok (sent (entry_of entry.entry).spot status to from)) }
 {
     Ok(Effect::Send(Redirect {
-        place: spot.place.clone()?,
-        span: spot.span,
+        place: place_of(entry)?,
+        span: entry.span,
         from,
         to,
         status,

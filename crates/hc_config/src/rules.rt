@@ -1,43 +1,46 @@
-ghost use Rattle.std.specs.Prelude.{◌≡◌, is_some, map};
-ghost use Rattle.hc_base.specs.Gives.{Gives};
+ghost use Rattle.std.specs.Prelude.{◌≡◌, ◌&&◌, is_some, map, true, Some, Ok};
+ghost use Rattle.hc_base.specs.Gives.{Gives, GivesList};
+ghost use Rattle.hc_flat.specs.EntriesView.{entry_of};
+ghost use Rattle.hc_lines.specs.Words.{read_words};
 ghost use Rattle.hc_table.specs.Directives.{directive_rows};
-ghost use Rattle.hc_table.specs.Table.{row_of};
-ghost use Rattle.hc_config.specs.Directives.{taking};
-ghost use Rattle.hc_config.specs.Judging.{judged, judged_as, taken, taken_words};
-ghost use Rattle.hc_config.specs.Rules.{is_close, is_of_form, may_stand};
+ghost use Rattle.hc_table.specs.Table.{find_in, row_of};
+ghost use Rattle.hc_config.specs.Among.{among_of};
+ghost use Rattle.hc_config.specs.Directives.{giving};
+ghost use Rattle.hc_config.specs.Rules.{if_placed, if_read, if_supported, is_closing, is_of_form, judged};
+ghost use Rattle.hc_config.specs.Rules.{may_stand, spelling_of, supported};
 
+use crate::among::{Among, context_of};
 use crate::effect::{
-    Effect, EffectFault, alias, alias_match, document_root, one_or_two_words, one_word, only,
-    server_root,
+    Effect, EffectFault, alias, counted, document_root, server_root, this_argument,
 };
-use crate::redirect::{redirect, redirect_as, redirect_match};
+use crate::redirect::{redirect, redirect_as};
 use crate::status::{PERMANENT, TEMPORARY};
+use crate::targets::PathForm;
 use hc_base::codes::{UNSUPPORTED_DIRECTIVE, WRONG_CONTEXT};
 use hc_base::{AtByte, CowStr, Fault};
-use hc_lines::conf_words;
-use hc_model::{Entry, EntryForm, Spot};
-use hc_table::{Row, RowKind, context, find_in, meaning};
+use hc_flat::EntryView;
+use hc_lines::{conf_words, rewrite_words};
+use hc_model::EntryForm;
+use hc_table::{Row, RowKind, Wording, find_in, meaning};
 use std::alloc::Global;
 
-/// What an entry does, or the first rule that it breaks. `names` are the rows of the table of
-/// directives. An entry whose words are not UTF-8, which no text of a world gives, is answered as if
-/// memory were refused (our own choice).
-#[tactic(auto, using(crate::proofs::Judged::judged_row, crate::proofs::Judged::judged_nothing, crate::proofs::Judged::judged_close))]
-pub(crate) fn judge(alloc: Global, names: &[Row], entry: &Entry) -> Result<Effect, EffectFault>
-    requires { map row_of names.now ≡ directive_rows }
-    ensures { Gives result (judged entry.now) }
+/// What an entry gives, or the first rule that it breaks.
+#[tactic(auto, unfolding(crate::specs::Rules::judged))]
+pub(crate) fn judge(among: &Among) -> Result<Effect, EffectFault>
+    requires { map row_of among.now.names.now ≡ directive_rows }
+    ensures { Gives result (judged (among_of among.now)) }
 {
-    if is_close(entry.form) {
+    if is_closing(among.entry.form) {
         return Ok(Effect::Nothing);
     }
-    match find_in(names, entry.name.as_bytes()) {
-        Some(kind) => judge_as(alloc, kind, entry),
+    match kind_of(among.names, among.entry) {
+        Some(kind) => judge_as(kind, among),
         None => Err(broken(UNSUPPORTED_DIRECTIVE)),
     }
 }
 
-fn is_close(form: EntryForm) -> bool
-    ensures { result ≡ is_close form }
+fn is_closing(form: EntryForm) -> bool
+    ensures { result ≡ is_closing form }
 {
     matches!(form, EntryForm::Close)
 }
@@ -45,37 +48,24 @@ fn is_close(form: EntryForm) -> bool
 fn broken(code: u8) -> EffectFault
     ensures { result ≡ Fault.Refused (record { code = code; at = 0 }) }
 {
-    Fault::Refused(AtByte { code, at: 0 })
+    Fault::Refused(AtByte::rule(code))
 }
 
-// An entry that is no close, by the row of its name.
-fn judge_as(alloc: Global, kind: RowKind, entry: &Entry) -> Result<Effect, EffectFault>
-    ensures { Gives result (judged_as kind entry.now) }
+// The row of an entry's name, where a directive or section of its form is built.
+fn kind_of(names: &[Row], entry: EntryView) -> Option<RowKind>
+    requires { map row_of names.now ≡ directive_rows }
+    ensures { result ≡ supported (entry_of entry.entry).form (find_in directive_rows (entry_of entry.entry).name) }
 {
-    if !is_of_form(entry.form, kind.meaning) || !is_built(kind.meaning) {
-        return Err(broken(UNSUPPORTED_DIRECTIVE));
-    }
-    if !may_stand(context::MAIN_SERVER, kind) {
-        return Err(broken(WRONG_CONTEXT));
-    }
-    match std::str::from_utf8(entry.rest.as_bytes()) {
-        Ok(rest) => read_and_take(alloc, kind.meaning, &entry.spot, rest),
-        Err(_) => Err(Fault::NoMemory),
+    match find_in(names, entry.name.as_bytes()) {
+        Some(kind) if is_supported(entry.form, kind.meaning) => Some(kind),
+        _ => None,
     }
 }
 
-fn read_and_take(
-    alloc: Global,
-    meaning: u16,
-    spot: &Spot,
-    rest: &str,
-) -> Result<Effect, EffectFault>
-    ensures { Gives result (taken_words meaning spot.now rest.now) }
+fn is_supported(form: EntryForm, meaning: u16) -> bool
+    ensures { result ≡ (is_of_form form meaning && is_some (giving meaning)) }
 {
-    match conf_words(alloc, rest) {
-        Ok(words) => take(alloc, meaning, spot, &words),
-        Err(fault) => Err(fault),
-    }
+    is_of_form(form, meaning) && is_built(meaning)
 }
 
 // Only a container opens a section, and only another name is a directive.
@@ -89,6 +79,18 @@ fn is_of_form(form: EntryForm, meaning: u16) -> bool
     }
 }
 
+// An entry of this row, where it may stand.
+fn judge_as(kind: RowKind, among: &Among) -> Result<Effect, EffectFault>
+    requires { map row_of among.now.names.now ≡ directive_rows }
+    ensures { Gives result (if_supported (Some kind) (among_of among.now)) }
+{
+    if may_stand(context_of(among), kind) {
+        read_and_give(kind, among)
+    } else {
+        Err(broken(WRONG_CONTEXT))
+    }
+}
+
 // A directive may stand in this context.
 fn may_stand(context: u16, kind: RowKind) -> bool
     ensures { result ≡ may_stand context kind }
@@ -96,9 +98,31 @@ fn may_stand(context: u16, kind: RowKind) -> bool
     kind.contexts & context != 0
 }
 
+fn read_and_give(kind: RowKind, among: &Among) -> Result<Effect, EffectFault>
+    ensures { Gives result (if_placed true kind (among_of among.now)) }
+{
+    match read_as(among.alloc, kind.wording, among.entry.rest) {
+        Ok(words) => give(kind.meaning, among, &words),
+        Err(fault) => Err(fault),
+    }
+}
+
+fn read_as<'t>(
+    alloc: Global,
+    wording: Wording,
+    rest: &'t str,
+) -> Result<Vec<CowStr<'t>>, EffectFault>
+    ensures { GivesList result (read_words (spelling_of wording) rest.now) }
+{
+    match wording {
+        Wording::Configuration => conf_words(alloc, rest),
+        Wording::Rewriting => rewrite_words(alloc, rest),
+    }
+}
+
 // The directives and sections that are built so far.
 fn is_built(meaning: u16) -> bool
-    ensures { result ≡ is_some (taking meaning) }
+    ensures { result ≡ is_some (giving meaning) }
 {
     matches!(
         meaning,
@@ -124,28 +148,26 @@ fn is_built(meaning: u16) -> bool
     )
 }
 
-// What the words of a directive do. One that is not built does nothing.
-fn take(alloc: Global, meaning: u16, spot: &Spot, words: &[CowStr]) -> Result<Effect, EffectFault>
-    ensures { Gives result (taken meaning spot.now words.now) }
+// What a directive gives with these words.
+fn give(meaning: u16, among: &Among, words: &[CowStr]) -> Result<Effect, EffectFault>
+    ensures { Gives result (if_read (Ok words.now) (giving meaning) (among_of among.now)) }
 {
     match meaning {
-        meaning::SERVER_ROOT => server_root(spot, words),
-        meaning::DOCUMENT_ROOT => document_root(alloc, spot, words),
-        meaning::DEFINE => one_or_two_words(spot, words),
-        meaning::INCLUDE => one_word(spot, words),
-        meaning::INCLUDE_OPTIONAL => one_word(spot, words),
-        meaning::ALIAS => alias(alloc, spot, words),
-        meaning::SCRIPT_ALIAS => alias(alloc, spot, words),
-        meaning::ALIAS_MATCH => alias_match(alloc, spot, words),
-        meaning::REDIRECT => redirect(alloc, spot, words),
-        meaning::REDIRECT_MATCH => redirect_match(alloc, spot, words),
-        meaning::REDIRECT_PERMANENT => redirect_as(alloc, PERMANENT, spot, words),
-        meaning::REDIRECT_TEMP => redirect_as(alloc, TEMPORARY, spot, words),
-        meaning::USE_CANONICAL_NAME => only("Off", spot, words),
-        meaning::USER_DIR => only("disabled", spot, words),
-        meaning::ACCESS_FILE_NAME => only(".htaccess", spot, words),
-        meaning::IF_DEFINE => one_word(spot, words),
-        meaning::IF_MODULE => one_word(spot, words),
-        _ => Ok(Effect::Nothing),
+        meaning::SERVER_ROOT => server_root(words),
+        meaning::DOCUMENT_ROOT => document_root(among, words),
+        meaning::DEFINE => counted(1, 2, words),
+        meaning::INCLUDE | meaning::INCLUDE_OPTIONAL => counted(1, 1, words),
+        meaning::ALIAS | meaning::SCRIPT_ALIAS => alias(PathForm::Plain, among, words),
+        meaning::ALIAS_MATCH => alias(PathForm::Match, among, words),
+        meaning::REDIRECT => redirect(PathForm::Plain, among, words),
+        meaning::REDIRECT_MATCH => redirect(PathForm::Match, among, words),
+        meaning::REDIRECT_PERMANENT => redirect_as(PathForm::Plain, PERMANENT, among, words),
+        meaning::REDIRECT_TEMP => redirect_as(PathForm::Plain, TEMPORARY, among, words),
+        meaning::USE_CANONICAL_NAME => this_argument("Off", words),
+        meaning::USER_DIR => this_argument("disabled", words),
+        meaning::ACCESS_FILE_NAME => this_argument(".htaccess", words),
+        meaning::LOAD_MODULE | meaning::INERT => Ok(Effect::Nothing),
+        meaning::IF_DEFINE | meaning::IF_MODULE => counted(1, 1, words),
+        _ => Err(broken(UNSUPPORTED_DIRECTIVE)),
     }
 }

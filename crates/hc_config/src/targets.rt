@@ -1,77 +1,111 @@
 ghost use Rattle.std.specs.Prelude.{◌≡◌, ◌<◌, [], ◌∷◌, ◌++◌, length, IfOk, OnOk};
 ghost use Rattle.std.specs.List.{list_any};
 ghost use Rattle.hc_base.specs.Gives.{Gives};
+ghost use Rattle.hc_base.specs.Paths.{begins_with_slash};
 ghost use Rattle.hc_model.specs.declared.template.Piece.TheVariants.{Bytes};
-ghost use Rattle.hc_config.specs.Targets.{group_target, is_other_sign, own_group_target, plain_target, prefix_test, search_test, template_of};
-ghost use Rattle.hc_config.specs.TargetViews.{behind, template_by, with_run};
+ghost use Rattle.hc_config.specs.Targets.{group_target, is_other_sign, own_target_by, prefix_test, search_test};
+ghost use Rattle.hc_config.specs.Targets.{target_by, template_of, test_by};
+ghost use Rattle.hc_config.specs.TargetViews.{left_by, template_by, with_run};
 
-use crate::effect::{EffectFault, WRONG};
+use crate::effect::{EffectFault, REFUSED};
 use hc_base::paths::begins_with_slash;
 use hc_base::{CowStr, List, NoMemory, Text};
 use hc_model::{PathTest, Piece, Regex, Template};
 use hc_pattern::parse_pattern;
 use std::alloc::Global;
 
-/// A path and what is below it, as a test of paths.
-pub(crate) fn prefix_test(alloc: Global, word: &CowStr) -> Result<PathTest, EffectFault>
-    ensures { Gives result (prefix_test word.now) }
-{
-    let bytes = word.as_str().as_bytes();
-    if !begins_with_slash(bytes) {
-        return Err(WRONG);
-    }
-    Ok(PathTest::Prefix(Text::copy_of(alloc, bytes)?))
+/// How an alias or a redirect says its paths and its target.
+#[derive(Clone, Copy)]
+pub(crate) enum PathForm {
+    /// A path and what is below it, and a target as it stands.
+    Plain,
+    /// A pattern, and a target with groups: the `Match` directives (Apache manual, mod_alias).
+    Match,
 }
 
-/// A pattern as a test of paths.
-#[tactic(auto, unfolding(crate::specs::Targets::search_test))]
-pub(crate) fn search_test(alloc: Global, word: &CowStr) -> Result<PathTest, EffectFault>
-    ensures { Gives result (search_test word.now) }
+/// A word as a test of paths.
+pub(crate) fn test_by(alloc: Global, form: PathForm, word: &CowStr) -> Result<PathTest, EffectFault>
+    ensures { Gives result (test_by form word.now) }
 {
-    match parse_pattern(alloc, word.as_str().as_bytes(), false) {
-        Ok(pattern) => Ok(PathTest::Search(Regex::of(pattern))),
+    match form {
+        PathForm::Plain => prefix_test(alloc, word.as_str().as_bytes()),
+        PathForm::Match => search_test(alloc, word.as_str().as_bytes()),
+    }
+}
+
+fn prefix_test(alloc: Global, path: &[u8]) -> Result<PathTest, EffectFault>
+    ensures { Gives result (prefix_test path.now) }
+{
+    if !begins_with_slash(path) {
+        return Err(REFUSED);
+    }
+    Ok(PathTest::Prefix(Text::copy_of(alloc, path)?))
+}
+
+#[tactic(auto, unfolding(crate::specs::Targets::search_test))]
+fn search_test(alloc: Global, pattern: &[u8]) -> Result<PathTest, EffectFault>
+    ensures { Gives result (search_test pattern.now) }
+{
+    match parse_pattern(alloc, pattern, false) {
+        Ok(pattern) => Ok(PathTest::Search(Regex::new(alloc, pattern)?)),
         Err(fault) => Err(fault),
     }
 }
 
-/// A target as it stands.
-pub(crate) fn plain_target(alloc: Global, word: &CowStr) -> Result<Template, EffectFault>
-    ensures { Gives result (plain_target word.now) }
+/// A word as a target.
+pub(crate) fn target_by(
+    alloc: Global,
+    form: PathForm,
+    word: &CowStr,
+) -> Result<Template, EffectFault>
+    ensures { Gives result (target_by form word.now) }
 {
-    let text = Text::copy_of(alloc, word.as_str().as_bytes())?;
-    Ok(text_alone(alloc, text)?)
+    match form {
+        PathForm::Plain => Ok(text_alone(alloc, word.as_str().as_bytes())?),
+        PathForm::Match => group_target(alloc, word.as_str().as_bytes()),
+    }
 }
 
-/// A target that is this text.
-pub(crate) fn text_alone(alloc: Global, text: Text) -> Result<Template, NoMemory>
-    ensures { IfOk result (λ target. target ≡ Bytes text ∷ []) }
+/// A word as a target that is one of the server's own.
+pub(crate) fn own_target_by(
+    alloc: Global,
+    form: PathForm,
+    word: &CowStr,
+) -> Result<Template, EffectFault>
+    ensures { Gives result (own_target_by form word.now) }
+{
+    if is_absolute(word) {
+        target_by(alloc, form, word)
+    } else {
+        Err(REFUSED)
+    }
+}
+
+/// A path that begins with a slash.
+pub(crate) fn is_absolute(path: &CowStr) -> bool
+    ensures { result ≡ begins_with_slash path.now }
+{
+    begins_with_slash(path.as_str().as_bytes())
+}
+
+// A target that is this text.
+fn text_alone(alloc: Global, text: &[u8]) -> Result<Template, NoMemory>
+    ensures { IfOk result (λ target. target ≡ Bytes text.now ∷ []) }
 {
     let mut target = List::new(alloc);
-    target.push(Piece::Bytes(text))?;
+    target.push(Piece::Bytes(Text::copy_of(alloc, text)?))?;
     // A list that grows has room for four; its copy has no room to spare.
     target.copy()
 }
 
-/// A target in which `$0` to `$9` stand for groups.
-pub(crate) fn group_target(alloc: Global, word: &CowStr) -> Result<Template, EffectFault>
-    ensures { Gives result (group_target word.now) }
+// A target in which `$0` to `$9` stand for groups.
+fn group_target(alloc: Global, text: &[u8]) -> Result<Template, EffectFault>
+    ensures { Gives result (group_target text.now) }
 {
-    let bytes = word.as_str().as_bytes();
-    if has_other_sign(bytes) {
-        return Err(WRONG);
+    if has_other_sign(text) {
+        return Err(REFUSED);
     }
-    Ok(template_of(alloc, bytes)?)
-}
-
-/// A target with groups that is one of the server's own.
-pub(crate) fn own_group_target(alloc: Global, word: &CowStr) -> Result<Template, EffectFault>
-    ensures { Gives result (own_group_target word.now) }
-{
-    if begins_with_slash(word.as_str().as_bytes()) {
-        group_target(alloc, word)
-    } else {
-        Err(WRONG)
-    }
+    Ok(template_of(alloc, text)?)
 }
 
 fn has_other_sign(bytes: &[u8]) -> bool
@@ -120,7 +154,7 @@ pub(crate) enum Next<'t> {
 fn next_of(text: &[u8]) -> Next
     requires { 0 < length text.now }
     ensures value { template_of text.now ≡ template_by result }
-    ensures shorter { length (behind result) < length text.now }
+    ensures shorter { length (left_by result) < length text.now }
 {
     match text {
         [b'$', digit, behind @ ..] if digit.is_ascii_digit() => Next::Group {
