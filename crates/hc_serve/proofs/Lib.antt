@@ -1,1 +1,3 @@
-pub mod Ways
+pub mod Common
+pub mod Answered
+pub mod Passes

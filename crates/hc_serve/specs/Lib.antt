@@ -1,3 +1,4 @@
-pub mod Steps
-pub mod Meaning
-pub mod Views
+pub mod Site
+pub mod Passing
+pub mod Request
+pub mod Answers

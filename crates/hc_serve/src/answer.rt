@@ -1,13 +1,153 @@
-use hc_base::List;
-use hc_model::{Event, Outcome, Read};
+ghost use Rattle.std.specs.Prelude.{◌≡◌, ◌+◌, true, IfOk, Some};
+ghost use Rattle.hc_base.specs.Paths.{begins_with_slash};
+ghost use Rattle.hc_serve.specs.Answers.{IsServed, log_of};
+ghost use Rattle.hc_serve.specs.Request.{IsAnswer, IsWholeRun, way};
 
-/// What a request receives, and how that came. Its steps and what was looked at are not told yet.
-#[derive(Debug, Drop)]
+use crate::way::way;
+use hc_base::{Fault, List, NoMemory, Place, Steps};
+use hc_model::{Config, Event, LimitKind, Outcome, Read, Request};
+use hc_steps::Log;
+use hc_world::World;
+use std::alloc::Global;
+use std::sync::ledger::Ledger;
+
+/// How many events a trail has at most.
+const LONGEST_TRAIL: usize = 200;
+
+/// What a request receives, and how that came.
+#[derive(Drop)]
 pub struct Answer {
     pub outcome: Outcome,
     /// How many steps were taken.
     pub events: u64,
     /// The first of these steps.
     pub trail: List<Event>,
+    /// What the outcome rests on.
     pub reads: List<Read>,
+}
+
+/// What a request receives, and all steps to it.
+#[derive(Drop)]
+pub struct WholeRun {
+    pub outcome: Outcome,
+    pub events: List<Event>,
+    /// The Require lines of the last pass.
+    pub needs: List<Place>,
+    pub reads: List<Read>,
+}
+
+impl Clone for Answer {
+    ghost use Rattle.std.specs.Prelude.{◌≡◌};
+
+    ghost is_clone = { λ answer copy. copy ≡ answer };
+
+    fn clone(&self) -> Result<Answer, NoMemory> {
+        Ok(Answer {
+            outcome: self.outcome.clone()?,
+            events: self.events,
+            trail: self.trail.copy()?,
+            reads: self.reads.copy()?,
+        })
+    }
+}
+
+impl Clone for WholeRun {
+    ghost use Rattle.std.specs.Prelude.{◌≡◌};
+
+    ghost is_clone = { λ whole copy. copy ≡ whole };
+
+    fn clone(&self) -> Result<WholeRun, NoMemory> {
+        Ok(WholeRun {
+            outcome: self.outcome.clone()?,
+            events: self.events.copy()?,
+            needs: self.needs.copy()?,
+            reads: self.reads.copy()?,
+        })
+    }
+}
+
+/// What a request receives of a configuration and the files of a world, with the first steps to it.
+/// `evals` counts one.
+pub fn evaluate<L: Ledger>(
+    alloc: Global,
+    config: &Config,
+    world: &World,
+    request: &Request,
+    evals: &mut Steps<L>,
+) -> Result<Answer, NoMemory>
+    requires { begins_with_slash request.now.target ≡ true }
+    ensures answer { IfOk result (IsAnswer world.now.files config.now request.now) }
+    ensures evals { evals.new ≡ evals.old + 1 }
+{
+    evals.tick();
+    let served = serve(alloc, config, world, request, Some(LONGEST_TRAIL))?;
+    let told = served.log.into_told();
+    Ok(Answer {
+        outcome: served.outcome,
+        events: told.count,
+        trail: told.events,
+        reads: told.reads,
+    })
+}
+
+/// The same, with all steps, and the Require lines of the last pass: none, since none is read yet.
+pub fn whole_run<L: Ledger>(
+    alloc: Global,
+    config: &Config,
+    world: &World,
+    request: &Request,
+    evals: &mut Steps<L>,
+) -> Result<WholeRun, NoMemory>
+    requires { begins_with_slash request.now.target ≡ true }
+    ensures whole { IfOk result (IsWholeRun world.now.files config.now request.now) }
+    ensures evals { evals.new ≡ evals.old + 1 }
+{
+    evals.tick();
+    let served = serve(alloc, config, world, request, None)?;
+    let told = served.log.into_told();
+    Ok(WholeRun {
+        outcome: served.outcome,
+        events: told.events,
+        needs: List::new(alloc),
+        reads: told.reads,
+    })
+}
+
+/// What a request receives, and what was told on the way.
+#[derive(Drop)]
+struct Served {
+    outcome: Outcome,
+    log: Log,
+}
+
+fn serve(
+    alloc: Global,
+    config: &Config,
+    world: &World,
+    request: &Request,
+    cap: Option<usize>,
+) -> Result<Served, NoMemory>
+    requires { begins_with_slash request.now.target ≡ true }
+    ensures { IfOk result (IsServed cap world.now.files config.now request.now) }
+{
+    let mut log = log_of(alloc, cap, config.reads.as_slice())?;
+    match way(config, world, &mut log, request) {
+        Ok(_) => Ok(Served {
+            outcome: Outcome::Limit(LimitKind::Redirects),
+            log,
+        }),
+        Err(Fault::Refused(outcome)) => Ok(Served { outcome, log }),
+        Err(Fault::NoMemory) => Err(NoMemory),
+    }
+}
+
+// A log that begins with the reads of the configuration.
+fn log_of(alloc: Global, cap: Option<usize>, reads: &[Read]) -> Result<Log, NoMemory>
+    ensures { IfOk result (λ log. log ≡ log_of cap reads.now) }
+{
+    let mut log = Log::new(alloc, cap);
+    for read in reads {
+        log.look(read.clone()?)?;
+    }
+    Ok(log)
 }

@@ -2,7 +2,11 @@
 #![tactic(auto)]
 
 mod answer;
-mod meaning;
+pub mod laws;
+mod name;
+mod pass;
+mod site;
+mod stage;
+mod way;
 
-pub use answer::Answer;
-pub use meaning::evaluate;
+pub use answer::{Answer, WholeRun, evaluate, whole_run};

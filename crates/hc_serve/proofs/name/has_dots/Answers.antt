@@ -2,7 +2,7 @@ use Rattle.std.proofs.Common.{rules, tests}
 use Rattle.std.proofs.lemmas.Iterator.Search.{any_from_yields_List}
 use Rattle.std.proofs.lemmas.Iterator.Splits.{YieldsList-from_slice_split}
 use Rattle.hc_base.specs.Paths.{is_dots}
-use Rattle.hc_serve.proofs.meaning.has_dots.Goals as goal
+use Rattle.hc_serve.proofs.name.has_dots.Goals as goal
 
 pub returns : goal.returns
 returns c =

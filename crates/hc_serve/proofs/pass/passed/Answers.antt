@@ -1,0 +1,42 @@
+use Rattle.hc_serve.proofs.Common.{refl, passed, ran_then, ran_off}
+use Rattle.hc_serve.proofs.pass.passed.Goals as goal
+use Rattle.hc_steps.specs.Step.{◌>>=◌}
+
+pub returns-in_err-named : goal.returns-in_err-named
+unfolding passed ◌>>=◌
+returns-in_err-named c =
+    ran_then _ _ _ _ _ _ _ _ c.in_ok-pass.ensures
+    (ran_off _ _ _ _ _ _ _ _ c.from_residual-in_err-named.ensures.1 c.in_err-named.ensures refl)
+
+pub returns-in_err-named-2 : goal.returns-in_err-named-2
+unfolding passed ◌>>=◌
+returns-in_err-named-2 c =
+    ran_then _ _ _ _ _ _ _ _ c.in_ok-pass.ensures
+    (ran_then _ _ _ _ _ _ _ _ c.in_ok-named.ensures
+    (ran_off _ _ _ _ _ _ _ _ c.from_residual-in_err-named-2.ensures.1 c.in_err-named-2.ensures refl))
+
+pub returns-in_err-here : goal.returns-in_err-here
+unfolding passed ◌>>=◌
+returns-in_err-here c =
+    ran_then _ _ _ _ _ _ _ _ c.in_ok-pass.ensures
+    (ran_then _ _ _ _ _ _ _ _ c.in_ok-named.ensures
+    (ran_then _ _ _ _ _ _ _ _ c.in_ok-named-2.ensures
+    (ran_off _ _ _ _ _ _ _ _ c.from_residual-in_err-here.ensures.1 c.in_err-here.ensures refl)))
+
+pub returns-in_err-here-2 : goal.returns-in_err-here-2
+unfolding passed ◌>>=◌
+returns-in_err-here-2 c =
+    ran_then _ _ _ _ _ _ _ _ c.in_ok-pass.ensures
+    (ran_then _ _ _ _ _ _ _ _ c.in_ok-named.ensures
+    (ran_then _ _ _ _ _ _ _ _ c.in_ok-named-2.ensures
+    (ran_then _ _ _ _ _ _ _ _ c.in_ok-here.ensures
+    (ran_off _ _ _ _ _ _ _ _ c.from_residual-in_err-here-2.ensures.1 c.in_err-here-2.ensures refl))))
+
+pub returns : goal.returns
+unfolding passed ◌>>=◌
+returns c =
+    ran_then _ _ _ _ _ _ _ _ c.in_ok-pass.ensures
+    (ran_then _ _ _ _ _ _ _ _ c.in_ok-named.ensures
+    (ran_then _ _ _ _ _ _ _ _ c.in_ok-named-2.ensures
+    (ran_then _ _ _ _ _ _ _ _ c.in_ok-here.ensures
+    (ran_then _ _ _ _ _ _ _ _ c.in_ok-here-2.ensures c.answered.ensures))))

@@ -1,0 +1,95 @@
+-- The steps of a pass, in their order. Those that are not built yet leave what they are given.
+-- Apache manual: "Mapping URLs to Filesystem Locations"; core, DocumentRoot, AcceptPathInfo; mod_alias.
+-- What is outside is our own choice.
+use Rattle.std.specs.Prelude.{ℕ, List, Bool, false, if◌then◌else◌}
+use Rattle.std.specs.List.{list_any, slice_split}
+use Rattle.hc_alias.specs.Mapping.{map_url}
+use Rattle.hc_alias.specs.declared.mapping.Mapped.{Mapped}
+use Rattle.hc_alias.specs.declared.mapping.Mapped.TheVariants as mapped
+use Rattle.hc_base.specs.Paths.{is_dots, is_slash, merge_slashes}
+use Rattle.hc_model.specs.declared.event.Authorized.TheVariants.{Unasked}
+use Rattle.hc_model.specs.declared.event.Event.TheVariants as event
+use Rattle.hc_model.specs.declared.outcome.Outcome.{Outcome}
+use Rattle.hc_model.specs.declared.outcome.Outcome.TheVariants.{Directory, File, NotFound, Outside}
+use Rattle.hc_model.specs.declared.outcome.Reason.TheVariants.{DotSegment, NoRoot}
+use Rattle.hc_model.specs.declared.walk.Kind.{Kind}
+use Rattle.hc_model.specs.declared.walk.Kind.TheVariants as kind
+use Rattle.hc_model.specs.declared.walk.Walk.{Walk}
+use Rattle.hc_serve.specs.Site.{Site}
+use Rattle.hc_serve.specs.declared.stage.Here.{Here}
+use Rattle.hc_serve.specs.declared.stage.Named.{Named}
+use Rattle.hc_serve.specs.declared.stage.Pass.{Pass}
+use Rattle.hc_steps.specs.Step.{Step, leaves, ends, say, told, ◌>>=◌}
+use Rattle.hc_steps.specs.Walking.{walk}
+
+unfoldable pub begun : Pass → Step Outcome Pass
+begun pass = told (event.Pass pass.number pass.path pass.query) pass
+
+-- 1. The rules of the server.
+abbrev pub rewritten : Site → Pass → Step Outcome Pass
+rewritten site pass = leaves pass
+
+-- 2. The file name.
+unfoldable pub named : Pass → Mapped → Step Outcome Named
+named pass (mapped.Name name from) = leaves (record { pass = pass; name = name; from = from; own = false })
+named pass (mapped.Away away) = say (event.Redirect away.from) (ends away.outcome)
+named pass mapped.NoRoot = ends (Outside NoRoot)
+
+unfoldable pub mapped_at : Site → Pass → Step Outcome Named
+mapped_at site pass = named pass (map_url site.config site.host pass.path pass.query site.caller)
+
+-- 3. Repeated slashes of the name are merged. A segment of dots is outside.
+abbrev pub has_dots : List ℕ → Bool
+has_dots name = list_any is_dots (slice_split is_slash name)
+
+unfoldable pub without_dots : Named → Step Outcome Named
+without_dots named =
+    if has_dots named.name then ends (Outside DotSegment) else told (event.Map named.from named.name) named
+
+unfoldable pub merged : Named → Step Outcome Named
+merged named = without_dots (record named { name = merge_slashes named.name })
+
+-- 4. Where the name leads.
+unfoldable pub seen_there : Named → Walk → Step Outcome Here
+seen_there named walk = told (event.Walk walk.name walk.info walk.kind) (record { named = named; walk = walk })
+
+unfoldable pub walked : Named → Step Outcome Here
+walked named = walk named.name >>= seen_there named
+
+-- 5. Sections and `.htaccess` files, and who may pass: no Require is in force.
+abbrev pub in_force : Site → Here → Step Outcome Here
+in_force site here = leaves here
+
+unfoldable pub admitted : Here → Step Outcome Here
+admitted here = told (event.Auth Unasked) here
+
+-- 6. The rules of the directory.
+abbrev pub rewritten_there : Site → Here → Step Outcome Here
+rewritten_there site here = leaves here
+
+-- 7. The redirects of the sections.
+abbrev pub sent_there : Site → Here → Step Outcome Here
+sent_there site here = leaves here
+
+-- 8. What stands there, unless another pass follows.
+abbrev pub outcome_at : Kind → List ℕ → List ℕ → Outcome
+outcome_at kind.Absent name info = NotFound
+outcome_at kind.Dir name info = Directory name
+outcome_at kind.File name info = File name info
+
+unfoldable pub answered : Here → Step Outcome Pass
+answered here = ends (outcome_at here.walk.kind here.walk.name here.walk.info)
+
+-- A pass ends the request, or leaves the pass that follows it.
+unfoldable pub passed : Site → Pass → Step Outcome Pass
+passed site pass = do
+  pass ← begun pass
+  pass ← rewritten site pass
+  named ← mapped_at site pass
+  named ← merged named
+  here ← walked named
+  here ← in_force site here
+  here ← admitted here
+  here ← rewritten_there site here
+  here ← sent_there site here
+  answered here

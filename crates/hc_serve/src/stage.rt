@@ -1,0 +1,36 @@
+use hc_base::{Fault, List, Text};
+use hc_model::{Header, Outcome, Spot, Walk};
+
+/// Why a step does not go on: the request is answered, or memory was refused.
+pub(crate) type Stop = Fault<Outcome>;
+
+/// A pass as it begins.
+#[derive(Drop)]
+pub(crate) struct Pass {
+    /// Passes count from 0.
+    pub number: u32,
+    /// The URL path.
+    pub path: Text,
+    pub query: Text,
+    pub vars: List<Header>,
+    /// END was met.
+    pub end: bool,
+}
+
+/// A pass that has a file name.
+#[derive(Drop)]
+pub(crate) struct Named {
+    pub pass: Pass,
+    pub name: Text,
+    /// The alias that gave the name.
+    pub from: Option<Spot>,
+    /// The name is what the rules of the server left.
+    pub own: bool,
+}
+
+/// A pass whose name was followed.
+#[derive(Drop)]
+pub(crate) struct Here {
+    pub named: Named,
+    pub walk: Walk,
+}

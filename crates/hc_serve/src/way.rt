@@ -1,0 +1,110 @@
+ghost use Rattle.std.specs.Prelude.{◌≡◌, true, IfOk};
+ghost use Rattle.hc_alias.specs.Servers.{IsHostOf};
+ghost use Rattle.hc_base.specs.Paths.{begins_with_slash};
+ghost use Rattle.hc_serve.specs.Request.{first_pass, host_of, passes, passes_at, way};
+ghost use Rattle.hc_serve.specs.Site.{site_of};
+ghost use Rattle.hc_steps.specs.Ran.{Ran};
+ghost use Rattle.hc_steps.specs.Run.{run};
+ghost use Rattle.hc_steps.specs.Shown.{shown_by};
+ghost use Rattle.hc_target.specs.Targets.{read};
+
+use crate::pass::passed;
+use crate::site::{Asked, caller_at, most_passes};
+use crate::stage::{Pass, Stop};
+use hc_alias::server_at;
+use hc_base::{Fault, List};
+use hc_model::{Config, Event, HostId, Outcome, Reason, Request};
+use hc_steps::Log;
+use hc_target::{TargetRead, read_target};
+use hc_world::World;
+
+const BAD_REQUEST: u16 = 400;
+
+const NOT_FOUND: u16 = 404;
+
+/// The way of a request: it ends, or leaves a pass that is one too many.
+#[tactic(auto, unfolding(crate::specs::Request::way), using(hc_steps::proofs::Going::going))]
+pub(crate) fn way(
+    config: &Config,
+    world: &World,
+    log: &mut Log,
+    request: &Request,
+) -> Result<Pass, Stop>
+    requires { begins_with_slash request.now.target ≡ true }
+    ensures { Ran result log.old log.new (run (way config.now request.now) (shown_by world.now.files)) }
+{
+    let host = host_of(config, world, log, request)?;
+    let pass = first_pass(world, log, request)?;
+    passes_at(config, world, log, host, request, pass)
+}
+
+// The server that answers. Virtual hosts are not built yet.
+#[tactic(auto, unfolding(crate::specs::Request::host_of), using(hc_steps::proofs::Going::telling))]
+fn host_of(config: &Config, world: &World, log: &mut Log, request: &Request) -> Result<HostId, Stop>
+    ensures step { Ran result log.old log.new
+        (run (host_of config.now request.now) (shown_by world.now.files)) }
+    ensures host { IfOk result (IsHostOf config.now) }
+{
+    log.say(Event::Host {
+        place: server_at(config, HostId::Main).place.clone()?,
+    })?;
+    Ok(HostId::Main)
+}
+
+// The first pass, or what a target that gives none ends with.
+#[tactic(auto, unfolding(crate::specs::Request::first_pass), using(hc_steps::proofs::Going::telling))]
+fn first_pass(world: &World, log: &mut Log, request: &Request) -> Result<Pass, Stop>
+    requires { begins_with_slash request.now.target ≡ true }
+    ensures { Ran result log.old log.new
+        (run (first_pass (read request.now.target)) (shown_by world.now.files)) }
+{
+    match read_target(log.allocator(), request.target.as_bytes())? {
+        TargetRead::Bad400 => Err(Fault::Refused(Outcome::Status(BAD_REQUEST))),
+        TargetRead::Miss404 => Err(Fault::Refused(Outcome::Status(NOT_FOUND))),
+        TargetRead::PathByte => Err(Fault::Refused(Outcome::Outside(Reason::PathByte))),
+        TargetRead::Path { path, query } => Ok(Pass {
+            number: 0,
+            path,
+            query,
+            vars: List::new(log.allocator()),
+            end: false,
+        }),
+    }
+}
+
+#[tactic(auto, unfolding(crate::specs::Request::passes_at), using(hc_steps::proofs::Going::telling))]
+fn passes_at(
+    config: &Config,
+    world: &World,
+    log: &mut Log,
+    host: HostId,
+    request: &Request,
+    pass: Pass,
+) -> Result<Pass, Stop>
+    requires { IsHostOf config.now host }
+    ensures { Ran result log.old log.new
+        (run (passes_at config.now host request.now pass) (shown_by world.now.files)) }
+{
+    let caller = caller_at(log.allocator(), config, host, request)?;
+    let asked = Asked {
+        world,
+        config,
+        host,
+        caller: &caller,
+    };
+    passes(&asked, log, most_passes(config, host), pass)
+}
+
+// So many passes at most, one after another.
+#[tactic(auto, using(crate::proofs::Passes::passing))]
+fn passes(asked: &Asked<'_>, log: &mut Log, most: u64, pass: Pass) -> Result<Pass, Stop>
+    requires { IsHostOf asked.now.config.now asked.now.host }
+    ensures { Ran result log.old log.new
+        (run (passes most (site_of asked.now) pass) (shown_by asked.now.world.now.files)) }
+{
+    let mut pass = pass;
+    for _turn in 0..most {
+        pass = passed(asked, log, pass)?;
+    }
+    Ok(pass)
+}
