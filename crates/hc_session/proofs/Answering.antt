@@ -1,13 +1,10 @@
 -- What was answered, line after line.
-use Rattle.std.proofs.Common.{◌≡◌, ℕ, List, [], ◌∷◌, ◌++◌, Option, append-nil, subst, refl, inl}
+use Rattle.hc_session.proofs.Common.{◌≡◌, ℕ, List, [], ◌∷◌, ◌++◌, Option, append-nil, subst, refl, inl, Appends, World, AppendsFront, AnswersLine, AnswersInPart, AnswersLines, AnswersLinesInPart}
 use Rattle.std.proofs.lemmas.List.Concat.{flat_map-append}
 use Rattle.std.specs.Prelude.{codes}
-use Rattle.std.specs.Io.KnownBytes.{Appends}
 use Rattle.serde_json.proofs.OnLiterals.{serde_json_on_literals}
-use Rattle.hc_model.specs.World.{World}
 use Rattle.hc_session.specs.Reply.{Reply, no_memory, reply_line}
 use Rattle.hc_session.specs.Session.{Answers}
-use Rattle.hc_session.specs.Sending.{AppendsFront, AnswersLine, AnswersInPart, AnswersLines, AnswersLinesInPart}
 use Rattle.hc_session.proofs.Known.{appends_none, appends_more, appends_front, front_longer}
 
 pub no_memory_printed : reply_line no_memory ≡ codes "{\"no_memory\":true}\n"

@@ -1,13 +1,8 @@
 -- What the loop over the lines of a piece keeps.
-use Rattle.std.proofs.Common.{◌≡◌, ℕ, ◌+◌, ◌≤◌, List, [], ◌∷◌, ◌++◌, length, take, drop, Option, Some, None, arith, refl, sym, ap, ◌∙◌, append_assoc, append-nil, length-drop}
+use Rattle.hc_session.proofs.Common.{◌≡◌, ℕ, ◌+◌, ◌≤◌, List, [], ◌∷◌, ◌++◌, length, take, drop, Option, Some, None, arith, refl, sym, ap, ◌∙◌, append_assoc, append-nil, length-drop, HasNoLf, whole_lines, rest_of, World, AnswersLines, AnswersLinesInPart, AnswersLine, AnswersInPart, LINE_LIMIT, HasNoLf-append, HasNoLf-take, at_lf, whole_lines-none, rest_of-none, whole_lines-line, rest_of-line}
 use Rattle.std.proofs.Math.Seq.{take-length}
 use Rattle.memchr.specs.Find.{IsFirstByte, is_byte}
-use Rattle.hc_base.specs.Lines.{HasNoLf, whole_lines, rest_of}
-use Rattle.hc_model.specs.World.{World}
-use Rattle.hc_session.specs.Sending.{AnswersLines, AnswersLinesInPart, AnswersLine, AnswersInPart}
-use Rattle.hc_session.specs.declared.limits.TheConstants.{LINE_LIMIT}
 use Rattle.hc_session.proofs.Answering.{lines_none, lines_one, lines_append, lines_append_in_part, lines_one_in_part}
-use Rattle.hc_base.proofs.Lines.{HasNoLf-append, HasNoLf-take, at_lf, whole_lines-none, rest_of-none, whole_lines-line, rest_of-line}
 
 -- `all` is what the lines are taken from: those in `lines` were answered, `line` has not ended,
 -- and `rest` is still to come.

@@ -1,12 +1,8 @@
 -- A run without faults is the session's.
-use Rattle.std.proofs.Common.{◌≡◌, ◌≢◌, ◌⊎◌, ℕ, ◌<◌, ◌≤◌, List, [], ◌∷◌, length, Bool, true, false, ◌||◌, Option, Some, None, refl, sym, arith, inl, inr}
+use Rattle.hc_session.proofs.Common.{◌≡◌, ◌≢◌, ◌⊎◌, ℕ, ◌<◌, ◌≤◌, List, [], ◌∷◌, length, Bool, true, false, ◌||◌, Option, Some, None, refl, sym, arith, inl, inr, Appends, rest_of, output, SCRIPT_LIMIT}
 use Rattle.std.proofs.lemmas.Bool.{lt-ltb, le-leb, lt-leb}
 use Rattle.std.specs.Prelude.{nat_lt, if◌then◌else◌}
-use Rattle.std.specs.Io.KnownBytes.{Appends}
-use Rattle.hc_base.specs.Lines.{rest_of}
 use Rattle.hc_session.specs.Conversation.{IsOpen, IsFull, Served, Completes, EndsWith, Writes, status_of}
-use Rattle.hc_session.specs.Sending.{output}
-use Rattle.hc_session.specs.declared.limits.TheConstants.{SCRIPT_LIMIT}
 use Rattle.hc_session.specs.declared.status.Status.{Status}
 use Rattle.hc_session.specs.declared.status.Status.TheVariants.{Done, Words, ReadFault, WriteFault, NoMemory, CutLine}
 

@@ -1,18 +1,11 @@
 -- What the loop over the reads of a source keeps, and how each of its ends is a run.
-use Rattle.std.proofs.Common.{◌≡◌, ◌⊎◌, ℕ, ◌+◌, ◌-◌, ◌<◌, ◌≤◌, List, [], ◌∷◌, ◌++◌, length, take, Option, arith, refl, sym, ap, ◌∙◌, subst, inl, inr, append-nil, length-append}
+use Rattle.hc_session.proofs.Common.{◌≡◌, ◌⊎◌, ℕ, ◌+◌, ◌-◌, ◌<◌, ◌≤◌, List, [], ◌∷◌, ◌++◌, length, take, Option, arith, refl, sym, ap, ◌∙◌, subst, inl, inr, append-nil, length-append, take-append-le, length-take-le, Consumes, Keeps, IsAtEnd, whole_lines, rest_of, World, new_world, AnswersLines, AnswersLinesInPart, LINE_LIMIT, SCRIPT_LIMIT, whole_lines-append, rest_of-append, rest_of-none, rest_of-none_longer}
 use Rattle.std.proofs.lemmas.Bool.{cases_lt}
-use Rattle.std.proofs.lemmas.List.{take-append-le, length-take-le}
 use Rattle.std.proofs.Math.Seq.{take-append-add}
-use Rattle.std.specs.Io.KnownBytes.{Consumes, Keeps, IsAtEnd}
-use Rattle.hc_base.specs.Lines.{whole_lines, rest_of}
-use Rattle.hc_model.specs.World.{World, new_world}
 use Rattle.hc_session.specs.Conversation.{IsOpen, IsFull, StaysOpen, Served, status_at_end}
-use Rattle.hc_session.specs.Sending.{AnswersLines, AnswersLinesInPart}
-use Rattle.hc_session.specs.declared.limits.TheConstants.{LINE_LIMIT, SCRIPT_LIMIT}
 use Rattle.hc_session.specs.declared.status.Status.TheVariants.{ReadFault, WriteFault, CutLine}
 use Rattle.hc_session.proofs.Answering.{lines_append, lines_append_in_part}
 use Rattle.hc_session.proofs.Known.{consumes_more, consumes_keeps}
-use Rattle.hc_base.proofs.Lines.{whole_lines-append, rest_of-append, rest_of-none, rest_of-none_longer}
 
 -- So far these bytes were taken and their whole lines answered; `line` has not ended.
 pub record Serving (left remaining written grown : Option (List ℕ)) (world : World) (line : List ℕ) (count : ℕ) : Type 0 where

@@ -6,5 +6,4 @@ pub mod ReplyView
 pub mod Sending
 pub mod Asked
 pub mod Session
-pub mod Configured
 pub mod Status

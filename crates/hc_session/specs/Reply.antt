@@ -1,5 +1,6 @@
 -- The replies to a script's lines: their JSON values and their bytes. Our own choice.
-use Rattle.std.specs.Prelude.{ℕ, ◌+◌, ◌/◌, ◌%◌, ◌-◌, ◌==◌, List, [], ◌∷◌, ◌++◌, ◌&&◌, if◌then◌else◌, nat_le, nat_lt, codes, true}
+use Rattle.std.specs.Prelude.{ℕ, ◌+◌, ◌/◌, ◌%◌, ◌-◌, ◌==◌, nat_le, nat_lt, codes}
+use Rattle.std.specs.Prelude.{List, [], ◌∷◌, ◌++◌, ◌&&◌, true, if◌then◌else◌}
 use Rattle.std.specs.List.{flat_map}
 use Rattle.serde_json.specs.Data.{Data, boolean, number, unsigned, string, object, no_members, member}
 use Rattle.serde_json.specs.Written.{compact_text}

@@ -4,9 +4,9 @@ use Rattle.hc_base.specs.declared.codes.TheConstants.{BAD_COMMAND}
 use Rattle.hc_base.specs.declared.place.Refusal.{Refusal}
 use Rattle.hc_model.specs.World.{World, put as put_in}
 use Rattle.hc_config.specs.Configuration.{built}
-use Rattle.hc_include.specs.Flat.{Standing, read_from}
+use Rattle.hc_include.specs.Flat.{flat_of}
 use Rattle.hc_world.specs.Edits.{listed}
-use Rattle.hc_serve.specs.Meaning.{received}
+use Rattle.hc_serve.specs.Request.{received}
 use Rattle.hc_model.specs.declared.config.Config.{Config}
 use Rattle.hc_session.specs.Asked.{asked, is_target}
 use Rattle.hc_session.specs.Command.{Command, put, list, check, ask, command_of}
@@ -17,12 +17,9 @@ use Rattle.hc_session.specs.Reply.{Reply, done_put, done_list, configured, outco
 abbrev pub main_file : List ℕ
 main_file = codes "/etc/httpd/conf/httpd.conf"
 
--- The configuration that the present files give, or its first refusal, without what was looked at
--- for it.
+-- The configuration that the present files give, or its first refusal.
 unfoldable pub configuration : World → Result Config Refusal
-configuration world =
-    let standing : Standing = read_from world main_file in
-    built (record { file = main_file; entries = standing.entries; stop = standing.stop; reads = [] })
+configuration world = built (flat_of world main_file)
 
 -- A refused command, with the field that is wrong. Its place is no file.
 abbrev pub bad_command : List ℕ → Refusal

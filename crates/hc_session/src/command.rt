@@ -1,18 +1,19 @@
 ghost use Rattle.std.specs.Prelude.{◌≡◌, ℕ, List, IfOk, None, Ok, map};
-ghost use Rattle.std.specs.List.{list_any};
 ghost use Rattle.std.specs.Option.{option_map};
-ghost use Rattle.std.specs.Str.{bytes_eq};
 ghost use Rattle.serde_json.specs.View.{view, members_view};
-ghost use Rattle.hc_session.specs.Command.{json_of, required, unless_unknown, unknown_field, unknown_member, put_fields, list_fields, check_fields, ask_fields, put_in, list_in, list_kind, check, ask_in, command_in};
+ghost use Rattle.hc_session.specs.Command.{json_of, required, unless_unknown, unknown_field, unknown_member};
+ghost use Rattle.hc_session.specs.Command.{ask_fields, check_fields, list_fields, put_fields};
+ghost use Rattle.hc_session.specs.Command.{ask_in, check, command_in, list_in, list_kind, put_in};
 ghost use Rattle.hc_session.specs.CommandView.{read_view, field_view, kind_view};
 
 use hc_base::NoMemory;
+use hc_base::bytes::is_among;
 use hc_world::ListKind;
 use serde_json::{Map, Value};
 use std::alloc::Global;
 
 /// A command of a script. It borrows from the JSON value that it is read from.
-#[derive(Clone, Copy, Debug)]
+#[derive(Clone, Copy)]
 pub enum Command<'v> {
     /// Makes or replaces a file with a text.
     Put { path: &'v str, text: &'v str },
@@ -26,7 +27,7 @@ pub enum Command<'v> {
 
 /// The first wrong field of a value that is no command: `do` where it is missing or unknown; else
 /// the least unknown field; else the first field of the command that is missing or ill-formed.
-#[derive(Clone, Copy, Debug)]
+#[derive(Clone, Copy)]
 pub struct BadField<'v>(pub &'v str);
 
 /// The JSON value that a line is; none where it is no JSON.
@@ -58,7 +59,8 @@ pub fn read_command(value: &Value) -> Result<Command<'_>, BadField<'_>>
 }
 
 fn read_put(value: &Value) -> Result<Command<'_>, BadField<'_>>
-    ensures { read_view result ≡ unless_unknown (unknown_field put_fields (view value.now)) (put_in (view value.now)) }
+    ensures { read_view result
+        ≡ unless_unknown (unknown_field put_fields (view value.now)) (put_in (view value.now)) }
 {
     if let Some(field) = unknown_field(value, &["do", "path", "text"]) {
         return Err(BadField(field));
@@ -69,7 +71,8 @@ fn read_put(value: &Value) -> Result<Command<'_>, BadField<'_>>
 }
 
 fn read_list(value: &Value) -> Result<Command<'_>, BadField<'_>>
-    ensures { read_view result ≡ unless_unknown (unknown_field list_fields (view value.now)) (list_in (view value.now)) }
+    ensures { read_view result
+        ≡ unless_unknown (unknown_field list_fields (view value.now)) (list_in (view value.now)) }
 {
     if let Some(field) = unknown_field(value, &["do", "path", "kind"]) {
         return Err(BadField(field));
@@ -99,7 +102,8 @@ fn read_check(value: &Value) -> Result<Command<'_>, BadField<'_>>
 }
 
 fn read_ask(value: &Value) -> Result<Command<'_>, BadField<'_>>
-    ensures { read_view result ≡ unless_unknown (unknown_field ask_fields (view value.now)) (ask_in (view value.now)) }
+    ensures { read_view result
+        ≡ unless_unknown (unknown_field ask_fields (view value.now)) (ask_in (view value.now)) }
 {
     if let Some(field) = unknown_field(value, &["do", "target"]) {
         return Err(BadField(field));
@@ -133,13 +137,4 @@ fn unknown_member<'v>(members: &'v Map<String, Value>, known: &[&str]) -> Option
         }
     }
     None
-}
-
-fn is_among(keys: &[&str], key: &str) -> bool
-    ensures { result ≡ list_any (bytes_eq key.now) (map (λ k. k.now) keys.now) }
-{
-    match keys {
-        [] => false,
-        [first, rest @ ..] => key == *first || is_among(rest, key),
-    }
 }

@@ -1,4 +1,5 @@
-ghost use Rattle.std.specs.Prelude.{◌≡◌, ◌≢◌, ◌<◌, ◌^◌, ◌-◌, ◌≤◌, [], IfOk, OnErr, length};
+ghost use Rattle.std.specs.Prelude.{◌≡◌, ◌≢◌, ◌<◌, ◌^◌, ◌-◌, ◌≤◌};
+ghost use Rattle.std.specs.Prelude.{[], IfOk, OnErr, length};
 ghost use Rattle.std.specs.Io.KnownBytes.{Consumes, Keeps, IsAtEnd};
 ghost use Rattle.hc_base.specs.Faults.{HasCause};
 ghost use Rattle.hc_session.specs.Conversation.{Served, Completes, status_at_end};
@@ -30,7 +31,8 @@ pub fn serve_session<S: Source, K: Sink, E: Ledger, B: Ledger>(
     // Where the source tells its bytes and nothing failed, what is written is the session's
     // replies to these bytes, and the status is the session's.
     ensures complete { S.faults source.new ≡ S.faults source.old → K.faults sink.new ≡ K.faults sink.old
-        → result ≢ Status.NoMemory → Completes (S.left source.old) (K.written sink.old) (K.written sink.new) result }
+        → result ≢ Status.NoMemory
+        → Completes (S.left source.old) (K.written sink.old) (K.written sink.new) result }
 
     // In every case what was written is a front of the replies to the whole lines taken, and all
     // of them unless the sink failed.

@@ -1,6 +1,7 @@
 ghost use Rattle.std.specs.Prelude.{◌≡◌, ◌<◌, ◌++◌, ◌∷◌, [], IfOk, OnOk, string_bytes};
 ghost use Rattle.serde_json.specs.View.{view};
-ghost use Rattle.hc_session.specs.Reply.{shown, shown_byte, hex_digit, limit_name, outcome_data, reason_name, refusal_data, reply_data, reply_line};
+ghost use Rattle.hc_session.specs.Reply.{hex_digit, limit_name, outcome_data, reason_name, refusal_data};
+ghost use Rattle.hc_session.specs.Reply.{reply_data, reply_line, shown, shown_byte};
 ghost use Rattle.hc_session.specs.ReplyView.{reply_view};
 
 use hc_base::codes::name_of_code;
@@ -10,7 +11,7 @@ use serde_json::{Value, json};
 use std::alloc::Global;
 
 /// The answer to a line.
-#[derive(Debug, Drop)]
+#[derive(Drop)]
 pub enum Reply {
     /// A put was done.
     DonePut,

@@ -36,7 +36,8 @@ fn answer_line<K: Sink, E: Ledger, L: Ledger>(
     bytes: &mut Steps<L>,
 ) -> Result<(), Failed>
     ensures ok { OnOk result (AnswersLine session.old session.new line.now (K.written sink.old) (K.written sink.new)) }
-    ensures err { OnErr result (AnswersInPart session.old session.new line.now (K.written sink.old) (K.written sink.new)) }
+    ensures err { OnErr result
+        (AnswersInPart session.old session.new line.now (K.written sink.old) (K.written sink.new)) }
     ensures cause { HasCause (K.faults sink.old) (K.faults sink.new) result }
 {
     match session.step(line, evals, bytes) {
@@ -57,8 +58,10 @@ pub(crate) fn answer_lines<K: Sink, E: Ledger, L: Ledger>(
 ) -> Result<(), Failed>
     requires unended { rest_of line.old ≡ line.old }
     requires room { length line.old + length piece.now ≤ LINE_LIMIT }
-    ensures ok { OnOk result (AnswersLines session.old session.new (whole_lines (line.old ++ piece.now)) (K.written sink.old) (K.written sink.new)) }
-    ensures err { OnErr result (AnswersLinesInPart session.old (whole_lines (line.old ++ piece.now)) (K.written sink.old) (K.written sink.new)) }
+    ensures ok { OnOk result (AnswersLines session.old session.new
+        (whole_lines (line.old ++ piece.now)) (K.written sink.old) (K.written sink.new)) }
+    ensures err { OnErr result (AnswersLinesInPart session.old
+        (whole_lines (line.old ++ piece.now)) (K.written sink.old) (K.written sink.new)) }
     ensures rest { OnOk result (line.new ≡ rest_of (line.old ++ piece.now)) }
     ensures cause { HasCause (K.faults sink.old) (K.faults sink.new) result }
 {

@@ -2,15 +2,16 @@ ghost use Rattle.std.specs.Prelude.{◌≡◌, true, Ok, IfOk};
 ghost use Rattle.std.specs.Option.{option_map};
 ghost use Rattle.serde_json.specs.View.{view};
 ghost use Rattle.hc_model.specs.World.{new_world, put as put_in};
+ghost use Rattle.hc_base.specs.Gives.{Gives};
 ghost use Rattle.hc_base.specs.Paths.{begins_with_slash};
-ghost use Rattle.hc_serve.specs.Meaning.{received};
+ghost use Rattle.hc_serve.specs.Request.{received};
 ghost use Rattle.hc_session.specs.Asked.{asked};
 ghost use Rattle.hc_session.specs.Command.{ask, command_of_json};
 ghost use Rattle.hc_session.specs.CommandView.{read_view};
 ghost use Rattle.hc_session.specs.Reply.{done_list, done_put, refused, reply_line};
 ghost use Rattle.hc_session.specs.ReplyView.{reply_view};
-ghost use Rattle.hc_session.specs.Configured.{GivesBare, bare};
-ghost use Rattle.hc_session.specs.Session.{Counts, Turned, TurnedInto, ask_reply, bad_command, bad_edit, check_reply, configuration, edit_turn, evaluations, evaluations_of};
+ghost use Rattle.hc_session.specs.Session.{Counts, Turned, TurnedInto, ask_reply, bad_command, bad_edit};
+ghost use Rattle.hc_session.specs.Session.{check_reply, configuration, edit_turn, evaluations, evaluations_of};
 ghost use Rattle.hc_world.specs.Edits.{listed};
 
 use crate::asked::{asked, is_target};
@@ -84,7 +85,8 @@ impl Session {
     // Puts a file. The reply is printed first, so that nothing has changed where it finds no memory.
     // A world that has counted its last edit is no longer edited: this is answered as no memory is.
     fn put(&mut self, path: &str, text: &str) -> Result<Text, NoMemory>
-        ensures { TurnedInto result self.old (edit_turn done_put self.old (put_in self.old path.now text.now)) self.new }
+        ensures { TurnedInto result self.old
+            (edit_turn done_put self.old (put_in self.old path.now text.now)) self.new }
     {
         if self.world.edits() == u64::MAX {
             return Err(NoMemory);
@@ -164,7 +166,7 @@ impl Session {
         evals: &mut Steps<E>,
     ) -> Result<Outcome, NoMemory>
         requires { begins_with_slash target.now ≡ true }
-        ensures outcome { IfOk result (λ outcome. outcome ≡ received self.now (bare config.now) (asked target.now)) }
+        ensures outcome { IfOk result (λ outcome. outcome ≡ received self.now config.now (asked target.now)) }
         ensures evals { Counts result 1 evals.old evals.new }
     {
         let request = asked(self.alloc, target)?;
@@ -172,9 +174,9 @@ impl Session {
     }
 
     // The configuration, read anew.
-    #[tactic(auto, using(crate::proofs::Configured::gives_configuration))]
+    #[tactic(auto, unfolding(crate::specs::Session::configuration))]
     fn config<L: Ledger>(&self, bytes: &mut Steps<L>) -> Result<Config, BuildFault>
-        ensures { GivesBare result (configuration self.now) }
+        ensures { Gives result (configuration self.now) }
     {
         match flatten(self.alloc, &self.world, MAIN_FILE.as_bytes(), bytes) {
             Ok(flat) => build(self.alloc, &flat),
@@ -206,12 +208,12 @@ fn refuse_edit(alloc: Global, code: u8) -> Result<Text, NoMemory>
 {
     let refusal = Refusal {
         place: Place {
-            file: Text::from(Vec::new(alloc)),
+            file: Text::new(alloc),
             line: 0,
         },
         code,
         at: 0,
-        field: Text::from(Vec::new(alloc)),
+        field: Text::new(alloc),
     };
     print_reply(alloc, &Reply::Refused(refusal))
 }
@@ -221,7 +223,7 @@ fn bad_command(alloc: Global, field: &str) -> Result<Refusal, NoMemory>
 {
     Ok(Refusal {
         place: Place {
-            file: Text::from(Vec::new(alloc)),
+            file: Text::new(alloc),
             line: 0,
         },
         code: BAD_COMMAND,

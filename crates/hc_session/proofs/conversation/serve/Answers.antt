@@ -1,5 +1,4 @@
-use Rattle.std.proofs.Common.{arith, inl, inr, refl, sym, ◌∙◌, eqb-true}
-use Rattle.std.proofs.lemmas.List.{nil_from_length}
+use Rattle.hc_session.proofs.Common.{arith, inl, inr, refl, sym, ◌∙◌, eqb-true, nil_from_length}
 use Rattle.hc_session.proofs.Serving.{serving_unended, serving_more, served_write_fault, served_read_fault, served_at_end, served_full}
 use Rattle.hc_session.proofs.conversation.serve.Goals as goal
 use Rattle.hc_session.proofs.conversation.serve.Goals.{then-reads-test+else-taken-lt-SCRIPT_LIMIT, else-reads-test}

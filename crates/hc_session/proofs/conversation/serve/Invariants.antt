@@ -1,5 +1,4 @@
-use Rattle.std.proofs.Common.{◌-◌, ◌≤◌}
-use Rattle.hc_session.specs.declared.limits.TheConstants.{SCRIPT_LIMIT}
+use Rattle.hc_session.proofs.Common.{◌-◌, ◌≤◌, SCRIPT_LIMIT}
 use Rattle.hc_session.proofs.Serving.{Serving}
 use Rattle.hc_session.proofs.conversation.serve.Given as goal
 

@@ -1,7 +1,6 @@
-use Rattle.std.proofs.Common.{arith, ◌∙◌}
+use Rattle.hc_session.proofs.Common.{arith, ◌∙◌, HasNoLf-from_rest_of}
 use Rattle.std.proofs.lemmas.Result.{err_from_is_err_and}
 use Rattle.hc_session.proofs.AnsweringLoop.{answering_start, answering_line, answering_part, answering_end}
-use Rattle.hc_base.proofs.Lines.{HasNoLf-from_rest_of}
 use Rattle.hc_session.proofs.serve.answer_lines.Goals as goal
 
 pub loop-end-init : goal.loop-end-init

@@ -1,5 +1,4 @@
-use Rattle.std.proofs.Common.{◌≡◌, ◌≤◌, ℕ, List, ◌++◌, length}
-use Rattle.std.specs.Io.KnownBytes.{Appends}
+use Rattle.hc_session.proofs.Common.{◌≡◌, ◌≤◌, ℕ, List, ◌++◌, length, Appends}
 use Rattle.hc_session.proofs.serve.send.Given as goal
 
 -- What was sent and what is left are the piece.
