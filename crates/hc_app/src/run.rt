@@ -22,8 +22,9 @@ pub fn run<S: Source, K: Sink, E: Ledger, B: Ledger>(
 
     // Where the source tells its bytes and nothing failed, what is written is the session's
     // replies to these bytes, and the status is the session's.
-    ensures complete { words.now ≡ [] → S.faults source.new ≡ S.faults source.old → K.faults sink.new ≡ K.faults sink.old
-        → result ≢ Status.NoMemory → Completes (S.left source.old) (K.written sink.old) (K.written sink.new) result }
+    ensures complete { words.now ≡ [] → S.faults source.new ≡ S.faults source.old
+        → K.faults sink.new ≡ K.faults sink.old → result ≢ Status.NoMemory
+        → Completes (S.left source.old) (K.written sink.old) (K.written sink.new) result }
 
     // In every case what was written is a front of the replies to the whole lines taken, and all
     // of them unless the sink failed.
@@ -33,7 +34,8 @@ pub fn run<S: Source, K: Sink, E: Ledger, B: Ledger>(
     ensures words { (result ≡ Status.Words) ↔ (words.now ≢ []) }
     ensures read_fault { result ≡ Status.ReadFault → S.faults source.old < S.faults source.new }
     ensures write_fault { result ≡ Status.WriteFault → K.faults sink.old < K.faults sink.new }
-    ensures untouched { (result ≡ Status.Words) ⊎ (result ≡ Status.NoMemory) → (source.new ≡ source.old) × (sink.new ≡ sink.old) }
+    ensures untouched { (result ≡ Status.Words) ⊎ (result ≡ Status.NoMemory)
+        → (source.new ≡ source.old) × (sink.new ≡ sink.old) }
 {
     if words.is_empty() {
         serve_session(alloc, source, sink, evals, bytes)
