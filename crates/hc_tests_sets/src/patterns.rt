@@ -5,6 +5,7 @@ use hc_base::{AtByte, Fault, NoMemory};
 use hc_match::first_match;
 use hc_pattern::{ByteSet, Pat, PatFault, glob_pattern, parse_pattern};
 use std::alloc::Global;
+use std::process::Abort;
 use std::test::Fail;
 
 #[test]
@@ -12,8 +13,8 @@ fn sets_have_their_bytes(rt: HostRuntime) {
     let digits = ByteSet::empty().with_range(b'0', b'9');
     static ROWS: &[(u8, bool)] = &[(b'/', false), (b'0', true), (b'9', true), (b':', false)];
     for &(byte, wanted) in ROWS {
-        assert_eq!(rt; digits.has(byte), wanted, "{byte}");
-        assert_eq!(rt; digits.complement().has(byte), !wanted, "{byte}");
+        assert!(rt; digits.has(byte) == wanted, "{byte}");
+        assert!(rt; digits.complement().has(byte) == !wanted, "{byte}");
     }
     let far = digits.union(ByteSet::empty().with(255).with_range(127, 128));
     static FAR: &[(u8, bool)] = &[
@@ -26,7 +27,7 @@ fn sets_have_their_bytes(rt: HostRuntime) {
         (255, true),
     ];
     for &(byte, wanted) in FAR {
-        assert_eq!(rt; far.has(byte), wanted, "{byte}");
+        assert!(rt; far.has(byte) == wanted, "{byte}");
     }
     assert!(rt; !ByteSet::empty().with_range(9, 8).has(8));
 }
@@ -76,7 +77,7 @@ fn signs_meet_their_bytes(rt: HostRuntime) -> Result<(), Fail> {
         let Ok(pat) = parse_pattern(alloc, sign.as_bytes(), false) else {
             panic!(rt; "{sign}");
         };
-        assert_eq!(rt; met(alloc, &pat)?, (count, sum), "{sign}");
+        assert!(rt; met(alloc, &pat)? == (count, sum), "{sign}");
     }
     Ok(())
 }
@@ -136,20 +137,17 @@ fn patterns_are_refused(rt: HostRuntime) {
     let alloc = rt.alloc();
     for &(pattern, code, at) in REFUSED {
         let read = parse_pattern(alloc, pattern.as_bytes(), false);
-        assert_eq!(rt; refusal(read), Some(AtByte { code, at }), "{pattern}");
+        assert!(rt; refusal(read) == Some(AtByte { code, at }), "{pattern}");
     }
 }
 
-// The text so many times.
-fn repeated(alloc: Global, text: &str, count: u32) -> Result<Vec<u8>, NoMemory> {
-    let mut bytes = Vec::new(alloc);
-    for _ in 0..count {
-        bytes.extend_from_slice(text.as_bytes())?;
-    }
-    Ok(bytes)
+// That a pattern is read, or refused with this code.
+fn check_code(rt: &impl Abort, alloc: Global, pattern: &str, code: Option<u8>) {
+    let refused = refusal(parse_pattern(alloc, pattern.as_bytes(), false));
+    assert!(rt; refused.map(|broken| broken.code) == code, "{pattern}");
 }
 
-static LIMITS: &[(&str, u32, Option<u8>)] = &[
+static LIMITS: &[(&str, usize, Option<u8>)] = &[
     ("(a)", 32, None),
     ("(a)", 33, Some(PATTERN_TOO_LARGE)),
     ("(?:a)", 33, None),
@@ -163,17 +161,24 @@ static LIMITS: &[(&str, u32, Option<u8>)] = &[
 fn patterns_have_limits(rt: HostRuntime) -> Result<(), Fail> {
     let alloc = rt.alloc();
     for &(part, count, code) in LIMITS {
-        let pattern = repeated(alloc, part, count)?;
-        let refused = refusal(parse_pattern(alloc, &pattern, false)).map(|broken| broken.code);
-        assert_eq!(rt; refused, code, "{count} of {part}");
+        check_code(&rt, alloc, &part.repeat(alloc, count)?, code);
     }
-    // 4,095 groups within each other, and one too many
-    for (depth, wanted) in [(4095, None), (4096, Some(PATTERN_TOO_LARGE))] {
-        let mut pattern = repeated(alloc, "(?:", depth)?;
-        pattern.push(b'a')?;
-        pattern.extend_from_slice(&repeated(alloc, ")", depth)?)?;
-        let refused = refusal(parse_pattern(alloc, &pattern, false)).map(|broken| broken.code);
-        assert_eq!(rt; refused, wanted, "{depth}");
+    Ok(())
+}
+
+// So many groups within each other.
+fn nested(alloc: Global, depth: usize) -> Result<String, NoMemory> {
+    let mut pattern = "(?:".repeat(alloc, depth)?;
+    pattern.push_str("a")?;
+    pattern.push_str(&")".repeat(alloc, depth)?)?;
+    Ok(pattern)
+}
+
+#[test]
+fn groups_stand_within_each_other(rt: HostRuntime) -> Result<(), NoMemory> {
+    static ROWS: &[(usize, Option<u8>)] = &[(4095, None), (4096, Some(PATTERN_TOO_LARGE))];
+    for &(depth, code) in ROWS {
+        check_code(&rt, rt.alloc(), &nested(rt.alloc(), depth)?, code);
     }
     Ok(())
 }
@@ -212,7 +217,7 @@ fn globs_are_read(rt: HostRuntime) -> Result<(), Fail> {
             panic!(rt; "{glob}");
         };
         let found = first_match(alloc, &pat, hay.as_bytes())?.is_some();
-        assert_eq!(rt; found, wanted, "{glob} on {hay}");
+        assert!(rt; found == wanted, "{glob} on {hay}");
     }
     Ok(())
 }
@@ -224,19 +229,15 @@ fn globs_are_refused(rt: HostRuntime) -> Result<(), Fail> {
         code: PATTERN_SYNTAX,
         at: 3,
     };
-    assert_eq!(rt;
-        refusal(glob_pattern(alloc, b"x[az-b]", false)),
-        Some(falls)
-    );
+    assert!(rt; refusal(glob_pattern(alloc, b"x[az-b]", false)) == Some(falls));
     let large = AtByte {
         code: PATTERN_TOO_LARGE,
         at: 0,
     };
     for (count, wanted) in [(4096, None), (4097, Some(large))] {
-        let glob = repeated(alloc, "?", count)?;
-        assert_eq!(rt;
-            refusal(glob_pattern(alloc, &glob, true)),
-            wanted,
+        let glob = "?".repeat(alloc, count)?;
+        assert!(rt;
+            refusal(glob_pattern(alloc, glob.as_bytes(), true)) == wanted,
             "{count}"
         );
     }

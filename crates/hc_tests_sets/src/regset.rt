@@ -58,78 +58,40 @@ fn form(alloc: Global, shape: &Shape, first: &[u8], second: &[u8]) -> Result<Set
     }
 }
 
-// These texts and no others of the row are in the set.
-fn check_set(rt: &impl Abort, alloc: Global, form: &SetForm, wanted: &[bool]) {
+// Of the texts that are tried, those with a `1` are in the set and those with a `0` are not.
+fn check_set(rt: &impl Abort, alloc: Global, form: &SetForm, wanted: &str) -> Result<(), NoMemory> {
     static TEXTS: &[&[u8]] = &[b"", b"a", b"A", b"ab", b"b", b"\xff"];
-    let set = compile_set(alloc, form).expect(rt, "a set");
-    for (text, want) in TEXTS.iter().zip(wanted.iter()) {
-        assert_eq!(rt; set.accepts(text), *want);
+    let Ok(set) = compile_set(alloc, form) else {
+        return Err(NoMemory);
+    };
+    let mut answers = String::new(alloc);
+    for text in TEXTS {
+        answers.push_str(if set.accepts(text) { "1" } else { "0" })?;
     }
+    assert!(rt; answers.as_str() == wanted, "{wanted}");
+    Ok(())
 }
+
+// How a set is made of two texts, and which of the texts that are tried are in it.
+static MADE: &[(Shape, &[u8], &[u8], &str)] = &[
+    (Shape::Any, b"", b"", "111111"),
+    (Shape::All, b"", b"", "111111"),
+    (Shape::None, b"", b"", "000000"),
+    (Shape::Literal, b"ab", b"", "000100"),
+    (Shape::Literal, b"", b"", "100000"),
+    (Shape::Pattern, b"a", b"", "010100"),
+    (Shape::Both, b"a", b"b", "000100"),
+    (Shape::Either, b"\xff", b"^a$", "010001"),
+    (Shape::Without, b"a", b"^a$", "000100"),
+    (Shape::Without, b"a", b"a", "000000"),
+    (Shape::Rest, b"a", b"b", "000010"),
+];
 
 #[test]
 fn sets_are_made(rt: HostRuntime) -> Result<(), NoMemory> {
-    static ROWS: &[(Shape, &[u8], &[u8], [bool; 6])] = &[
-        (Shape::Any, b"", b"", [true, true, true, true, true, true]),
-        (Shape::All, b"", b"", [true, true, true, true, true, true]),
-        (
-            Shape::None,
-            b"",
-            b"",
-            [false, false, false, false, false, false],
-        ),
-        (
-            Shape::Literal,
-            b"ab",
-            b"",
-            [false, false, false, true, false, false],
-        ),
-        (
-            Shape::Literal,
-            b"",
-            b"",
-            [true, false, false, false, false, false],
-        ),
-        (
-            Shape::Pattern,
-            b"a",
-            b"",
-            [false, true, false, true, false, false],
-        ),
-        (
-            Shape::Both,
-            b"a",
-            b"b",
-            [false, false, false, true, false, false],
-        ),
-        (
-            Shape::Either,
-            b"\xff",
-            b"^a$",
-            [false, true, false, false, false, true],
-        ),
-        (
-            Shape::Without,
-            b"a",
-            b"^a$",
-            [false, false, false, true, false, false],
-        ),
-        (
-            Shape::Without,
-            b"a",
-            b"a",
-            [false, false, false, false, false, false],
-        ),
-        (
-            Shape::Rest,
-            b"a",
-            b"b",
-            [false, false, false, false, true, false],
-        ),
-    ];
-    for (shape, first, second, wanted) in ROWS {
+    for (shape, first, second, wanted) in MADE {
         let form = form(rt.alloc(), shape, first, second)?;
-        check_set(&rt, rt.alloc(), &form, wanted);
+        check_set(&rt, rt.alloc(), &form, wanted)?;
     }
     Ok(())
 }
@@ -148,12 +110,7 @@ fn nested(alloc: Global, text: &[u8], depth: u8) -> Result<SetForm, NoMemory> {
 #[test]
 fn sets_stand_within_each_other(rt: HostRuntime) -> Result<(), NoMemory> {
     let form = nested(rt.alloc(), b"a", 32)?;
-    check_set(
-        &rt,
-        rt.alloc(),
-        &form,
-        &[false, true, false, true, false, false],
-    );
+    check_set(&rt, rt.alloc(), &form, "010100")?;
     let form = nested(rt.alloc(), b"(a", 32)?;
     check_refused(&rt, rt.alloc(), &form, 14, 0);
     Ok(())
@@ -161,8 +118,8 @@ fn sets_stand_within_each_other(rt: HostRuntime) -> Result<(), NoMemory> {
 
 fn check_refused(rt: &impl Abort, alloc: Global, form: &SetForm, code: u8, at: u32) {
     match compile_set(alloc, form) {
-        Ok(_) => assert!(rt; false),
-        Err(fault) => assert_eq!(rt; fault, Fault::Refused(AtByte { code, at })),
+        Err(Fault::Refused(broken)) => assert!(rt; broken == AtByte { code, at }),
+        _ => panic!(rt; "no refusal"),
     }
 }
 

@@ -97,7 +97,7 @@ fn circle(alloc: Global) -> Result<Dfa, NoMemory> {
     machine.add_silent(SilentStep { from: 1, to: 1 })?;
     machine.add_step(step(2, b'a', b'a', 0))?;
     machine.add_final(2)?;
-    machine.determinize(alloc)
+    machine.clone()?.determinize(alloc)
 }
 
 #[test]
@@ -111,7 +111,7 @@ fn a_table_is_read_back(rt: HostRuntime) -> Result<(), NoMemory> {
     let next = vec![in rt.alloc(); 0u32; 256]?;
     let finals = vec![in rt.alloc(); true; 1]?;
     let set = Dfa::from_table(rt.alloc(), &next, &finals)?;
-    assert_eq!(rt; set.states(), 1);
+    assert!(rt; set.states() == 1);
     assert!(rt; set.is_final(0) && set.next_state(0, 7) == 0);
     Ok(())
 }
@@ -171,7 +171,7 @@ fn sets_meet_and_join(rt: HostRuntime) -> Result<(), NoMemory> {
     for (first, second, keep, inside, outside, states) in PRODUCTS {
         let set = of_two(rt.alloc(), first, second, *keep)?;
         check(&rt, &set, inside, outside);
-        assert_eq!(rt; reduce(rt.alloc(), &set)?.states(), *states);
+        assert!(rt; reduce(rt.alloc(), &set)?.states() == *states);
     }
     Ok(())
 }
@@ -200,15 +200,15 @@ fn check_least(
 ) -> Result<(), NoMemory> {
     let found = least(alloc, set)?;
     let text = found.as_ref().map(|text| text.as_bytes());
-    assert_eq!(rt; text, shortest.map(|text| text.as_bytes()));
+    assert!(rt; text == shortest.map(|text| text.as_bytes()));
     Ok(())
 }
 
 fn check_first(rt: &impl Abort, alloc: Global, set: &Dfa, texts: &[&str]) -> Result<(), NoMemory> {
     let found = first_members(alloc, set, texts.len())?;
-    assert_eq!(rt; found.as_slice().len(), texts.len());
+    assert!(rt; found.as_slice().len() == texts.len());
     for (member, text) in found.as_slice().iter().zip(texts.iter()) {
-        assert_eq!(rt; member.as_bytes(), text.as_bytes());
+        assert!(rt; member.as_bytes() == text.as_bytes());
     }
     Ok(())
 }
@@ -217,7 +217,7 @@ fn check_first(rt: &impl Abort, alloc: Global, set: &Dfa, texts: &[&str]) -> Res
 fn outside(alloc: Global, first: &Set, second: &Set) -> Result<Inclusion, NoMemory> {
     let a = made(alloc, first)?;
     let b = made(alloc, second)?;
-    included(alloc, &a, &b)
+    included(alloc, &a, &b)?.clone()
 }
 
 #[test]
@@ -231,7 +231,7 @@ fn inclusion_shows_the_least_text_outside(rt: HostRuntime) -> Result<(), NoMemor
         match outside(rt.alloc(), first, second)? {
             Inclusion::Yes => assert!(rt; wanted.is_none()),
             Inclusion::No(text) => {
-                assert_eq!(rt; Some(text.as_bytes()), wanted.map(|text| text.as_bytes()))
+                assert!(rt; Some(text.as_bytes()) == wanted.map(|text| text.as_bytes()))
             }
         }
     }
@@ -272,7 +272,7 @@ fn late_a(alloc: Global, depth: u32) -> Result<Dfa, NoMemory>
 #[test]
 fn a_reduced_automaton_is_the_least(rt: HostRuntime) -> Result<(), NoMemory> {
     let set = late_a(rt.alloc(), 5)?;
-    assert_eq!(rt; reduce(rt.alloc(), &set)?.states(), 32);
+    assert!(rt; reduce(rt.alloc(), &set)?.states() == 32);
     Ok(())
 }
 
@@ -286,7 +286,7 @@ fn met_with_its_complement(alloc: Global, set: &Dfa) -> Result<Dfa, NoMemory> {
 fn large_sets_take_a_moment(rt: HostRuntime) -> Result<(), NoMemory> {
     let set = late_a(rt.alloc(), 12)?;
     let met = met_with_its_complement(rt.alloc(), &set)?;
-    assert_eq!(rt; met.states(), 4096);
-    assert_eq!(rt; reduce(rt.alloc(), &met)?.states(), 1);
+    assert!(rt; met.states() == 4096);
+    assert!(rt; reduce(rt.alloc(), &met)?.states() == 1);
     Ok(())
 }

@@ -1,7 +1,7 @@
+use crate::groups::listed;
 use hc_base::NoMemory;
 use hc_dfa::{
-    Dfa, Inclusion, Keep, byte_image, complement, first_members, included, least, product, reduce,
-    single,
+    Dfa, Inclusion, Keep, byte_image, complement, included, least, product, reduce, single,
 };
 use hc_pat_lang::{concat, matched, merge_slashes, prefix_quotient, suffix_quotient};
 use hc_pattern::{Pat, parse_pattern};
@@ -52,7 +52,10 @@ static FOUND: &[(&str, &str, bool)] = &[
 fn a_pattern_is_found_in_these_texts(rt: HostRuntime) -> Result<(), NoMemory> {
     for &(pattern, text, found) in FOUND {
         let set = found_in(&rt, rt.alloc(), pattern)?;
-        assert_eq!(rt; set.accepts(text.as_bytes()), found, "{pattern} in {text}");
+        assert!(rt;
+            set.accepts(text.as_bytes()) == found,
+            "{pattern} in {text}"
+        );
     }
     Ok(())
 }
@@ -67,15 +70,9 @@ fn a_late_byte_needs_many_states(rt: HostRuntime) -> Result<(), NoMemory> {
 
 #[test]
 fn the_first_texts_of_a_pattern(rt: HostRuntime) -> Result<(), NoMemory> {
-    let alloc = rt.alloc();
-    let set = found_in(&rt, alloc, "^ab*c$")?;
-    let first = first_members(alloc, &set, 3)?;
-    let mut texts = Vec::new(alloc);
-    for text in first.as_slice() {
-        texts.extend_from_slice(text.as_bytes())?;
-        texts.push(b' ')?;
-    }
-    assert_eq!(rt; texts.as_slice(), b"ac abc abbc ".as_slice());
+    let set = found_in(&rt, rt.alloc(), "^ab*c$")?;
+    let texts = listed(rt.alloc(), &set, 3)?;
+    assert!(rt; texts.as_slice() == b"|ac|abc|abbc".as_slice());
     Ok(())
 }
 
@@ -89,7 +86,7 @@ fn check_more(
 ) -> Result<(), NoMemory> {
     match included(alloc, a, b)? {
         Inclusion::Yes => assert!(rt; more.is_none()),
-        Inclusion::No(text) => assert_eq!(rt; Some(text.as_bytes()), more),
+        Inclusion::No(text) => assert!(rt; Some(text.as_bytes()) == more),
     }
     Ok(())
 }
@@ -108,11 +105,15 @@ fn an_anchor_leaves_texts_out(rt: HostRuntime) -> Result<(), NoMemory> {
     Ok(())
 }
 
+// The texts that are not in the set.
+fn others(alloc: Global, set: &Dfa) -> Result<Dfa, NoMemory> {
+    reduce(alloc, &complement(alloc, set)?)
+}
+
 #[test]
 fn an_empty_pattern_is_found_everywhere(rt: HostRuntime) -> Result<(), NoMemory> {
     let alloc = rt.alloc();
-    let all = matched(alloc, &Pat::Empty)?;
-    let none = reduce(alloc, &complement(alloc, &all)?)?;
+    let none = others(alloc, &matched(alloc, &Pat::Empty)?)?;
     assert!(rt; least(alloc, &none)?.is_none());
     Ok(())
 }
@@ -144,6 +145,12 @@ fn made_of(alloc: Global, cut: &Cut, a: &Dfa, b: &Dfa) -> Result<Dfa, NoMemory> 
     }
 }
 
+fn made_of_texts(alloc: Global, cut: &Cut, first: &str, second: &str) -> Result<Dfa, NoMemory> {
+    let a = single(alloc, first.as_bytes())?;
+    let b = single(alloc, second.as_bytes())?;
+    made_of(alloc, cut, &a, &b)
+}
+
 #[test]
 fn sets_are_cut_and_joined(rt: HostRuntime) -> Result<(), NoMemory> {
     static ROWS: &[(Cut, &str, &str, &str)] = &[
@@ -152,9 +159,7 @@ fn sets_are_cut_and_joined(rt: HostRuntime) -> Result<(), NoMemory> {
         (Cut::Joined, "a", "b", "ab"),
     ];
     for (cut, first, second, text) in ROWS {
-        let a = single(rt.alloc(), first.as_bytes())?;
-        let b = single(rt.alloc(), second.as_bytes())?;
-        let made = made_of(rt.alloc(), cut, &a, &b)?;
+        let made = made_of_texts(rt.alloc(), cut, first, second)?;
         check_only(&rt, rt.alloc(), &made, text)?;
     }
     Ok(())
@@ -162,9 +167,9 @@ fn sets_are_cut_and_joined(rt: HostRuntime) -> Result<(), NoMemory> {
 
 #[test]
 fn slashes_are_merged(rt: HostRuntime) -> Result<(), NoMemory> {
-    for (text, merged) in [("/a//b", "/a/b"), ("///a////", "/a/")] {
-        let set = single(rt.alloc(), text.as_bytes())?;
-        let made = merge_slashes(rt.alloc(), &set)?;
+    static ROWS: &[(&str, &str)] = &[("/a//b", "/a/b"), ("///a////", "/a/")];
+    for &(text, merged) in ROWS {
+        let made = merge_slashes(rt.alloc(), &single(rt.alloc(), text.as_bytes())?)?;
         check_only(&rt, rt.alloc(), &made, merged)?;
     }
     Ok(())
@@ -201,7 +206,7 @@ fn is_nothing(alloc: Global, a: &Dfa, b: &Dfa, keep: Keep) -> Result<bool, NoMem
 // Compares what is told of two sets: their inclusion, the first without the second, and both.
 fn compare(rt: &impl Abort, alloc: Global, a: &Dfa, b: &Dfa) -> Result<(), NoMemory> {
     let is_within = is_within(alloc, a, b)?;
-    assert_eq!(rt; is_within, is_nothing(alloc, a, b, Keep::FirstOnly)?);
+    assert!(rt; is_within == is_nothing(alloc, a, b, Keep::FirstOnly)?);
     let is_apart = is_nothing(alloc, a, b, Keep::Both)?;
     assert!(rt; !is_within || !is_apart);
     Ok(())

@@ -8,9 +8,9 @@ use hc_pattern::parse_pattern;
 use std::alloc::Global;
 use std::process::Abort;
 
-/// The texts of a set of few short ones, each behind a `|`.
-fn listed(alloc: Global, set: &Dfa) -> Result<Vec<u8>, NoMemory> {
-    let first = first_members(alloc, set, 9)?;
+/// The first texts of a set, at most so many, each behind a `|`.
+pub fn listed(alloc: Global, set: &Dfa, most: usize) -> Result<Vec<u8>, NoMemory> {
+    let first = first_members(alloc, set, most)?;
     let mut texts = Vec::new(alloc);
     for text in first.as_slice() {
         texts.push(b'|')?;
@@ -31,7 +31,7 @@ fn held(
         panic!(rt; "{pattern} is no pattern");
     };
     let texts = group_texts(alloc, &pat, set, number)?;
-    listed(alloc, &texts)
+    listed(alloc, &texts, 9)
 }
 
 /// A pattern, the one text of the set, a group, and what it may hold, the shortest first.
@@ -91,9 +91,8 @@ fn a_group_may_hold_these_texts(rt: HostRuntime) -> Result<(), NoMemory> {
     for &(pattern, text, number, texts) in HELD {
         let set = single(rt.alloc(), text.as_bytes())?;
         let found = held(&rt, rt.alloc(), pattern, &set, number)?;
-        assert_eq!(rt;
-            found.as_slice(),
-            texts.as_bytes(),
+        assert!(rt;
+            found.as_slice() == texts.as_bytes(),
             "{number} of {pattern} in {text}"
         );
     }
@@ -114,9 +113,8 @@ fn a_group_holds_what_its_set_allows(rt: HostRuntime) -> Result<(), NoMemory> {
     for &(pattern, among, number, texts) in HELD_AMONG {
         let set = found_in(&rt, rt.alloc(), among)?;
         let found = held(&rt, rt.alloc(), pattern, &set, number)?;
-        assert_eq!(rt;
-            found.as_slice(),
-            texts.as_bytes(),
+        assert!(rt;
+            found.as_slice() == texts.as_bytes(),
             "{number} of {pattern} in {among}"
         );
     }

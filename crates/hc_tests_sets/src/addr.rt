@@ -2,6 +2,18 @@
 
 use hc_addr::{Addr, BadAddress, Net, holds, parse_addr, parse_net, print_addr};
 use hc_base::NoMemory;
+use std::alloc::Global;
+use std::process::Abort;
+
+// That the text is read as this address, or as none.
+fn check_addr(rt: &impl Abort, text: &str, want: Option<Addr>) {
+    assert!(rt; parse_addr(text.as_bytes()) == want, "at {text}");
+}
+
+// That the text is read as this network, or as none.
+fn check_net(rt: &impl Abort, text: &str, want: Result<Net, BadAddress>) {
+    assert!(rt; parse_net(text.as_bytes()) == want, "at {text}");
+}
 
 #[test]
 fn reads_addresses(rt: HostRuntime) {
@@ -38,7 +50,7 @@ fn reads_addresses(rt: HostRuntime) {
         ),
     ];
     for &(text, want) in ROWS {
-        assert_eq!(rt; parse_addr(text.as_bytes()), Some(want), "at {text}");
+        check_addr(&rt, text, Some(want));
     }
 }
 
@@ -73,7 +85,7 @@ fn refuses_what_is_no_address(rt: HostRuntime) {
         "fe80::1%eth0",
     ];
     for &text in ROWS {
-        assert_eq!(rt; parse_addr(text.as_bytes()), None, "at {text}");
+        check_addr(&rt, text, None);
     }
 }
 
@@ -107,11 +119,7 @@ fn reads_networks(rt: HostRuntime) {
         ("::1/00000000000000000128", Addr::V6(1), u128::MAX),
     ];
     for &(text, addr, mask) in ROWS {
-        assert_eq!(rt;
-            parse_net(text.as_bytes()),
-            Ok(Net { addr, mask }),
-            "at {text}"
-        );
+        check_net(&rt, text, Ok(Net { addr, mask }));
     }
 }
 
@@ -145,7 +153,7 @@ fn refuses_what_is_no_network(rt: HostRuntime) {
         "example.org",
     ];
     for &text in ROWS {
-        assert_eq!(rt; parse_net(text.as_bytes()), Err(BadAddress), "at {text}");
+        check_net(&rt, text, Err(BadAddress));
     }
 }
 
@@ -167,29 +175,39 @@ fn tells_what_a_network_holds(rt: HostRuntime) {
         ("::1", "::2", false),
     ];
     for &(net, addr, want) in ROWS {
-        let read = parse_net(net.as_bytes()).expect(&rt, "a network");
-        let asked = parse_addr(addr.as_bytes()).expect(&rt, "an address");
-        assert_eq!(rt; holds(&read, asked), want, "at {net} and {addr}");
+        let (Ok(read), Some(asked)) = (parse_net(net.as_bytes()), parse_addr(addr.as_bytes()))
+        else {
+            panic!(rt; "{net} and {addr}");
+        };
+        assert!(rt; holds(&read, asked) == want, "at {net} and {addr}");
     }
+}
+
+// That the address is printed so, and read back.
+fn check_printed(rt: &impl Abort, alloc: Global, addr: Addr, want: &str) -> Result<(), NoMemory> {
+    let printed = print_addr(alloc, addr)?;
+    assert!(rt; printed.as_bytes() == want.as_bytes(), "at {want}");
+    check_addr(rt, want, Some(addr));
+    Ok(())
 }
 
 #[test]
 fn prints_addresses(rt: HostRuntime) -> Result<(), NoMemory> {
-    static ROWS: &[(&str, &str)] = &[
-        ("010.0.200.001", "10.0.200.1"),
-        ("255.255.255.255", "255.255.255.255"),
-        ("::", "0:0:0:0:0:0:0:0"),
-        ("2001:DB8::0Ff", "2001:db8:0:0:0:0:0:ff"),
+    static ROWS: &[(Addr, &str)] = &[
+        (Addr::V4(0x0a00_c801), "10.0.200.1"),
+        (Addr::V4(0xffff_ffff), "255.255.255.255"),
+        (Addr::V6(0), "0:0:0:0:0:0:0:0"),
         (
-            "ffff:ffff:ffff:ffff:ffff:ffff:ffff:ffff",
+            Addr::V6(0x2001_0db8_0000_0000_0000_0000_0000_00ff),
+            "2001:db8:0:0:0:0:0:ff",
+        ),
+        (
+            Addr::V6(u128::MAX),
             "ffff:ffff:ffff:ffff:ffff:ffff:ffff:ffff",
         ),
     ];
-    for &(text, want) in ROWS {
-        let addr = parse_addr(text.as_bytes()).expect(&rt, "an address");
-        let printed = print_addr(rt.alloc(), addr)?;
-        assert_eq!(rt; printed.as_bytes(), want.as_bytes(), "at {text}");
-        assert_eq!(rt; parse_addr(printed.as_bytes()), Some(addr), "at {want}");
+    for &(addr, want) in ROWS {
+        check_printed(&rt, rt.alloc(), addr, want)?;
     }
     Ok(())
 }

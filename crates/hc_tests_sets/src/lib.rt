@@ -1,0 +1,21 @@
+//! Tests of the crates of texts and sets: addresses, patterns and matches, automata and what they are
+//! made of. Tables of cases, whose answers come from the
+//! manual or from our own rules, and never from the code.
+#![tactic(auto)]
+
+#[cfg(test)]
+mod addr;
+#[cfg(test)]
+mod dfa;
+#[cfg(test)]
+mod groups;
+#[cfg(test)]
+mod hostile;
+#[cfg(test)]
+mod languages;
+#[cfg(test)]
+mod matches;
+#[cfg(test)]
+mod patterns;
+#[cfg(test)]
+mod regset;
