@@ -1,0 +1,228 @@
+//! Flat lists: entries in their order with the openings around them, the first refusal, what was looked
+//! at, variables and modules.
+
+ghost use Rattle.std.specs.Prelude.{◌≡◌, ◌<◌};
+
+use crate::world::put;
+use hc_base::{NoMemory, Refusal, Steps, Text};
+use hc_flat::{EntryView, Flat};
+use hc_include::flatten;
+use hc_model::{EntryForm, Read};
+use hc_world::{World, WorldFault};
+use std::alloc::Global;
+use std::marker::Brand;
+use std::sync::ledger::{Blank, Ledger};
+
+const MAIN: &str = "/m";
+
+// A main file, other files, and the wanted flat list: each entry as its line, `.` for a directive, `<`
+// for an opening and `>` for a close, and its text, before that its file where it is another one, behind
+// it the places of the openings around it; then the refusal; then what was looked at.
+type Row = (
+    &'static str,
+    &'static [(&'static str, &'static str)],
+    &'static str,
+);
+
+static ROWS: &[Row] = &[
+    // closes, and the openings around an entry
+    (
+        "User a\n<Files x>\n# c\nFoo \\\n b\n </FILES>\nBar\n",
+        &[],
+        "1.User a;2<Files x;4.Foo  b(1);6>Files x;7.Bar;=text /m;",
+    ),
+    (
+        "<IfModule mod_x.c>\nFoo\n<Files x>\n</Files>\n</IfModule>\nBar\n",
+        &[],
+        "1<IfModule mod_x.c;5>IfModule mod_x.c;6.Bar;=text /m;",
+    ),
+    (
+        "<IfDefine !X>\n<IfModule core.c>\nFoo\n</IfModule>\n</IfDefine>\n",
+        &[],
+        "1<IfDefine !X;2<IfModule core.c(0);3.Foo(0,1);4>IfModule core.c(0);5>IfDefine !X;=text /m;",
+    ),
+    (
+        "<Files x>\nInclude /a\n</Files>\n",
+        &[("/a", "<Limit y>\nFoo\n</Limit>\nBar")],
+        "1<Files x;2.Include /a(0);/a 1<Limit y(0);/a 2.Foo(0,2);/a 3>Limit y(0);\
+/a 4.Bar(0);3>Files x;=text /a;text /m;",
+    ),
+    // variables, and refusals behind them
+    (
+        "Define A b\nUser ${A} ${B}\nDefine A\nUser ${A}\n",
+        &[],
+        "1.Define A b;2.User b ${B};3.Define A;4.User b;=text /m;",
+    ),
+    ("Define a:b c\n", &[], "!12@1=text /m;"),
+    ("User a\n<Files x>\n", &[], "!4@2=text /m;"),
+    ("User \u{1}\n", &[], "!31@1=text /m;"),
+    // 6 for each line whose words reading needs, and for no other.
+    ("ServerRoot \"/x\n", &[], "!6@1=text /m;"),
+    ("User a\nLoadModule 'x\n", &[], "1.User a;!6@2=text /m;"),
+    ("Define \"x\n", &[], "!6@1=text /m;"),
+    ("include \"x\n", &[], "!6@1=text /m;"),
+    ("IncludeOptional \"x\n", &[], "!6@1=text /m;"),
+    ("<IfDefine \"x>\n</IfDefine>\n", &[], "!6@1=text /m;"),
+    ("<IfModule 'x>\n</IfModule>\n", &[], "!6@1=text /m;"),
+    ("User \"x\n", &[], "1.User \"x;=text /m;"),
+    (
+        "<Files \"x>\n</Files>\n",
+        &[],
+        "1<Files \"x;2>Files \"x;=text /m;",
+    ),
+    // A wildcard is what a glob reads as one.
+    (
+        "Include /c/a[b\n",
+        &[("/c/a[b", "X\n"), ("/c/b", "Y\n")],
+        "1.Include /c/a[b;/c/a[b 1.X;=text /c/a[b;text /m;",
+    ),
+    (
+        "Include /c/\\*\n",
+        &[("/c/\\*", "X\n"), ("/c/b", "Y\n")],
+        "1.Include /c/\\*;/c/\\* 1.X;=text /c/\\*;text /m;",
+    ),
+    (
+        "Include /c/[ab]\n",
+        &[("/c/b", "Y\n"), ("/c/a", "X\n"), ("/c/c", "Z\n")],
+        "1.Include /c/[ab];/c/a 1.X;/c/b 1.Y;=names /c;text /c/a;text /c/b;text /m;",
+    ),
+    (
+        "Include /?/x\n",
+        &[("/a/x", "X\n"), ("/b/y", "Y\n")],
+        "1.Include /?/x;/a/x 1.X;=names /;text /a/x;text /b/x;text /m;text /m/x;",
+    ),
+    ("Include /c/[b-a]\n", &[("/c/b", "Y\n")], "!14@1=text /m;"),
+    // files that are included
+    ("Include a\n", &[], "!11@1=text /m;"),
+    (
+        "ServerRoot /r\nInclude a\n",
+        &[("/r/a", "X\n")],
+        "1.ServerRoot /r;2.Include a;/r/a 1.X;=text /m;text /r/a;",
+    ),
+    ("Include /x\n", &[], "!8@1=text /m;text /x;"),
+    (
+        "IncludeOptional /x\nX\n",
+        &[],
+        "1.IncludeOptional /x;2.X;=text /m;text /x;",
+    ),
+    (
+        "Include /x\n",
+        &[("/x", "Include /m\n")],
+        "1.Include /x;!9@1=text /m;text /x;",
+    ),
+    ("Include /d\n", &[("/d/x", "")], "!35@1=text /d;text /m;"),
+    (
+        "Include /a /b\n",
+        &[("/a", "X\n")],
+        "1.Include /a /b;=text /m;",
+    ),
+    (
+        "<IfModule x>\nInclude /x\n</IfModule>\n",
+        &[],
+        "1<IfModule x;3>IfModule x;=text /m;",
+    ),
+];
+
+// The flat list of the main file of a world.
+fn flat_counted<L: Ledger>(blank: Blank, alloc: Global, world: &World) -> Result<Flat, NoMemory>
+    requires name { blank.name ≡ L.name }
+    requires parts { blank.parts ≡ L.parts }
+    requires whole { 0 < blank.parts }
+{
+    let mut bytes = Steps::<L>::new(blank);
+    flatten(alloc, world, MAIN.as_bytes(), &mut bytes)
+}
+
+fn world_of(alloc: Global, main: &str, files: &[(&str, &str)]) -> Result<World, WorldFault> {
+    let mut world = World::new(alloc)?;
+    put(&mut world, MAIN, main)?;
+    for (path, text) in files {
+        put(&mut world, path, text)?;
+    }
+    Ok(world)
+}
+
+fn show_files(alloc: Global, main: &str, files: &[(&str, &str)]) -> Result<String, WorldFault> {
+    let world = world_of(alloc, main, files)?;
+    let flat = flat_counted::<Brand>(Blank::new(1), alloc, &world)?;
+    Ok(show(alloc, &flat)?)
+}
+
+fn show(alloc: Global, flat: &Flat) -> Result<String, NoMemory> {
+    let mut shown = String::new(alloc);
+    for at in 0..flat.entries.len() {
+        show_entry(alloc, &mut shown, flat.entries.entry(at))?;
+    }
+    if let Some(refusal) = &flat.stop {
+        show_refusal(alloc, &mut shown, refusal)?;
+    }
+    shown.push_str("=")?;
+    for read in flat.reads.as_slice() {
+        show_read(alloc, &mut shown, read)?;
+    }
+    Ok(shown)
+}
+
+fn show_entry(alloc: Global, shown: &mut String, entry: EntryView) -> Result<(), NoMemory> {
+    let file = lent(entry.file);
+    if file != MAIN {
+        shown.push_str(file)?;
+        shown.push_str(" ")?;
+    }
+    let sign = match entry.form {
+        EntryForm::Directive => ".",
+        EntryForm::Opening => "<",
+        EntryForm::Close => ">",
+    };
+    let (line, name, rest) = (entry.line, entry.name, entry.rest);
+    shown.push_str(&format!(in alloc; "{line}{sign}{name}{rest}")?)?;
+    show_within(alloc, shown, entry.within)?;
+    shown.push_str(";")?;
+    Ok(())
+}
+
+fn show_within(alloc: Global, shown: &mut String, within: &[u32]) -> Result<(), NoMemory> {
+    let mut sign = "(";
+    for place in within {
+        shown.push_str(sign)?;
+        shown.push_str(&format!(in alloc; "{place}")?)?;
+        sign = ",";
+    }
+    if !within.is_empty() {
+        shown.push_str(")")?;
+    }
+    Ok(())
+}
+
+fn show_refusal(alloc: Global, shown: &mut String, refusal: &Refusal) -> Result<(), NoMemory> {
+    let (code, line) = (refusal.code, refusal.place.line);
+    shown.push_str(&format!(in alloc; "!{code}@{line}")?)?;
+    Ok(())
+}
+
+fn show_read(alloc: Global, shown: &mut String, read: &Read) -> Result<(), NoMemory> {
+    let (kind, path) = match read {
+        Read::KindOf(path) => ("kind", path),
+        Read::TextOf(path) => ("text", path),
+        Read::NamesOf(path) => ("names", path),
+    };
+    let path = lent(path);
+    shown.push_str(&format!(in alloc; "{kind} {path};")?)?;
+    Ok(())
+}
+
+fn lent(text: &Text) -> &str {
+    match std::str::from_utf8(text.as_bytes()) {
+        Ok(text) => text,
+        Err(_) => "",
+    }
+}
+
+#[test]
+fn files_are_flat_lists(rt: HostRuntime) -> Result<(), WorldFault> {
+    for &(main, files, wanted) in ROWS {
+        let shown = show_files(rt.alloc(), main, files)?;
+        assert!(rt; shown.as_str() == wanted, "{main}");
+    }
+    Ok(())
+}
