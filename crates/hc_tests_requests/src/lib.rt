@@ -1,0 +1,26 @@
+//! Tests of requests and sessions, most of them as dialogues. Tables of cases, whose answers come from the
+//! manual or from our own rules, and never from the code.
+#![tactic(auto)]
+
+#[cfg(test)]
+mod answers;
+#[cfg(test)]
+mod commands;
+#[cfg(test)]
+mod configs;
+#[cfg(test)]
+mod dialogue;
+#[cfg(test)]
+mod include;
+#[cfg(test)]
+mod main_files;
+#[cfg(test)]
+mod model;
+#[cfg(test)]
+mod serve;
+#[cfg(test)]
+mod session;
+#[cfg(test)]
+mod target;
+#[cfg(test)]
+mod told;
