@@ -80,7 +80,7 @@ fn gather(alloc: Global, entries: &Entries) -> Result<Gathered, BuildFault>
         let entry = entries.entry(place);
         let among = Among {
             alloc,
-            names: &names.rows,
+            names: names.rows,
             entries,
             place,
             entry,

@@ -10,5 +10,5 @@ mod rows;
 mod table;
 pub mod variable;
 
-pub use rows::{DIRECTIVES, RULE_FLAGS, VARIABLES, directives, rule_flags, variables};
+pub use rows::{directives, rule_flags, variables};
 pub use table::{Row, RowKind, Table, Wording, find_in};

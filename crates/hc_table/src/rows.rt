@@ -7,15 +7,6 @@ ghost use Rattle.hc_table.specs.Variables.{variable_rows};
 use crate::table::{Row, RowKind, Table, Wording};
 use crate::{class, context, flag, meaning, variable};
 
-/// How many rows the table of directives and containers has.
-pub const DIRECTIVES: usize = 145;
-
-/// How many rows the table of a `RewriteRule`'s flags has.
-pub const RULE_FLAGS: usize = 46;
-
-/// How many rows the table of variables has.
-pub const VARIABLES: usize = 21;
-
 // Rows: a meaning of a module, contexts, a class and a wording, and each name that has them.
 macro_rules! rows {
     ($module:ident: $($meaning:ident, $contexts:ident, $class:ident, $wording:ident => $($name:literal)+;)*) => {
@@ -206,27 +197,27 @@ macro_rules! variable_rows {
 
 /// The directives and the containers.
 #[tactic(auto, unfolding(crate::specs::Directives::directive_rows))]
-pub fn directives() -> Table<DIRECTIVES>
-    ensures { map row_of result.rows ≡ directive_rows }
+pub fn directives() -> Table
+    ensures { map row_of result.rows.now ≡ directive_rows }
 {
-    static ROWS: &[Row; DIRECTIVES] = &directive_rows!();
-    Table { rows: *ROWS }
+    static ROWS: &[Row] = &directive_rows!();
+    Table { rows: ROWS }
 }
 
 /// The flags of a `RewriteRule`.
 #[tactic(auto, unfolding(crate::specs::Flags::flag_rows))]
-pub fn rule_flags() -> Table<RULE_FLAGS>
-    ensures { map row_of result.rows ≡ flag_rows }
+pub fn rule_flags() -> Table
+    ensures { map row_of result.rows.now ≡ flag_rows }
 {
-    static ROWS: &[Row; RULE_FLAGS] = &flag_rows!();
-    Table { rows: *ROWS }
+    static ROWS: &[Row] = &flag_rows!();
+    Table { rows: ROWS }
 }
 
 /// The variables.
 #[tactic(auto, unfolding(crate::specs::Variables::variable_rows))]
-pub fn variables() -> Table<VARIABLES>
-    ensures { map row_of result.rows ≡ variable_rows }
+pub fn variables() -> Table
+    ensures { map row_of result.rows.now ≡ variable_rows }
 {
-    static ROWS: &[Row; VARIABLES] = &variable_rows!();
-    Table { rows: *ROWS }
+    static ROWS: &[Row] = &variable_rows!();
+    Table { rows: ROWS }
 }

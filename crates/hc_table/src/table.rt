@@ -38,24 +38,22 @@ impl Row {
     }
 }
 
-/// A table of names. Names are compared without case (Configuration Files). A table is some kilobytes, so
-/// make it once and lend it.
+/// A table of names. Names are compared without case (Configuration Files).
 #[derive(Clone, Copy)]
-pub struct Table<const N: usize> {
-    pub rows: [Row; N],
+pub struct Table {
+    pub rows: &'static [Row],
 }
 
-impl<const N: usize> Table<N> {
+impl Table {
     /// What the first row with this name, without case, stands for; `None` where no row has it.
     pub fn find(&self, name: &[u8]) -> Option<RowKind>
-        ensures { result ≡ find_in (map row_of self.now.rows) name.now }
+        ensures { result ≡ find_in (map row_of self.now.rows.now) name.now }
     {
-        find_in(&self.rows, name)
+        find_in(self.rows, name)
     }
 }
 
-/// The same of the rows of a table, as `find_in(&table.rows, name)`. A call of it is proved with no file,
-/// where one of [`Table::find`] needs a proof by hand.
+/// The same of the rows of a table.
 pub fn find_in(rows: &[Row], name: &[u8]) -> Option<RowKind>
     ensures { result ≡ find_in (map row_of rows.now) name.now }
 {
