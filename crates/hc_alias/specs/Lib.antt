@@ -2,6 +2,5 @@ pub mod Tests
 pub mod FoundView
 pub mod Filled
 pub mod Locations
-pub mod Servers
 pub mod Mapping
 pub mod ServersView

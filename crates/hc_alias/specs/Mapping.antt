@@ -16,7 +16,7 @@ use Rattle.hc_alias.specs.declared.mapping.Mapped.{Mapped}
 use Rattle.hc_alias.specs.declared.mapping.Mapped.TheVariants as mapped
 use Rattle.hc_alias.specs.Filled.{filled}
 use Rattle.hc_alias.specs.Locations.{sent_by}
-use Rattle.hc_alias.specs.Servers.{servers_of}
+use Rattle.hc_vhost.specs.Servers.{servers_of}
 use Rattle.hc_alias.specs.Tests.{Found, first_taking}
 
 -- ---- redirects

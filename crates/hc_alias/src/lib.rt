@@ -5,8 +5,6 @@
 mod filled;
 mod locations;
 mod mapping;
-mod servers;
 mod tests;
 
 pub use mapping::{Away, Mapped, directory_redirect, map_url};
-pub use servers::server_at;

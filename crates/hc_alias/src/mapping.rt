@@ -3,15 +3,15 @@ ghost use Rattle.std.specs.Option.{option_map};
 ghost use Rattle.hc_alias.specs.FoundView.{found_of};
 ghost use Rattle.hc_alias.specs.Mapping as definition;
 ghost use Rattle.hc_alias.specs.Mapping.{aliased, away, maps_of, named_by, redirects_of, root_of, under_root};
-ghost use Rattle.hc_alias.specs.Servers.{IsHostOf, servers_of};
+ghost use Rattle.hc_vhost.specs.Servers.{IsHostOf, servers_of};
 ghost use Rattle.hc_alias.specs.ServersView.{servers_view};
 
 use crate::filled::filled;
 use crate::locations::sent_by;
-use crate::servers::server_at;
 use crate::tests::{Found, first_taking};
 use hc_base::{NoMemory, Place, Span, Text};
 use hc_model::{Alias, Caller, Config, HostId, Outcome, Redirect, Server, Spot};
+use hc_vhost::server_at;
 use std::alloc::Global;
 
 /// What a URL path is mapped to.

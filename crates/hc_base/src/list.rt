@@ -1,5 +1,4 @@
-ghost use Rattle.std.specs.Prelude.{◌≡◌, [], ◌∷◌, ◌++◌, ◌≤◌, length, IfOk, OnOk, OnErr};
-ghost use Rattle.std.specs.List.{insert};
+ghost use Rattle.std.specs.Prelude.{◌≡◌, [], ◌∷◌, ◌++◌, IfOk, OnOk, OnErr};
 ghost use Rattle.std.specs.Cmp.Lexicographic.{pointwise, lists_per, lists_equiv};
 ghost use Rattle.std.specs.Hash as fed;
 ghost use Rattle.std.specs.Hash.{items_Alike};
@@ -55,18 +54,6 @@ impl<T: Drop> List<T> {
         ensures err { OnErr result (self.new ≡ self.old) }
     {
         self.items.push(item)?;
-        Ok(())
-    }
-}
-
-impl<T: Drop> List<T> {
-    /// Puts an item before the one at a place, or at the end. An item that finds no memory is dropped.
-    pub fn insert(&mut self, place: usize, item: T) -> Result<(), NoMemory>
-        requires { place ≤ length self.old }
-        ensures ok { OnOk result (self.new ≡ insert self.old place item) }
-        ensures err { OnErr result (self.new ≡ self.old) }
-    {
-        self.items.insert(place, item)?;
         Ok(())
     }
 }

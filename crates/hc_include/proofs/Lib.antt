@@ -1,6 +1,5 @@
 pub mod Common
 pub mod Counting
 pub mod Ending
-pub mod Paths
 pub mod Texts
 pub mod Whole

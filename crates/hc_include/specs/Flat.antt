@@ -16,7 +16,7 @@ use Rattle.hc_model.specs.declared.config.Define.{Define}
 use Rattle.hc_model.specs.declared.read.Read.{Read}
 use Rattle.hc_model.specs.declared.walk.Kind.{Kind}
 use Rattle.hc_nodes.specs.Tree.{refusal_of}
-use Rattle.hc_steps.specs.Reads.{each_once}
+use Rattle.hc_steps.specs.Order.{each_once}
 use Rattle.hc_steps.specs.Run.{Run, Way, goes_on, is_over, run}
 use Rattle.hc_steps.specs.Shown.{shown_by}
 use Rattle.hc_steps.specs.Step.{Path, Step, leaves, ends, ◌>>=◌, in_order, text_at}

@@ -4,7 +4,7 @@
 use Rattle.std.specs.Prelude.{ℕ, ◌==◌, List, [], ◌∷◌, ◌++◌, length, map, filter, Bool, true, false, not, ◌||◌, Option, Some, None, Result, Ok, Err, if◌then◌else◌, is_some}
 use Rattle.std.specs.List.{list_any, slice_split}
 use Rattle.std.specs.Cmp.Lexicographic.{slice_cmp}
-use Rattle.std.specs.Ordering.{nat_cmp, is_lt}
+use Rattle.std.specs.Ordering.{nat_cmp}
 use Rattle.hc_base.specs.Bytes.{slash}
 use Rattle.hc_base.specs.Paths.{begins_with_slash, is_slash}
 use Rattle.hc_base.specs.Rules.{rule}
@@ -15,7 +15,7 @@ use Rattle.hc_model.specs.declared.walk.Kind.{Kind}
 use Rattle.hc_model.specs.declared.walk.Kind.TheVariants.{Absent, Dir, File}
 use Rattle.hc_pattern.specs.Globs.{glob_pattern, has_wildcard}
 use Rattle.hc_pattern.specs.Pattern.{Pattern}
-use Rattle.hc_steps.specs.Rising.{ordered}
+use Rattle.hc_steps.specs.Order.{ordered}
 use Rattle.hc_steps.specs.Step.{Found, Path, Step, leaves, ends, ◌>>=◌, in_order, names_at, text_at}
 use Rattle.hc_ways.specs.Kept.{first_match}
 use Rattle.hc_says.specs.Says.{is_among}
@@ -94,11 +94,8 @@ unfoldable pub texts_of : List Path → Step AtByte Candidates
 texts_of paths = in_order with_text (record { files = []; lacks_text = false }) paths
 
 -- Each once, in byte order.
-abbrev pub comes_first : Path → Path → Bool
-comes_first path other = is_lt (slice_cmp nat_cmp path other)
-
 abbrev pub in_byte_order : List Path → List Path
-in_byte_order paths = ordered comes_first paths
+in_byte_order paths = ordered (slice_cmp nat_cmp) paths
 
 -- ---- an Include
 

@@ -8,10 +8,9 @@ ghost use Rattle.hc_says.specs.Says.{built_in};
 
 use crate::files::{read_file, within};
 use crate::reading::{Reading, Setting, Stopped};
-use hc_base::{Fault, List, NoMemory, Refusal, Steps, Text};
+use hc_base::{Fault, NoMemory, Refusal, Steps, Text};
 use hc_flat::{Entries, Flat, Places};
 use hc_lines::FileKind;
-use hc_model::Read;
 use hc_says::{Defines, built_in};
 use hc_steps::Log;
 use hc_world::World;
@@ -40,26 +39,27 @@ pub fn flatten<L: Ledger>(
     let main = Text::copy_of(alloc, main)?;
     let mut log = Log::new(alloc, None);
     match read_main(world, &mut log, bytes, &main) {
-        Ok(reading) => Ok(flat_at(main, log.into_told().reads, None, reading)),
+        Ok(reading) => Ok(flat_at(main, log, None, reading)?),
         Err(Fault::Refused(stopped)) => {
-            let reads = log.into_told().reads;
-            Ok(flat_at(main, reads, Some(stopped.refusal), stopped.reading))
+            let Stopped { reading, refusal } = stopped;
+            Ok(flat_at(main, log, Some(refusal), reading)?)
         }
         Err(Fault::NoMemory) => Err(NoMemory),
     }
 }
 
-fn flat_at(main: Text, reads: List<Read>, stop: Option<Refusal>, reading: Reading) -> Flat
-    ensures { result ≡ flat_at main reads stop reading }
+fn flat_at(main: Text, log: Log, stop: Option<Refusal>, reading: Reading) -> Result<Flat, NoMemory>
+    ensures { IfOk result (λ flat. flat ≡ flat_at main log.reads stop reading) }
 {
-    Flat {
+    let reads = log.into_told()?.reads;
+    Ok(Flat {
         file: main,
         entries: reading.entries,
         defines: reading.defines.into_list(),
         modules: reading.modules.into_list(),
         stop,
         reads,
-    }
+    })
 }
 
 #[tactic(auto, using(hc_steps::proofs::Going::ran_no_memory))]

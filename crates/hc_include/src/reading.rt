@@ -74,13 +74,13 @@ impl Reading {
     {
         match change {
             Change::Drops(dropped) => Ok((self.dropping(dropped), List::new(alloc))),
-            Change::Closes => Ok((self.closed(around, line)?, List::new(alloc))),
+            Change::Closes => Ok((self.closing(around, line)?, List::new(alloc))),
             Change::Opens { inside, is_kept } => {
-                let opened = self.opened(around, line, inside.as_str(), is_kept)?;
+                let opened = self.opening(around, line, inside.as_str(), is_kept)?;
                 Ok((opened, List::new(alloc)))
             }
             Change::Keeps { text, says, files } => {
-                Ok((self.kept(around, line, text.as_str(), says)?, files))
+                Ok((self.keeping(around, line, text.as_str(), says)?, files))
             }
         }
     }
@@ -93,7 +93,7 @@ impl Reading {
     }
 
     // The innermost opening is closed.
-    fn closed(mut self, around: &Around, line: &Line) -> Result<Reading, NoMemory>
+    fn closing(mut self, around: &Around, line: &Line) -> Result<Reading, NoMemory>
         ensures { IfOk result (λ later.
             later ≡ closed_at (spot_of around.now line.now) (innermost self.openings) self) }
     {
@@ -109,7 +109,7 @@ impl Reading {
         Ok(self)
     }
 
-    fn opened(
+    fn opening(
         mut self,
         around: &Around,
         line: &Line,
@@ -134,7 +134,7 @@ impl Reading {
         Ok(self)
     }
 
-    fn kept(
+    fn keeping(
         mut self,
         around: &Around,
         line: &Line,

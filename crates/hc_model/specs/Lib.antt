@@ -1,5 +1,6 @@
 pub mod Node
 pub mod Overrides
 pub mod PatternCode
+pub mod Reads
 pub mod Walking
 pub mod World

@@ -149,8 +149,8 @@ levels_is [] = refl
 levels_is (placed ∷ tokens) = ap (token_known placed.at placed.token) (levels_is tokens) ∙ token_is placed.at placed.token (levels_of tokens)
 
 -- All tokens are read.
-pub built : (tokens : List Placed) (levels : KnownLevels) → levels ≡ levels_known tokens (new_known, []) → whole_known levels.0 ≡ known (syntax_of tokens)
-built tokens levels is = ap (λ l. whole_known l.0) (is ∙ levels_is tokens) ∙ whole_is (levels_of tokens).0
+pub tree_is_known : (tokens : List Placed) (levels : KnownLevels) → levels ≡ levels_known tokens (new_known, []) → whole_known levels.0 ≡ known (syntax_of tokens)
+tree_is_known tokens levels is = ap (λ l. whole_known l.0) (is ∙ levels_is tokens) ∙ whole_is (levels_of tokens).0
 
 -- The last token is read first.
 pub last_token : (tokens : List Placed) (last : Placed) (levels : KnownLevels) → levels_known (tokens ++ last ∷ []) levels ≡ levels_known tokens (token_known last.at last.token levels)

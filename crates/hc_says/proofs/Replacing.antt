@@ -10,7 +10,7 @@ use Rattle.std.proofs.lemmas.List.{length-append, append-nil, drop_more, take_mo
 use Rattle.std.proofs.lemmas.List.Quantifiers.{position-Some}
 use Rattle.hc_base.specs.Bytes.{brace_close, brace_open, colon, dollar}
 use Rattle.hc_says.specs.Variables.{ends_name, name_in_braces, replaced, replaced_behind, stands_for, variable_at}
-use Rattle.hc_says.specs.VariablesView.{begins_variable, closed}
+use Rattle.hc_says.specs.VariablesView.{begins_variable, braced}
 
 -- No byte ends a name.
 abbrev pub HasNoEnd : List ℕ → Type 0
@@ -73,8 +73,8 @@ module _ (value : List ℕ → Option (List ℕ)) where
       ∙ ap (λ made. b ∷ made) (replaced_colon (c ∷ bs) rest p.1)
 
   close_here : (b c : ℕ) (bs rest : List ℕ) (t : Bool) → ((b == dollar) && (c == brace_open)) ≡ t → name_in_braces (bs ++ brace_close ∷ rest) ≡ Some bs
-      → replaced value (c ∷ bs ++ brace_close ∷ rest) ≡ closed value (c ∷ bs) ++ replaced value rest
-      → replaced value (b ∷ c ∷ bs ++ brace_close ∷ rest) ≡ closed value (b ∷ c ∷ bs) ++ replaced value rest
+      → replaced value (c ∷ bs ++ brace_close ∷ rest) ≡ braced value (c ∷ bs) ++ replaced value rest
+      → replaced value (b ∷ c ∷ bs ++ brace_close ∷ rest) ≡ braced value (b ∷ c ∷ bs) ++ replaced value rest
   close_here b c bs rest true e named more =
       let at : variable_at b (c ∷ bs ++ brace_close ∷ rest) ≡ Some bs = rw e named in
       let behind : replaced_behind value (length bs + 2) (c ∷ bs ++ brace_close ∷ rest) ≡ replaced value rest =
@@ -85,15 +85,15 @@ module _ (value : List ℕ → Option (List ℕ)) where
       plain_byte b (c ∷ bs ++ brace_close ∷ rest) (rw e refl) ∙ (rw (e, more) refl)
 
   -- A `}` closes the variable that the first `${` before it begins.
-  pub replaced_closed : (front rest : List ℕ) → HasNoEnd front → replaced value (front ++ brace_close ∷ rest) ≡ closed value front ++ replaced value rest
-  replaced_closed [] rest h = plain_byte brace_close rest (no_variable brace_close rest refl)
-  replaced_closed (b ∷ []) rest h =
+  pub replaced_braced : (front rest : List ℕ) → HasNoEnd front → replaced value (front ++ brace_close ∷ rest) ≡ braced value front ++ replaced value rest
+  replaced_braced [] rest h = plain_byte brace_close rest (no_variable brace_close rest refl)
+  replaced_braced (b ∷ []) rest h =
       stays b brace_close rest ((b == dollar) && (brace_close == brace_open)) refl (λ e. absurd (let p = (and_parts (b == dollar) (brace_close == brace_open) e).1 in cc))
-      ∙ ap (λ made. b ∷ made) (replaced_closed [] rest refl)
-  replaced_closed (b ∷ c ∷ bs) rest h =
+      ∙ ap (λ made. b ∷ made) (replaced_braced [] rest refl)
+  replaced_braced (b ∷ c ∷ bs) rest h =
       let p = or_parts (ends_name b) (list_any ends_name (c ∷ bs)) h in
       let q = or_parts (ends_name c) (list_any ends_name bs) p.1 in
-      close_here b c bs rest ((b == dollar) && (c == brace_open)) refl (name_up_to bs rest q.1) (replaced_closed (c ∷ bs) rest p.1)
+      close_here b c bs rest ((b == dollar) && (c == brace_open)) refl (name_up_to bs rest q.1) (replaced_braced (c ∷ bs) rest p.1)
 
 -- ---- the first byte that ends a name
 
@@ -105,10 +105,10 @@ no_end_before (b ∷ bs) (suc end) h =
     rw here (no_end_before bs end (λ k l. h (suc k) (omega arith)))
 
 abbrev pub chunk_of : (List ℕ → Option (List ℕ)) → List ℕ → ℕ → List ℕ
-chunk_of value text end = cond (get_or text end 0 == brace_close) (closed value (take end text)) (take end text ++ colon ∷ [])
+chunk_of value text end = cond (get_or text end 0 == brace_close) (braced value (take end text)) (take end text ++ colon ∷ [])
 
-sign_cases : (value : List ℕ → Option (List ℕ)) (front rest : List ℕ) (sign : ℕ) (t : Bool) → (sign == brace_close) ≡ t → ends_name sign ≡ true → HasNoEnd front → replaced value (front ++ sign ∷ rest) ≡ cond t (closed value front) (front ++ colon ∷ []) ++ replaced value rest
-sign_cases value front rest sign true e ends h = rw (eqb-true sign brace_close e) (replaced_closed value front rest h)
+sign_cases : (value : List ℕ → Option (List ℕ)) (front rest : List ℕ) (sign : ℕ) (t : Bool) → (sign == brace_close) ≡ t → ends_name sign ≡ true → HasNoEnd front → replaced value (front ++ sign ∷ rest) ≡ cond t (braced value front) (front ++ colon ∷ []) ++ replaced value rest
+sign_cases value front rest sign true e ends h = rw (eqb-true sign brace_close e) (replaced_braced value front rest h)
 sign_cases value front rest sign false e ends h =
     elim (or_cases (sign == colon) (sign == brace_close) ends) [
       | inl is ↦ rw (eqb-true sign colon is) (replaced_colon value front rest h)
@@ -142,15 +142,15 @@ replaced_none value text none = replaced_open value text (no_end_at_all text non
 
 -- ---- the first `${`
 
-closed_plain : (value : List ℕ → Option (List ℕ)) (b : ℕ) (bs : List ℕ) → begins_variable (b ∷ bs) ≡ false → closed value (b ∷ bs) ≡ b ∷ closed value bs
-closed_plain value b bs e = rw e refl
+braced_plain : (value : List ℕ → Option (List ℕ)) (b : ℕ) (bs : List ℕ) → begins_variable (b ∷ bs) ≡ false → braced value (b ∷ bs) ≡ b ∷ braced value bs
+braced_plain value b bs e = rw e refl
 
 pub closed_more : (value : List ℕ → Option (List ℕ)) (text : List ℕ) (at : ℕ) → at < length text → begins_variable (drop at text) ≡ false
-    → closed value text ≡ take at text ++ closed value (drop at text) → closed value text ≡ take (at + 1) text ++ closed value (drop (at + 1) text)
+    → braced value text ≡ take at text ++ braced value (drop at text) → braced value text ≡ take (at + 1) text ++ braced value (drop (at + 1) text)
 closed_more value text at l e so_far =
     let cut : drop at text ≡ get_or text at 0 ∷ drop (at + 1) text = drop_more text at 0 l in
     let plain : begins_variable (get_or text at 0 ∷ drop (at + 1) text) ≡ false = rw cut at e in
-    so_far ∙ ap (λ rest. take at text ++ closed value rest) cut
-    ∙ ap (λ rest. take at text ++ rest) (closed_plain value (get_or text at 0) (drop (at + 1) text) plain)
-    ∙ sym (append_assoc (take at text) (get_or text at 0 ∷ []) (closed value (drop (at + 1) text)))
-    ∙ ap (λ front. front ++ closed value (drop (at + 1) text)) (sym (take_more text at 0 l))
+    so_far ∙ ap (λ rest. take at text ++ braced value rest) cut
+    ∙ ap (λ rest. take at text ++ rest) (braced_plain value (get_or text at 0) (drop (at + 1) text) plain)
+    ∙ sym (append_assoc (take at text) (get_or text at 0 ∷ []) (braced value (drop (at + 1) text)))
+    ∙ ap (λ front. front ++ braced value (drop (at + 1) text)) (sym (take_more text at 0 l))

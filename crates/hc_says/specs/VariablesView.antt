@@ -12,10 +12,10 @@ begins_variable (b ∷ c ∷ bs) = (b == dollar) && (c == brace_open)
 
 -- What bytes without `}` and `:` give together with a `}` behind them: the first `${` begins a
 -- variable.
-abbrev pub closed : (List ℕ → Option (List ℕ)) → List ℕ → List ℕ
-closed value [] = brace_close ∷ []
-closed value (b ∷ bs) = if begins_variable (b ∷ bs) then stands_for value (drop 1 bs) else b ∷ closed value bs
+abbrev pub braced : (List ℕ → Option (List ℕ)) → List ℕ → List ℕ
+braced value [] = brace_close ∷ []
+braced value (b ∷ bs) = if begins_variable (b ∷ bs) then stands_for value (drop 1 bs) else b ∷ braced value bs
 
 -- What a chunk gives with the byte behind it.
 abbrev pub chunk_made : (List ℕ → Option (List ℕ)) → Chunk → List ℕ
-chunk_made value chunk = if chunk.closes then closed value chunk.front.now else chunk.front.now ++ colon ∷ []
+chunk_made value chunk = if chunk.closes then braced value chunk.front.now else chunk.front.now ++ colon ∷ []

@@ -2,7 +2,7 @@ ghost use Rattle.std.specs.Prelude.{◌≡◌, ◌<◌, ◌++◌, ℕ, codes, Li
 ghost use Rattle.std.specs.Prelude.{length, position, slice_index, string_bytes, IfOk, IfSome, MatchOption};
 ghost use Rattle.hc_says.specs.Says.{value_of};
 ghost use Rattle.hc_says.specs.Variables.{ends_name, replaced, stands_for};
-ghost use Rattle.hc_says.specs.VariablesView.{begins_variable, closed, chunk_made};
+ghost use Rattle.hc_says.specs.VariablesView.{begins_variable, braced, chunk_made};
 
 use crate::defines::Defines;
 use hc_base::NoMemory;
@@ -73,7 +73,7 @@ pub(crate) fn ends_name(byte: u8) -> bool
 // Adds what the text gives that stands before a `}`, together with that.
 fn push_closed(made: &mut String, text: &str, defines: &Defines) -> Result<(), NoMemory>
     ensures { IfOk result (λ _.
-        string_bytes made.new ≡ string_bytes made.old ++ closed (value_of defines.now) text.now) }
+        string_bytes made.new ≡ string_bytes made.old ++ braced (value_of defines.now) text.now) }
 {
     let Some((front, name)) = split_variable(text) else {
         made.push_str(text)?;
@@ -102,8 +102,8 @@ fn push_variable(made: &mut String, name: &str, defines: &Defines) -> Result<(),
 // What stands before the first `${`, and what follows that.
 fn split_variable<'t>(text: &'t str) -> Option<(&'t str, &'t str)>
     ensures { (value : List ℕ → Option (List ℕ)) → MatchOption result
-        (closed value text.now ≡ text.now ++ codes "}")
-        (λ parts. closed value text.now ≡ parts.0.now ++ stands_for value parts.1.now) }
+        (braced value text.now ≡ text.now ++ codes "}")
+        (λ parts. braced value text.now ≡ parts.0.now ++ stands_for value parts.1.now) }
 {
     let bytes = text.as_bytes();
     for at in 0..bytes.len() {

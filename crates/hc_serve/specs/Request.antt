@@ -2,11 +2,11 @@
 -- Apache manual: "Mapping URLs to Filesystem Locations"; core, LimitInternalRecursion. What is outside
 -- is our own choice.
 use Rattle.std.specs.Prelude.{◌≡◌, ℕ, zero, suc, List, [], ◌++◌, length, take, false}
-use Rattle.hc_alias.specs.Servers.{server_at}
+use Rattle.hc_vhost.specs.Choice.{chosen}
+use Rattle.hc_vhost.specs.Servers.{server_at}
 use Rattle.hc_model.specs.World.{World}
 use Rattle.hc_model.specs.declared.config.Config.{Config}
 use Rattle.hc_model.specs.declared.config.HostId.{HostId}
-use Rattle.hc_model.specs.declared.config.HostId.TheVariants.{Main}
 use Rattle.hc_model.specs.declared.event.Event.TheVariants as event
 use Rattle.hc_model.specs.declared.outcome.LimitKind.TheVariants.{Redirects}
 use Rattle.hc_model.specs.declared.outcome.Outcome.{Outcome}
@@ -25,21 +25,22 @@ use Rattle.hc_serve.specs.declared.answer.TheConstants.{LONGEST_TRAIL}
 use Rattle.hc_serve.specs.declared.stage.Pass.{Pass}
 use Rattle.hc_serve.specs.declared.way.TheConstants.{BAD_REQUEST, NOT_FOUND}
 use Rattle.hc_steps.specs.Laws.{AgreeOn}
-use Rattle.hc_steps.specs.Reads.{each_once}
+use Rattle.hc_steps.specs.Order.{each_once}
 use Rattle.hc_steps.specs.Run.{Run, Way, goes_on, is_over, run}
 use Rattle.hc_steps.specs.Shown.{shown_by}
 use Rattle.hc_steps.specs.Step.{Step, leaves, ends, told, ◌>>=◌}
 
 -- ---- the way of a request
 
--- Virtual hosts are not built yet.
-abbrev pub chosen : Config → Request → HostId
-chosen config request = Main
+-- The server that answers: by the connection's address and port, and by the name of the Host header.
+abbrev pub asked_of : Config → Request → HostId
+asked_of config request = chosen config request.server request.port request.host
 
--- The server that answers.
+unfoldable pub host_told : Config → HostId → Step Outcome HostId
+host_told config host = told (event.Host (server_at config host).place) host
+
 unfoldable pub host_of : Config → Request → Step Outcome HostId
-host_of config request =
-    told (event.Host (server_at config (chosen config request)).place) (chosen config request)
+host_of config request = host_told config (asked_of config request)
 
 -- The first pass, or what a target that gives none ends with.
 unfoldable pub first_pass : TargetRead → Step Outcome Pass

@@ -4,7 +4,7 @@
 use Rattle.std.specs.Prelude.{ℕ, ◌==◌, ◌+◌, List, length, if◌then◌else◌, Option, Some, None}
 use Rattle.std.specs.Option.{option_or}
 use Rattle.hc_addr.specs.Printed.{printed}
-use Rattle.hc_alias.specs.Servers.{server_at}
+use Rattle.hc_vhost.specs.Servers.{server_at}
 use Rattle.hc_model.specs.declared.config.Config.{Config}
 use Rattle.hc_model.specs.declared.config.HostId.{HostId}
 use Rattle.hc_model.specs.declared.config.Server.{Server}

@@ -81,7 +81,7 @@ pub fn evaluate<L: Ledger>(
 {
     evals.tick();
     let served = serve(alloc, config, world, request, Some(LONGEST_TRAIL))?;
-    let told = served.log.into_told();
+    let told = served.log.into_told()?;
     Ok(Answer {
         outcome: served.outcome,
         events: told.count,
@@ -104,7 +104,7 @@ pub fn whole_run<L: Ledger>(
 {
     evals.tick();
     let served = serve(alloc, config, world, request, None)?;
-    let told = served.log.into_told();
+    let told = served.log.into_told()?;
     Ok(WholeRun {
         outcome: served.outcome,
         events: told.events,

@@ -1,5 +1,5 @@
 ghost use Rattle.std.specs.Prelude.{◌≡◌};
-ghost use Rattle.hc_alias.specs.Servers.{IsHostOf};
+ghost use Rattle.hc_vhost.specs.Servers.{IsHostOf};
 ghost use Rattle.hc_serve.specs.Passing.{admitted, answered, begun, mapped_at, merged, named, outcome_at};
 ghost use Rattle.hc_serve.specs.Passing.{passed, seen_there, walked, without_dots};
 ghost use Rattle.hc_serve.specs.Site.{site_of};

@@ -2,9 +2,9 @@ ghost use Rattle.std.specs.Prelude.{◌≡◌, IfOk};
 ghost use Rattle.hc_serve.specs.Site.{caller_at, most_passes, or_address, server_name};
 
 use hc_addr::print_addr;
-use hc_alias::server_at;
 use hc_base::{NoMemory, Text};
 use hc_model::{Caller, Config, HostId, Request, Server};
+use hc_vhost::server_at;
 use hc_world::World;
 use std::alloc::Global;
 

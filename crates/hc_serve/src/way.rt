@@ -1,7 +1,7 @@
 ghost use Rattle.std.specs.Prelude.{◌≡◌, true, IfOk};
-ghost use Rattle.hc_alias.specs.Servers.{IsHostOf};
+ghost use Rattle.hc_vhost.specs.Servers.{IsHostOf};
 ghost use Rattle.hc_base.specs.Paths.{begins_with_slash};
-ghost use Rattle.hc_serve.specs.Request.{first_pass, host_of, passes, passes_at, way};
+ghost use Rattle.hc_serve.specs.Request.{first_pass, host_of, host_told, passes, passes_at, way};
 ghost use Rattle.hc_serve.specs.Site.{site_of};
 ghost use Rattle.hc_steps.specs.Ran.{Ran};
 ghost use Rattle.hc_steps.specs.Run.{run};
@@ -11,11 +11,11 @@ ghost use Rattle.hc_target.specs.Targets.{read};
 use crate::pass::passed;
 use crate::site::{Asked, caller_at, most_passes};
 use crate::stage::{Pass, Stop};
-use hc_alias::server_at;
 use hc_base::{Fault, List};
 use hc_model::{Config, Event, HostId, Outcome, Reason, Request};
 use hc_steps::Log;
 use hc_target::{TargetRead, read_target};
+use hc_vhost::{choose, server_at};
 use hc_world::World;
 
 const BAD_REQUEST: u16 = 400;
@@ -38,17 +38,31 @@ pub(crate) fn way(
     passes_at(config, world, log, host, request, pass)
 }
 
-// The server that answers. Virtual hosts are not built yet.
-#[tactic(auto, unfolding(crate::specs::Request::host_of), using(hc_steps::proofs::Going::telling))]
+// The server that answers.
 fn host_of(config: &Config, world: &World, log: &mut Log, request: &Request) -> Result<HostId, Stop>
     ensures step { Ran result log.old log.new
         (run (host_of config.now request.now) (shown_by world.now.files)) }
     ensures host { IfOk result (IsHostOf config.now) }
 {
+    let host = choose(
+        config,
+        request.server,
+        request.port,
+        request.host.as_bytes(),
+    );
+    host_told(config, world, log, host)
+}
+
+#[tactic(auto, unfolding(crate::specs::Request::host_told), using(hc_steps::proofs::Going::telling))]
+fn host_told(config: &Config, world: &World, log: &mut Log, host: HostId) -> Result<HostId, Stop>
+    requires { IsHostOf config.now host }
+    ensures step { Ran result log.old log.new (run (host_told config.now host) (shown_by world.now.files)) }
+    ensures host { IfOk result (IsHostOf config.now) }
+{
     log.say(Event::Host {
-        place: server_at(config, HostId::Main).place.clone()?,
+        place: server_at(config, host).place.clone()?,
     })?;
-    Ok(HostId::Main)
+    Ok(host)
 }
 
 // The first pass, or what a target that gives none ends with.

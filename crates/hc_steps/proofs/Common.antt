@@ -1,9 +1,10 @@
 -- The names that the proofs of this crate cite, passed on from one place. Declares nothing.
 pub use Rattle.std.proofs.Common.{◌≡◌, ℕ, ◌+◌, ◌<◌, ◌≤◌, length, drop, get_or, subst, List, [], ◌∷◌, ◌++◌, refl, sym, ap, ◌∙◌, Result, Ok, Err, nat_lt, Bool, true, false, take, cond, Option, Some, None, arith, append_assoc, append-nil, length-append, zero, suc, if◌then◌else◌, Contains, slice_index_or, ◌⊎◌, inl, inr, rules, of_calls}
-pub use Rattle.std.specs.List.{fold, insert}
+pub use Rattle.std.specs.BTreeSet.{insert_key}
+pub use Rattle.std.specs.List.{fold}
 pub use Rattle.hc_model.specs.declared.event.Event.{Event}
 pub use Rattle.hc_model.specs.declared.read.Read.{Read}
-pub use Rattle.hc_steps.specs.Reads.{is_before, each_once, path_of, rank_of, read_cmp}
-pub use Rattle.hc_steps.specs.Rising.{put_new, is_first, is_new, place_of, put, Rises}
+pub use Rattle.hc_model.specs.Reads.{path_of, rank_of, read_cmp}
+pub use Rattle.hc_steps.specs.Order.{each_once}
 pub use Rattle.hc_steps.specs.Run.{Run, on_way, Way, goes_on, is_over, behind, looking, run_then, saying}
 unfoldable pub use Rattle.hc_steps.specs.Run.{run}

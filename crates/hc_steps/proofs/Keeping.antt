@@ -1,5 +1,5 @@
 -- What a log keeps of the events that it is told.
-use Rattle.hc_steps.proofs.Common.{◌≡◌, ℕ, ◌+◌, ◌≤◌, nat_lt, Bool, true, false, List, [], ◌∷◌, ◌++◌, length, take, cond, Option, Some, None, refl, sym, ap, ◌∙◌, arith, append_assoc, append-nil, length-append, fold, Event, Read, is_before, put_new, Run}
+use Rattle.hc_steps.proofs.Common.{◌≡◌, ℕ, ◌+◌, ◌≤◌, nat_lt, Bool, true, false, List, [], ◌∷◌, ◌++◌, length, take, cond, Option, Some, None, refl, sym, ap, ◌∙◌, arith, append_assoc, append-nil, length-append, fold, insert_key, Event, Read, read_cmp, Run}
 use mathlib.Core.Logic.{⊎_elim}
 use Rattle.std.proofs.lemmas.Bool.{cases_lt, le-ltb, lt-ltb}
 use Rattle.std.proofs.lemmas.List.{take_all, take-append-le}
@@ -42,7 +42,7 @@ kept_stays : (log : Logged) (reads : List Read) → (with_reads log reads).kept 
 kept_stays log [] = refl
 kept_stays log (r ∷ rs) = kept_stays (with_read log r) rs
 
-reads_added : (log : Logged) (reads : List Read) → (with_reads log reads).reads ≡ fold (λ sorted x. put_new is_before x sorted) log.reads reads
+reads_added : (log : Logged) (reads : List Read) → (with_reads log reads).reads ≡ fold (insert_key read_cmp) log.reads reads
 reads_added log [] = refl
 reads_added log (r ∷ rs) = reads_added (with_read log r) rs
 
@@ -54,5 +54,5 @@ pub run_is_kept : {E A : Type 0} (cap : Option ℕ) (r : Run E A) → Keeps cap 
 run_is_kept cap r = let log = with_events (empty_log cap) r.events in record {
   kept = kept_stays log r.reads ∙ kept_all cap r.events;
   count = count_stays log r.reads ∙ counts (empty_log cap) r.events ∙ omega arith;
-  reads = reads_added log r.reads ∙ ap (λ reads. fold (λ sorted x. put_new is_before x sorted) reads r.reads) (reads_stay (empty_log cap) r.events);
+  reads = reads_added log r.reads ∙ ap (λ reads. fold (insert_key read_cmp) reads r.reads) (reads_stay (empty_log cap) r.events);
 }

@@ -7,5 +7,4 @@ pub mod Common
 pub mod Going
 pub mod Keeping
 pub mod Kept
-pub mod Rising
 pub mod Running

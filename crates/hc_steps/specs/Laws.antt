@@ -3,7 +3,7 @@ use Rattle.std.specs.Prelude.{◌≡◌, ℕ, List, [], length, Contains, Option
 use Rattle.hc_model.specs.declared.event.Event.{Event}
 use Rattle.hc_model.specs.declared.read.Read.{Read}
 use Rattle.hc_steps.specs.Ran.{Logged, first_of, grown}
-use Rattle.hc_steps.specs.Reads.{each_once}
+use Rattle.hc_steps.specs.Order.{each_once}
 use Rattle.hc_steps.specs.Run.{Run, run, run_then}
 use Rattle.hc_steps.specs.Step.{Shown, Step, ◌>>=◌}
 

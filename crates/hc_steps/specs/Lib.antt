@@ -1,7 +1,6 @@
 pub mod Laws
+pub mod Order
 pub mod Ran
-pub mod Reads
-pub mod Rising
 pub mod Run
 pub mod Shown
 pub mod Step

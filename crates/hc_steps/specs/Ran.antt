@@ -4,9 +4,9 @@ use Rattle.std.specs.List.{fold}
 use Rattle.hc_base.specs.declared.fault.Fault.{Fault}
 use Rattle.hc_base.specs.declared.fault.Fault.TheVariants.{NoMemory, Refused}
 use Rattle.hc_model.specs.declared.event.Event.{Event}
+use Rattle.std.specs.BTreeSet.{insert_key}
+use Rattle.hc_model.specs.Reads.{read_cmp}
 use Rattle.hc_model.specs.declared.read.Read.{Read}
-use Rattle.hc_steps.specs.Reads.{is_before}
-use Rattle.hc_steps.specs.Rising.{put_new}
 use Rattle.hc_steps.specs.Run.{Run, goes_on, is_over}
 
 -- What was told so far: at most how many events are kept, those that are, how many there were, and
@@ -35,7 +35,7 @@ with_events log events = fold with_event log events
 
 -- A read that is there already adds nothing.
 abbrev pub with_read : Logged → Read → Logged
-with_read log read = record log { reads = put_new is_before read log.reads }
+with_read log read = record log { reads = insert_key read_cmp log.reads read }
 
 abbrev pub with_reads : Logged → List Read → Logged
 with_reads log reads = fold with_read log reads

@@ -4,6 +4,7 @@
 
 pub mod laws;
 mod log;
-mod reads;
+mod order;
 
 pub use log::{Log, Told};
+pub use order::listed;

@@ -4,10 +4,11 @@ ghost use Rattle.hc_steps.specs.Laws.{empty_log};
 ghost use Rattle.hc_steps.specs.Ran.{has_room, with_event, with_read};
 ghost use Rattle.hc_steps.specs.Told.{told_of};
 
-use crate::reads::put_new;
+use crate::order::listed;
 use hc_base::{List, NoMemory};
 use hc_model::{Event, Read};
 use std::alloc::Global;
+use std::collections::BTreeSet;
 use std::marker::Model;
 
 /// What was told so far: the first events, or all; how many there were; and each look once, in byte
@@ -17,19 +18,15 @@ pub struct Log {
     cap: Option<usize>,
     kept: List<Event>,
     count: u64,
-    reads: List<Read>,
+    reads: BTreeSet<Read>,
 }
 
 impl Model for Log {
     ghost use Rattle.hc_steps.specs.Ran.{Logged};
-    ghost use Rattle.hc_steps.specs.Reads.{is_before};
-    ghost use Rattle.hc_steps.specs.Rising.{Rises};
 
     ghost Value = { Logged };
 
-    ghost view = { λ l. record { cap = l.cap; kept = l.kept; count = l.count; reads = l.reads } };
-
-    ghost invariant = { λ l. Rises is_before l.reads };
+    ghost view = { λ l. record { cap = l.cap; kept = l.kept; count = l.count; reads = l.reads.keys } };
 }
 
 /// What a log has in the end.
@@ -50,7 +47,7 @@ impl Log {
             cap,
             kept: List::new(alloc),
             count: 0,
-            reads: List::new(alloc),
+            reads: BTreeSet::new(alloc),
         }
     }
 
@@ -98,16 +95,18 @@ impl Log {
     pub fn look(&mut self, read: Read) -> Result<(), NoMemory>
         ensures { OnOk result (self.new ≡ with_read self.old read) }
     {
-        put_new(&mut self.reads, read)
+        self.reads.insert(read)?;
+        Ok(())
     }
 
-    pub fn into_told(self) -> Told
-        ensures { result ≡ told_of self }
+    pub fn into_told(self) -> Result<Told, NoMemory>
+        ensures { IfOk result (λ told. told ≡ told_of self) }
     {
-        Told {
+        let alloc = self.allocator();
+        Ok(Told {
             events: self.kept,
             count: self.count,
-            reads: self.reads,
-        }
+            reads: listed(alloc, self.reads)?,
+        })
     }
 }

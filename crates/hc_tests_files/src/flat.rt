@@ -18,13 +18,13 @@ const MAIN: &str = "/m";
 // A main file, other files, and the wanted flat list: each entry as its line, `.` for a directive, `<`
 // for an opening and `>` for a close, and its text, before that its file where it is another one, behind
 // it the places of the openings around it; then the refusal; then what was looked at.
-type Row = (
+type Case = (
     &'static str,
     &'static [(&'static str, &'static str)],
     &'static str,
 );
 
-static ROWS: &[Row] = &[
+static CASES: &[Case] = &[
     // closes, and the openings around an entry
     (
         "User a\n<Files x>\n# c\nFoo \\\n b\n </FILES>\nBar\n",
@@ -142,10 +142,11 @@ fn world_of(alloc: Global, main: &str, files: &[(&str, &str)]) -> Result<World, 
     Ok(world)
 }
 
+// A copy is shown, which is to be the list that was copied.
 fn show_files(alloc: Global, main: &str, files: &[(&str, &str)]) -> Result<String, WorldFault> {
     let world = world_of(alloc, main, files)?;
     let flat = flat_counted::<Brand>(Blank::new(1), alloc, &world)?;
-    Ok(show(alloc, &flat)?)
+    Ok(show(alloc, &flat.clone()?)?)
 }
 
 fn show(alloc: Global, flat: &Flat) -> Result<String, NoMemory> {
@@ -220,7 +221,7 @@ fn lent(text: &Text) -> &str {
 
 #[test]
 fn files_are_flat_lists(rt: HostRuntime) -> Result<(), WorldFault> {
-    for &(main, files, wanted) in ROWS {
+    for &(main, files, wanted) in CASES {
         let shown = show_files(rt.alloc(), main, files)?;
         assert!(rt; shown.as_str() == wanted, "{main}");
     }

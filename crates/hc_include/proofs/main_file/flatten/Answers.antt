@@ -2,29 +2,29 @@ use Rattle.hc_include.proofs.Common.{Some, None, arith, ap, ◌∙◌, bytes_of,
 use Rattle.hc_include.proofs.Whole.{flat_on, flat_stopped}
 use Rattle.hc_include.proofs.main_file.flatten.Goals as goal
 
-pub returns-in-Ok-clause-flat : goal.returns-in-Ok-clause-flat
+pub returns-in_ok-flat_at-in-Ok-clause-flat : goal.returns-in_ok-flat_at-in-Ok-clause-flat
 unfolding flat_of
-returns-in-Ok-clause-flat g c =
-    c.flat_at.ensures ∙ ap (λ main. flat_at main c.into_told.result.reads None c.in-Ok.reading) c.in_ok-main.ensures
-    ∙ (flat_on c.args.main.now _ _ _ (ap (λ told. told.reads) c.into_told.ensures) c.in-Ok.reading (rw (c.in_ok-main.ensures, c.new-log.ensures) at c.in-Ok.ensures.read)).0
+returns-in_ok-flat_at-in-Ok-clause-flat g c =
+    c.in_ok-flat_at-in-Ok.ensures ∙ ap (λ main. flat_at main c.read_main.new.log.reads None c.in-Ok.reading) c.in_ok-main.ensures
+    ∙ (flat_on c.args.main.now _ _ c.in-Ok.reading (rw (c.in_ok-main.ensures, c.new-log.ensures) at c.in-Ok.ensures.read)).0
 
-pub returns-in-Ok-clause-bytes : goal.returns-in-Ok-clause-bytes
+pub returns-in_ok-flat_at-in-Ok-clause-bytes : goal.returns-in_ok-flat_at-in-Ok-clause-bytes
 unfolding bytes_of
-returns-in-Ok-clause-bytes g c =
-    let read = (flat_on c.args.main.now _ _ _ (ap (λ told. told.reads) c.into_told.ensures) c.in-Ok.reading (rw (c.in_ok-main.ensures, c.new-log.ensures) at c.in-Ok.ensures.read)).1 in
+returns-in_ok-flat_at-in-Ok-clause-bytes g c =
+    let read = (flat_on c.args.main.now _ _ c.in-Ok.reading (rw (c.in_ok-main.ensures, c.new-log.ensures) at c.in-Ok.ensures.read)).1 in
     omega (arith, read, c.in-Ok.ensures.bytes.same)
 
-pub returns-in-Err-Refused-clause-flat : goal.returns-in-Err-Refused-clause-flat
+pub returns-in_ok-flat_at-in-Err-Refused-clause-flat : goal.returns-in_ok-flat_at-in-Err-Refused-clause-flat
 unfolding flat_of
-returns-in-Err-Refused-clause-flat g c =
-    c.flat_at-in-Err-Refused.ensures ∙ ap (λ main. flat_at main c.into_told-reads.result.reads (Some c.in-Err-Refused.stopped.refusal) c.in-Err-Refused.stopped.reading) c.in_ok-main.ensures
-    ∙ (flat_stopped c.args.main.now _ _ _ (ap (λ told. told.reads) c.into_told-reads.ensures) c.in-Err-Refused.stopped
+returns-in_ok-flat_at-in-Err-Refused-clause-flat g c =
+    c.in_ok-flat_at-in-Err-Refused.ensures ∙ ap (λ main. flat_at main c.read_main.new.log.reads (Some c.in-Err-Refused.stopped.refusal) c.in-Err-Refused.stopped.reading) c.in_ok-main.ensures
+    ∙ (flat_stopped c.args.main.now _ _ c.in-Err-Refused.stopped
     (rw (c.in_ok-main.ensures, c.new-log.ensures, c.in-Err-Refused.field-0-is) at c.in-Err-Refused.ensures.read)).0
 
-pub returns-in-Err-Refused-clause-bytes : goal.returns-in-Err-Refused-clause-bytes
+pub returns-in_ok-flat_at-in-Err-Refused-clause-bytes : goal.returns-in_ok-flat_at-in-Err-Refused-clause-bytes
 unfolding bytes_of
-returns-in-Err-Refused-clause-bytes g c =
-    let read = (flat_stopped c.args.main.now _ _ _ (ap (λ told. told.reads) c.into_told-reads.ensures) c.in-Err-Refused.stopped
+returns-in_ok-flat_at-in-Err-Refused-clause-bytes g c =
+    let read = (flat_stopped c.args.main.now _ _ c.in-Err-Refused.stopped
     (rw (c.in_ok-main.ensures, c.new-log.ensures, c.in-Err-Refused.field-0-is) at c.in-Err-Refused.ensures.read)).1 in
     let rose = rw c.in-Err-Refused.field-0-is at c.in-Err-Refused.ensures.bytes in
     omega (arith, read, rose.same)

@@ -1,10 +1,11 @@
-use Rattle.hc_include.proofs.Common.{◌≡◌, drop, comes_first}
+use Rattle.hc_include.proofs.Common.{◌≡◌, drop}
+use Rattle.std.specs.BTreeSet.{insert_key}
+use Rattle.std.specs.Cmp.Lexicographic.{slice_cmp}
 use Rattle.std.specs.List.{fold}
-use Rattle.hc_steps.specs.Rising.{Rises, ordered, put_new}
+use Rattle.std.specs.Ordering.{nat_cmp}
+use Rattle.hc_include.specs.Include.{in_byte_order}
 use Rattle.hc_include.proofs.order.in_byte_order.Given as goal
 
 -- what is in order, over what is left, is all in order
 abbrev pub invariant-loop-path : goal.invariant-loop-path
-invariant-loop-path l =
-    Rises comes_first l.sorted
-    × (ordered comes_first l.paths ≡ fold (λ sorted x. put_new comes_first x sorted) l.sorted (drop l.path-index l.paths))
+invariant-loop-path l = in_byte_order l.paths ≡ fold (insert_key (slice_cmp nat_cmp)) l.sorted.keys (drop l.path-index l.paths)

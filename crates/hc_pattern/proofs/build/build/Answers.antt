@@ -1,7 +1,7 @@
 use Rattle.hc_pattern.proofs.Common.{◌∷◌, [], ◌∙◌, ap, sym, map, map-append, levels_known}
 use Rattle.hc_pattern.specs.BuildViews.{levels_view}
 use Rattle.hc_pattern.specs.TokenViews.{placed_view}
-use Rattle.hc_pattern.proofs.BuildLemmas.{built, last_token, none_left}
+use Rattle.hc_pattern.proofs.BuildLemmas.{tree_is_known, last_token, none_left}
 use Rattle.hc_pattern.proofs.build.build.Goals as goal
 
 pub tokens-preserved : goal.tokens-preserved
@@ -14,4 +14,4 @@ tokens-preserved c =
 pub returns : goal.returns
 returns c =
     c.in_ok-whole.ensures
-    ∙ built (map placed_view c.args.tokens.now) (levels_view c.tokens.levels) (sym (none_left c.tokens.rest.now (levels_view c.tokens.levels) c.in_default.ensures.cases) ∙ c.tokens.invariant)
+    ∙ tree_is_known (map placed_view c.args.tokens.now) (levels_view c.tokens.levels) (sym (none_left c.tokens.rest.now (levels_view c.tokens.levels) c.in_default.ensures.cases) ∙ c.tokens.invariant)

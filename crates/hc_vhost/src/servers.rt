@@ -1,5 +1,5 @@
 ghost use Rattle.std.specs.Prelude.{◌≡◌};
-ghost use Rattle.hc_alias.specs.Servers.{server_at};
+ghost use Rattle.hc_vhost.specs.Servers.{server_at};
 
 use hc_model::{Config, HostId, Server};
 

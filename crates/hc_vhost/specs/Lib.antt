@@ -1,0 +1,4 @@
+pub mod Names
+pub mod NamesView
+pub mod Servers
+pub mod Choice
