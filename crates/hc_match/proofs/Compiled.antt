@@ -263,33 +263,34 @@ any_is text greedy pattern next moves =
     ∙ ap (λ ways. turn_or_next greedy ways next) (behind-behind (moving body) turns next ∙ ap (λ ways. behind ways (behind turns next)) moves)
 
 -- So many turns that have to be, before more of them.
-pub ok_turns : {E : Type 0} (result : Result ℕ E) (old mid new : List Step) (body more : List ℕ → Ways Kept) (least next between : ℕ)
-    → ((text : List ℕ) → Compiles text old mid (more text) next between) → IfOk result (λ place. (text : List ℕ) → Compiles text mid new (turns_then (body text) least stop) between place)
-    → IfOk result (λ place. (text : List ℕ) → Compiles text old new (turns_then (body text) least (more text)) next place)
-ok_turns result old mid new body more least next between later now =
+pub ok_turns : {E : Type 0} (result : Result ℕ E) (old mid new : List Step) (body more ways : List ℕ → Ways Kept) (least next between : ℕ)
+    → ((text : List ℕ) → turns_then (body text) least (more text) ≡ ways text) → ((text : List ℕ) → Compiles text old mid (more text) next between) → IfOk result (λ place. (text : List ℕ) → Compiles text mid new (turns_then (body text) least stop) between place)
+    → IfOk result (λ place. (text : List ℕ) → Compiles text old new (ways text) next place)
+ok_turns result old mid new body more ways least next between same later now =
     IfOk-weaker result (λ place. (text : List ℕ) → Compiles text mid new (turns_then (body text) least stop) between place)
-    (λ place. (text : List ℕ) → Compiles text old new (turns_then (body text) least (more text)) next place)
+    (λ place. (text : List ℕ) → Compiles text old new (ways text) next place)
     (λ place is text.
-    rw (← then_behind (body text) least (more text))
+    rw (← (then_behind (body text) least (more text) ∙ same text))
     (compiled_behind text old mid new (turns_then (body text) least stop) (more text) next between place (later text) (is text))) now
 
 -- The head of a loop is kept free, and then set to its step.
-pub compiled_any : (text : List ℕ) (old mid : List Step) (pattern : Pattern) (greedy : Bool) (next turn : ℕ) → next < length old → moving (kept_ways text pattern) ≡ kept_ways text pattern
-    → Compiles text (old ++ Done ∷ []) mid (kept_ways text pattern) (length old) turn
-    → Compiles text old (slice_set mid (length old) (turn_step greedy turn next)) (any_turns greedy (kept_ways text pattern) (length text)) next (length old)
-compiled_any text old mid pattern greedy next turn within moves body =
+compiled_loop : (text : List ℕ) (old mid : List Step) (pattern : Pattern) (greedy : Bool) (next turn : ℕ) → next < length old → moving (kept_ways text pattern) ≡ kept_ways text pattern
+    → Compiles text (old ++ Done ∷ []) mid (kept_ways text pattern) (length old) turn → (place : ℕ) (ways : Ways Kept) → place < length mid
+    → ((meaning : Meaning) → meaning (length old) ≡ behind (any_turns greedy (kept_ways text pattern) (length text)) (meaning next)
+    → meaning turn ≡ behind (kept_ways text pattern) (meaning (length old)) → meaning place ≡ behind ways (meaning next))
+    → Compiles text old (slice_set mid (length old) (turn_step greedy turn next)) ways next place
+compiled_loop text old mid pattern greedy next turn within moves body place ways there is =
     let head = length old in
     let step = turn_step greedy turn next in
     let new = slice_set mid head step in
-    let ways = any_turns greedy (kept_ways text pattern) (length text) in
     let room : head < length mid = omega (arith, body.longer, length-append old (Done ∷ [])) in
     let size : length new ≡ length mid = length-set mid head step in
     let free : head < length (old ++ Done ∷ []) = omega (arith, length-append old (Done ∷ [])) in
     record {
-      within = omega (arith, room, size);
+      within = omega (arith, there, size);
       longer = omega (arith, room, size);
       reads = λ before.
-          let all = behind ways (before next) in
+          let all = behind (any_turns greedy (kept_ways text pattern) (length text)) (before next) in
           let a = placed head all before in
           let b = body.reads a in
           let old_kept : (place : ℕ) → place < head → b.after place ≡ before place =
@@ -316,9 +317,31 @@ compiled_any text old mid pattern greedy next turn within moves body =
                         (rw size (b.extends.added place (omega (arith, past, other, length-append old (Done ∷ [])))))
                   ];
             };
-            is = here;
+            is =
+                let same = old_kept next within in
+                is b.after (here ∙ ap (behind (any_turns greedy (kept_ways text pattern) (length text))) (sym same))
+                (b.is ∙ ap (behind (kept_ways text pattern)) (placed_there head all before ∙ sym here)) ∙ ap (behind ways) same;
           };
     }
+
+-- No turn has to be.
+pub compiled_any : (text : List ℕ) (old mid : List Step) (pattern : Pattern) (greedy : Bool) (next turn : ℕ) → next < length old → moving (kept_ways text pattern) ≡ kept_ways text pattern
+    → Compiles text (old ++ Done ∷ []) mid (kept_ways text pattern) (length old) turn
+    → Compiles text old (slice_set mid (length old) (turn_step greedy turn next)) (any_turns greedy (kept_ways text pattern) (length text)) next (length old)
+compiled_any text old mid pattern greedy next turn within moves body =
+    compiled_loop text old mid pattern greedy next turn within moves body (length old) _ (omega (arith, body.longer, length-append old (Done ∷ []))) (λ meaning head turn. head)
+
+-- The last of the turns that have to be is the one that the others lead back to.
+pub compiled_one : (text : List ℕ) (old mid : List Step) (pattern : Pattern) (greedy : Bool) (next turn : ℕ) → next < length old → moving (kept_ways text pattern) ≡ kept_ways text pattern
+    → Compiles text (old ++ Done ∷ []) mid (kept_ways text pattern) (length old) turn
+    → Compiles text old (slice_set mid (length old) (turn_step greedy turn next)) (behind (kept_ways text pattern) (any_turns greedy (kept_ways text pattern) (length text))) next turn
+compiled_one text old mid pattern greedy next turn within moves body =
+    compiled_loop text old mid pattern greedy next turn within moves body turn _ body.within
+    (λ meaning head is. is ∙ ap (behind (kept_ways text pattern)) head ∙ sym (behind-behind (kept_ways text pattern) _ (meaning next)))
+
+pub turns_before : (body : Ways Kept) (least : ℕ) (more : Ways Kept) → turns_then body least (behind body more) ≡ behind body (turns_then body least more)
+turns_before body zero more = refl
+turns_before body (suc least) more = ap (behind body) (turns_before body least more)
 
 -- ---- a whole program
 

@@ -1,7 +1,7 @@
 ghost use Rattle.std.specs.Prelude.{◌≡◌, ℕ, ◌++◌, ◌∷◌, ◌<◌, ◌≤◌, List, [], length};
-ghost use Rattle.std.specs.Prelude.{slice_get, IfOk, IsTrue};
+ghost use Rattle.std.specs.Prelude.{slice_get, IfOk, IsTrue, None};
 ghost use Rattle.hc_pattern.specs.Pattern.{pattern_of};
-ghost use Rattle.hc_ways.specs.Ways.{any_turns, repeated, stop, turns_then, turns_up_to};
+ghost use Rattle.hc_ways.specs.Ways.{repeated, stop, turns_then, turns_up_to};
 ghost use Rattle.hc_match.specs.Program.{Compiles, HasMeaning, kept_ways, takes_a_byte, turn_step};
 
 use hc_base::NoMemory;
@@ -122,10 +122,7 @@ impl Program {
             (repeated (length text) (kept_ways text (pattern_of body.now.value)) least most greedy) next place) }
     {
         match most {
-            None => {
-                let more = self.any_turns(body, greedy, next)?;
-                self.turns(body, least, more)
-            }
+            None => self.endless(body, least, greedy, next),
             Some(most) if most < least => self.emit(Step::Class {
                 set: ByteSet::empty(),
                 next,
@@ -178,16 +175,23 @@ impl Program {
         Ok(place)
     }
 
-    // Any number of turns, each of which takes a byte. The place that they begin and go on at is
-    // kept free until the turn is there.
+    // So many turns or more, each of which takes a byte. The place that any number of them begins
+    // at is kept free until a turn is there, which leads back to it. The turns that have to be end
+    // with that one.
     #[cycle(compile)]
-    fn any_turns(&mut self, body: &Box<Pat>, greedy: bool, next: u32) -> Result<u32, NoMemory>
+    fn endless(
+        &mut self,
+        body: &Box<Pat>,
+        least: u16,
+        greedy: bool,
+        next: u32,
+    ) -> Result<u32, NoMemory>
         requires { next < length self.old.steps.items }
         ensures within { IfOk result (λ place. place < length self.new.steps.items) }
         ensures longer { IfOk result (λ place. length self.old.steps.items ≤ length self.new.steps.items) }
         ensures ways { IfOk result (λ place. (text : List ℕ)
             → Compiles text self.old.steps.items self.new.steps.items
-            (any_turns greedy (kept_ways text (pattern_of body.now.value)) (length text)) next place) }
+            (repeated (length text) (kept_ways text (pattern_of body.now.value)) least None greedy) next place) }
     {
         if !takes_a_byte(body) {
             return Err(NoMemory);
@@ -195,7 +199,10 @@ impl Program {
         let head = self.emit(Step::Done)?;
         let turn = self.compile(body, head)?;
         self.steps[head as usize] = turn_or_next(greedy, turn, next);
-        Ok(head)
+        if least == 0 {
+            return Ok(head);
+        }
+        self.turns(body, least - 1, turn)
     }
 }
 

@@ -1,6 +1,6 @@
-use Rattle.hc_match.proofs.Common.{◌≡◌, suc, ◌+◌, unwrap_or, ◌∷◌, ◌-◌, ◌≤◌, ◌∙◌, [], length, nat_eq, refl, sym, ap, lt-ltb, le-ltb, arith, length-append, has_byte, pattern_of, any_turns, behind, either, grouped, none, step_where, stop, stop_where, turns_then, turns_up_to, keeping_held, kept_ways, takes_a_byte, is_alt, is_byte, is_cat, is_class, is_empty, is_finish, is_group, is_repeat, is_start}
+use Rattle.hc_match.proofs.Common.{◌≡◌, ℕ, List, Ways, Kept, suc, ◌+◌, unwrap_or, ◌∷◌, ◌-◌, ◌≤◌, ◌∙◌, [], length, nat_eq, refl, sym, ap, lt-ltb, le-ltb, arith, length-append, has_byte, pattern_of, any_turns, behind, either, grouped, none, step_where, stop, stop_where, turns_then, turns_up_to, keeping_held, kept_ways, takes_a_byte, is_alt, is_byte, is_cat, is_class, is_empty, is_finish, is_group, is_repeat, is_start}
 use Rattle.hc_match.proofs.Bytes.{moves}
-use Rattle.hc_match.proofs.Compiled.{compiled_any, compiled_as, compiled_behind, compiled_either, compiled_group, compiled_none, compiled_nothing, compiled_preferred, compiled_step, emitted, ok_behind, ok_turns}
+use Rattle.hc_match.proofs.Compiled.{compiled_any, compiled_as, compiled_behind, compiled_either, compiled_group, compiled_none, compiled_nothing, compiled_one, compiled_preferred, compiled_step, emitted, ok_behind, ok_turns, turns_before}
 use Rattle.hc_match.proofs.program.Program.+compile.Goals as goal
 
 pub compile-returns-in-Empty-clause-ways : goal.compile-returns-in-Empty-clause-ways
@@ -57,12 +57,8 @@ compile-returns-in_ok-body-in-Group-clause-ways t c =
 pub compile-returns-in-Repeat-clause-ways : goal.compile-returns-in-Repeat-clause-ways
 compile-returns-in-Repeat-clause-ways t c = rw (c.in-Repeat.is, is_repeat c.in-Repeat.body c.in-Repeat.least c.in-Repeat.most c.in-Repeat.greedy) c.repeat.ensures.ways
 
-pub repeat-returns-in_ok-more-in-None-clause-ways : goal.repeat-returns-in_ok-more-in-None-clause-ways
-repeat-returns-in_ok-more-in-None-clause-ways t c =
-    rw c.in-None.is
-    (ok_turns _ c.args.self.now.steps.items c.any_turns.new.self.steps.items c.turns.new.self.steps.items (λ text. kept_ways text (pattern_of c.args.body.now.value))
-    (λ text. any_turns c.args.greedy (kept_ways text (pattern_of c.args.body.now.value)) (length text)) c.args.least c.args.next c.in_ok-more-in-None.more
-    c.in_ok-more-in-None.ensures.ways c.turns.ensures.ways)
+pub repeat-returns-in-None-clause-ways : goal.repeat-returns-in-None-clause-ways
+repeat-returns-in-None-clause-ways t c = rw c.in-None.is c.endless.ensures.ways
 
 pub repeat-returns-in-Some-clause-ways : goal.repeat-returns-in-Some-clause-ways
 repeat-returns-in-Some-clause-ways t c =
@@ -75,9 +71,9 @@ repeat-returns-in_ok-more-in-Some-2-clause-ways t c =
     let same : c.in-Some-2.most ≡ c.in-Some.most = ap (λ most. unwrap_or most 0) (sym c.in-Some-2.is ∙ c.in-Some.is) in
     let fits : c.args.least ≤ c.in-Some-2.most = omega (arith, same, c.if-most-least.false) in
     rw (c.in-Some-2.is, le-ltb c.in-Some-2.most c.args.least fits)
-    (ok_turns _ c.args.self.now.steps.items c.turns_up_to.new.self.steps.items c.turns-in-Some-2.new.self.steps.items (λ text. kept_ways text (pattern_of c.args.body.now.value))
-    (λ text. turns_up_to c.args.greedy (kept_ways text (pattern_of c.args.body.now.value)) (c.in-Some-2.most - c.args.least)) c.args.least c.args.next c.in_ok-more-in-Some-2.more
-    c.in_ok-more-in-Some-2.ensures.ways c.turns-in-Some-2.ensures.ways)
+    (ok_turns _ c.args.self.now.steps.items c.turns_up_to.new.self.steps.items c.turns.new.self.steps.items (λ text. kept_ways text (pattern_of c.args.body.now.value))
+    (λ text. turns_up_to c.args.greedy (kept_ways text (pattern_of c.args.body.now.value)) (c.in-Some-2.most - c.args.least)) _ c.args.least c.args.next c.in_ok-more-in-Some-2.more
+    (λ text. refl) c.in_ok-more-in-Some-2.ensures.ways c.turns.ensures.ways)
 
 pub turns-loop-init : goal.turns-loop-init
 turns-loop-init t c = (c.requires, omega arith, λ text. compiled_none text c.args.self.now.steps.items c.args.next c.requires)
@@ -127,11 +123,26 @@ turns_up_to-returns-clause-ways t c text =
     let all : c.loop.counter ≡ c.args.most = omega (arith, c.loop-test.false, c.loop.auto.counter-end) in
     rw (← all) (c.loop.invariant.2 text)
 
-pub any_turns-returns-clause-ways : goal.any_turns-returns-clause-ways
-any_turns-returns-clause-ways t c text =
+pub endless-returns-then-least-eq0-clause-ways : goal.endless-returns-then-least-eq0-clause-ways
+endless-returns-then-least-eq0-clause-ways t c text =
     let pattern = pattern_of c.deref-2.result.now in
     let head = c.in_ok-head.ensures in
-    rw (c.turn_or_next.ensures, head.0, ← c.deref-2.ensures)
+    rw (c.turn_or_next.ensures, head.0, ← c.deref-2.ensures, c.if-least-eq0.true)
     (compiled_any text c.args.self.now.steps.items c.compile.new.self.steps.items pattern c.args.greedy c.args.next c.in_ok-turn.turn c.requires
     (moves keeping_held text pattern (ap (λ pat. takes_a_byte (pattern_of pat)) (c.deref-2.ensures ∙ sym c.deref.ensures) ∙ sym c.takes_a_byte.ensures ∙ c.if-not-takes_a_byte.false))
     (rw (← head.0, ← head.1) (c.in_ok-turn.ensures.ways text)))
+
+pub endless-returns-clause-ways : goal.endless-returns-clause-ways
+endless-returns-clause-ways t c =
+    let pattern = pattern_of c.deref-2.result.now in
+    let head = c.in_ok-head.ensures in
+    let more : suc (c.args.least - 1) ≡ c.args.least = omega (arith, c.if-least-eq0.false) in
+    let body : List ℕ → Ways Kept = λ text. kept_ways text (pattern_of c.args.body.now.value) in
+    let turns : List ℕ → Ways Kept = λ text. any_turns c.args.greedy (body text) (length text) in
+    ok_turns _ c.args.self.now.steps.items _ c.turns.new.self.steps.items body (λ text. behind (body text) (turns text)) _ (c.args.least - 1) c.args.next c.in_ok-turn.turn
+    (λ text. turns_before (body text) (c.args.least - 1) (turns text) ∙ ap (λ least. turns_then (body text) least (turns text)) more)
+    (λ text. rw (c.turn_or_next.ensures, head.0, ← c.deref-2.ensures)
+    (compiled_one text c.args.self.now.steps.items c.compile.new.self.steps.items pattern c.args.greedy c.args.next c.in_ok-turn.turn c.requires
+    (moves keeping_held text pattern (ap (λ pat. takes_a_byte (pattern_of pat)) (c.deref-2.ensures ∙ sym c.deref.ensures) ∙ sym c.takes_a_byte.ensures ∙ c.if-not-takes_a_byte.false))
+    (rw (← head.0, ← head.1) (c.in_ok-turn.ensures.ways text))))
+    c.turns.ensures.ways
