@@ -38,6 +38,6 @@ pub use Rattle.hc_pattern.specs.Pattern.{Pattern, empty, byte, class, start, fin
 pub use Rattle.hc_pattern.specs.declared.set.ByteSet.{ByteSet}
 pub use Rattle.hc_ways.proofs.Lists.{Each-append, Each-filter, Each-flat_map, Each-map}
 pub use Rattle.hc_ways.proofs.Behind.{behind-behind, behind-preferred, behind-stop, turn_or_next, same_ways}
-pub use Rattle.hc_ways.proofs.Turns.{Below, Bounded, any_turns_is, bounded, enough_turns}
+pub use Rattle.hc_ways.proofs.Turns.{Below, Bounded, any_turns_is, bounded, bounded_behind, bounded_either, bounded_if, bounded_repeated, bounded_stop, enough_turns}
 pub use Rattle.hc_ways.specs.Kept.{Turns, with_turn, all_ways, Held, first_match, first_of, held_after, held_by, last_of_turns, match_among, match_at, nothing_held, with_group}
 pub use Rattle.hc_ways.specs.Ways.{Ways, none, stop, behind, either, meets, closed, preferred, moving, any_turns, turns_up_to, turns_then, repeated, Way, grouped, stop_where, step_where}
