@@ -16,7 +16,7 @@ pub use Rattle.hc_dfa.specs.declared.machine.ReadingStep.{ReadingStep}
 pub use Rattle.hc_dfa.specs.declared.machine.SilentStep.{SilentStep}
 pub use Rattle.hc_pat_lang.specs.Added.{IsMore, AddsReading, AddsSilent, AddsFinals, AddsStarts, IsRow, IsExit, IsFinal, LeadsOn}
 pub use Rattle.hc_pat_lang.specs.Found.{MayHold, IsGroupText, IsFound}
-pub use Rattle.hc_pat_lang.specs.Fragments.{Exists, point_at, Serves, KnowsEnds, KeepsEnd, KeepsEnds, IsBelow, IsReady, IsFragment, LeadsTo, KnowsEnd, TakesRest, AreTurns}
+pub use Rattle.hc_pat_lang.specs.Fragments.{Exists, point_at, Serves, KnowsEnds, KeepsEnd, KeepsEnds, IsBelow, IsReady, IsFragment, IsLooped, LeadsTo, KnowsEnd, TakesRest, AreTurns}
 pub use Rattle.hc_pat_lang.specs.Gates.{alone_gate, nowhere, nowhere_gate, finish_point, finish_gate, IsStep, IsFork, IsJoin, anything}
 pub use Rattle.hc_pat_lang.specs.Led.{ends_at, HaveCommon, LedToBelow, OnwardsBelow, LeadsOnwards, IsLedTo}
 pub use Rattle.hc_pat_lang.specs.Matching.{IsFull, LooksFor, first_nodes, IsRunOf, IsClassBelow, IsClass, IsByteBelow, IsForkBelow, EndBelow, ReadsNode}
@@ -38,6 +38,6 @@ pub use Rattle.hc_pattern.specs.Pattern.{Pattern, empty, byte, class, start, fin
 pub use Rattle.hc_pattern.specs.declared.set.ByteSet.{ByteSet}
 pub use Rattle.hc_ways.proofs.Lists.{Each-append, Each-filter, Each-flat_map, Each-map}
 pub use Rattle.hc_ways.proofs.Behind.{behind-behind, behind-preferred, behind-stop, turn_or_next, same_ways}
-pub use Rattle.hc_ways.proofs.Turns.{Below, Bounded, any_turns_is, bounded, enough_turns}
+pub use Rattle.hc_ways.proofs.Turns.{Below, Bounded, any_turns_is, bounded, bounded_behind, bounded_either, bounded_if, bounded_repeated, bounded_stop, enough_turns}
 pub use Rattle.hc_ways.specs.Kept.{Turns, with_turn, all_ways, Held, first_match, first_of, held_after, held_by, last_of_turns, match_among, match_at, nothing_held, with_group}
 pub use Rattle.hc_ways.specs.Ways.{Ways, none, stop, behind, either, meets, closed, preferred, moving, any_turns, turns_up_to, turns_then, repeated, Way, grouped, stop_where, step_where}

@@ -1,11 +1,11 @@
 -- Fragments of the machine of nodes, for each form of a pattern.
-use Rattle.hc_pat_lang.proofs.Common.{◌≡◌, ◌≢◌, ℕ, zero, suc, ◌+◌, ◌<◌, ◌≤◌, ◌⊎◌, ◌-◌, Bool, false, List, [], ◌∷◌, ◌++◌, length, nat_eq, Some, slice_get, slice_set, length-append, refl, sym, ◌∙◌, ap, inl, inr, arith, add-one, le-ltb, slice_get_within, Extends, has_byte, ByteSet, Ways, none, stop, behind, either, stop_where, grouped, moving, preferred, any_turns, turns_then, turns_up_to, repeated, Turns, with_turn, behind-behind, behind-stop, Bounded, Serves, KnowsEnds, KeepsEnd, KeepsEnds, IsBelow, IsReady, IsFragment, alone_gate, nowhere_gate, finish_gate, IsStep, IsFork, IsJoin, Gate, Point, Node, Dead, End, Fork, GroupPart, seen, step_by, step_node}
+use Rattle.hc_pat_lang.proofs.Common.{◌≡◌, ◌≢◌, ℕ, zero, suc, ◌+◌, ◌<◌, ◌≤◌, ◌⊎◌, ◌-◌, Bool, false, List, [], ◌∷◌, ◌++◌, length, nat_eq, Some, None, slice_get, slice_set, length-append, refl, sym, ◌∙◌, ap, inl, inr, arith, add-one, le-ltb, slice_get_within, Extends, has_byte, ByteSet, Ways, none, stop, behind, either, stop_where, grouped, moving, preferred, any_turns, turns_then, turns_up_to, repeated, Turns, with_turn, behind-behind, behind-stop, Bounded, Serves, KnowsEnds, KeepsEnd, KeepsEnds, IsBelow, IsReady, IsFragment, IsLooped, alone_gate, nowhere_gate, finish_gate, IsStep, IsFork, IsJoin, Gate, Point, Node, Dead, End, Fork, GroupPart, seen, step_by, step_node}
 use Rattle.std.proofs.Math.ListN.{length-set}
 use Rattle.hc_pat_lang.specs.Nodes.{Takes, LeadsBelow, AreNodes, AgreesFrom}
 use Rattle.hc_pat_lang.specs.Nodes.Takes.{by_first}
 use Rattle.hc_base.proofs.Shared.{get_last, get_set_other, get_set_same}
 use Rattle.hc_pat_lang.proofs.Parts.{get_left, get_cases}
-use Rattle.hc_pat_lang.proofs.Serving.{IsEither, AreEither, at_point, behind_turn, keeps_same, keeps_dead, keeps_finish, keeps_step, keeps_then, keeps_either, knows_nowhere, taken, serves_step, serves_none, serves_stop, serves_finish, serves_behind, serves_either, serves_preferred, serves_grouped, serves_moving, serves_any}
+use Rattle.hc_pat_lang.proofs.Serving.{IsEither, AreEither, at_point, behind_turn, keeps_same, keeps_dead, keeps_finish, keeps_step, keeps_then, keeps_either, knows_nowhere, taken, serves_step, serves_none, serves_stop, serves_finish, serves_behind, serves_either, serves_preferred, serves_grouped, serves_moving, serves_any, serves_turns, serves_widens}
 
 -- ---- nodes that are added
 
@@ -89,18 +89,18 @@ at_later : {ways : List ℕ → Ways Turns} {exits entries : Gate} {old new : Li
     → IsAt later ways exits entries
 at_later is later are agrees = record { ends = is.ends later are agrees; serves = is.serves later are agrees }
 
-ends_then : (later : List Node) (exits mid entries : Gate) → KeepsEnds later exits mid → KeepsEnds later mid entries → KeepsEnds later exits entries
-ends_then later exits mid entries back front =
-    record { first = keeps_then later _ _ _ back.first front.first; still = keeps_then later _ _ _ back.still front.still; moved = keeps_then later _ _ _ back.moved front.moved }
+ends_then : (later : List Node) (exits mid entries : Gate) → (KnowsEnds later exits → KnowsEnds later mid) → KeepsEnds later exits mid → KeepsEnds later mid entries → KeepsEnds later exits entries
+ends_then later exits mid entries middle back front =
+    record { first = keeps_then later _ _ _ back.first front.first; still = keeps_then later _ _ _ back.still front.still; moved = λ knows. keeps_then later _ _ _ (back.moved knows) (front.moved (middle knows)) }
 
 ends_same : (later : List Node) (gate : Gate) → KeepsEnds later gate gate
-ends_same later gate = record { first = keeps_same later _; still = keeps_same later _; moved = keeps_same later _ }
+ends_same later gate = record { first = keeps_same later _; still = keeps_same later _; moved = λ knows. keeps_same later _ }
 
 ends_either : (later : List Node) (exits one two entries : Gate) → KeepsEnds later exits one → KeepsEnds later exits two → AreEither later one two entries → KeepsEnds later exits entries
 ends_either later exits one two entries left right is = record {
   first = keeps_either later _ _ _ _ left.first right.first is.first;
   still = keeps_either later _ _ _ _ left.still right.still is.still;
-  moved = keeps_either later _ _ _ _ left.moved right.moved is.moved;
+  moved = λ knows. keeps_either later _ _ _ _ (left.moved knows) (right.moved knows) is.moved;
 }
 
 -- ---- parts without a node of their own
@@ -110,7 +110,7 @@ fragment_finish exits nodes ready =
     let some = two_nodes nodes ready.are in
     let below = ready.below in
     fragment (grows_none nodes ready.are) (grind arith) (λ later are agrees. record {
-      ends = record { first = keeps_finish later are _; still = keeps_finish later are _; moved = keeps_finish later are _ };
+      ends = record { first = keeps_finish later are _; still = keeps_finish later are _; moved = λ knows. keeps_finish later are _ };
       serves = λ knows text. serves_finish later text are exits knows;
     })
 
@@ -122,7 +122,7 @@ pub fragment_none : (exits : Gate) (nodes : List Node) → IsReady nodes exits �
 fragment_none exits nodes ready =
     let some = two_nodes nodes ready.are in
     fragment (grows_none nodes ready.are) (omega arith) (λ later are agrees. record {
-      ends = record { first = keeps_dead later are _; still = keeps_dead later are _; moved = keeps_dead later are _ };
+      ends = record { first = keeps_dead later are _; still = keeps_dead later are _; moved = λ knows. keeps_dead later are _ };
       serves = λ knows text. serves_none later text are exits;
     })
 
@@ -142,7 +142,7 @@ fragment_step part test set exits entries old new ready is same =
     let step = agrees (length old) _ (omega arith) more.last in
     let keeps = λ (exit : Point). keeps_step later part set exits.moved.state exit entry step refl in
     record {
-      ends = record { first = keeps exits.first; still = keeps exits.still; moved = keeps exits.moved };
+      ends = record { first = keeps exits.first; still = keeps exits.still; moved = λ knows. keeps exits.moved };
       serves = λ knows text. serves_step later text part set test exits entry same step (record { first = entry; still = entry; moved = entry })
           (λ moved at. at_point (λ (p : Gate → Point). p (record { first = entry; still = entry; moved = entry }) ≡ entry) moved at refl refl refl);
     }))
@@ -163,6 +163,14 @@ fragment_earlier ways exits entries base old new grows is =
 
 -- ---- one behind the other
 
+knows_middle : (later : List Node) (ways : List ℕ → Ways Turns) (exits middle : Gate) → IsAt later ways exits middle → KnowsEnds later exits → KnowsEnds later middle
+knows_middle later ways exits middle is knows = record {
+  first = is.ends.first.knows knows.first;
+  still = is.ends.still.knows knows.still;
+  moved = (is.ends.moved knows).knows knows.moved;
+  widens = λ text. serves_widens later text (ways (0 ∷ text)) exits middle knows.widens (is.serves knows (0 ∷ text));
+}
+
 pub fragment_behind : (first second : List ℕ → Ways Turns) (exits middle entries : Gate) (old mid new : List Node) → IsFragment second exits old mid middle → IsFragment first middle mid new entries
     → IsFragment (λ text. behind (first text) (second text)) exits old new entries
 fragment_behind first second exits middle entries old mid new two one =
@@ -170,10 +178,10 @@ fragment_behind first second exits middle entries old mid new two one =
     fragment (grows_on old mid new (fragment_grows _ _ _ old mid two) (fragment_grows _ _ _ mid new one)) one.ready.below (λ later are agrees.
     let back = at_later two later are (λ i node past at. agrees i node past (one.kept i node at)) in
     let front = at_later one later are (λ i node past at. agrees i node (omega arith) at) in
+    let known = knows_middle later _ exits middle back in
     record {
-      ends = ends_then later exits middle entries back.ends front.ends;
-      serves = λ knows text. serves_behind later text (first text) (second text) exits middle entries
-          (front.serves (record { first = back.ends.first.knows knows.first; still = back.ends.still.knows knows.still; moved = back.ends.moved.knows knows.moved }) text) (back.serves knows text);
+      ends = ends_then later exits middle entries known back.ends front.ends;
+      serves = λ knows text. serves_behind later text (first text) (second text) exits middle entries (front.serves (known knows) text) (back.serves knows text);
     })
 
 -- ---- one or the other
@@ -274,59 +282,78 @@ fragment_moving body exits turn old new is =
     let dead = keeps_dead later are in
     let nowhere_known = knows_nowhere later are in
     record {
-      ends = record { first = keeps_then later _ _ _ (dead _) e.first; still = keeps_then later _ _ _ (dead _) e.still; moved = keeps_then later _ _ _ (dead _) e.still };
-      serves = λ knows text. serves_moving later text are (body text) exits turn (is.serves later are agrees (record { first = nowhere_known; still = nowhere_known; moved = knows.moved }) text);
+      ends = record { first = keeps_then later _ _ _ (dead _) e.first; still = keeps_then later _ _ _ (dead _) e.still; moved = λ knows. keeps_then later _ _ _ (dead _) e.still };
+      serves = λ knows text. serves_moving later text are (body text) exits turn
+          (is.serves later are agrees (record { first = nowhere_known; still = nowhere_known; moved = knows.moved; widens = λ text path. absurd (taken later _ are.dead path) }) text);
     })
 
 -- ---- any number of turns
 
-pub fragment_any : (greedy : Bool) (body : List ℕ → Ways Turns) (exits turn : Gate) (again first still : Point) (old bare built set one new : List Node) → ((text : List ℕ) → Bounded (length text) (body text)) → IsReady old exits
+-- What the node takes at which a further turn may begin.
+module _ (later : List Node) (exits turn : Gate) (again : Point) (loop : slice_get later again.state ≡ Some (Fork exits.moved.state turn.still.state)) where
+  by_again : KeepsEnd later exits.still turn.still → KnowsEnds later exits → Takes later again.state [] → Takes later exits.moved.state []
+  by_again keeps knows path = elim (taken later _ loop path) [ inl own ↦ own | inr turned ↦ knows.widens [] (keeps.back knows.still turned) ]
+
+  knows_inner : again.ends ≡ exits.moved.ends → KeepsEnd later exits.still turn.still → KnowsEnds later exits → KnowsEnds later (record exits { moved = again })
+  knows_inner same keeps knows = record {
+    first = knows.first;
+    still = knows.still;
+    moved = record { ends = λ e. by_first loop (knows.moved.ends (sym same ∙ e)); only = λ path. same ∙ knows.moved.only (by_again keeps knows path) };
+    widens = λ text path. by_first loop (knows.widens text path);
+  }
+
+pub is_looped : (body : List ℕ → Ways Turns) (exits turn : Gate) (again : Point) (old bare built new : List Node) → IsReady old exits
     → bare ≡ old ++ Dead ∷ [] → again ≡ record { state = length old; ends = exits.moved.ends }
-    → IsFragment body (behind_turn [] [] again) bare built turn
-    → set ≡ slice_set built (length old) (Fork exits.moved.state turn.still.state)
-    → IsFork set one exits.first turn.first first → IsFork one new exits.still turn.still still
-    → IsFragment (λ text. any_turns greedy (body text) (length text)) exits old new (record { first = first; still = still; moved = again })
-fragment_any greedy body exits turn again first still old bare built set one new fits ready is_bare again_is is set_is at_first at_still =
+    → IsFragment body (record exits { moved = again }) bare built turn
+    → new ≡ slice_set built (length old) (Fork exits.moved.state turn.still.state) → IsLooped body exits old new turn
+is_looped body exits turn again old bare built new ready is_bare again_is is new_is =
     let loop = Fork exits.moved.state turn.still.state in
     let a = pushed old bare Dead is_bare in
     let l = is.longer in
-    let s : length set ≡ length built = ap length set_is ∙ length-set built (length old) loop in
-    let b = forked set one _ _ _ at_first in
-    let c = forked one new _ _ _ at_still in
+    let s : length new ≡ length built = ap length new_is ∙ length-set built (length old) loop in
     let two = two_nodes old ready.are in
     let below = ready.below in
     let turn_below = is.ready.below in
-    let other = λ (i : ℕ) (o : i ≢ length old). let e : slice_get set i ≡ slice_get built i = rw set_is (get_set_other built (length old) i _ o) in e in
-    let set_are : AreNodes set = rw set_is (are_set built (length old) loop is.ready.are two (omega arith) (omega arith)) in
-    fragment (record {
-      kept = λ i node at. (let w = slice_get_within old i node at in c.kept i node (b.kept i node (other i (λ e. omega arith) ∙ is.kept i node (a.kept i node at))));
-      longer = omega arith;
-      are = c.are (b.are set_are (omega arith) (omega arith)) (omega arith) (omega arith);
-    }) (let e = ap (λ (p : Point). p.state) again_is in omega arith) (λ later are agrees.
-    let agrees_set = λ (i : ℕ) (node : Node) (past : length old ≤ i) (at : slice_get set i ≡ Some node). agrees i node past (c.kept i node (b.kept i node at)) in
-    let turns = at_later is later are (λ i node past at. agrees_set i node (omega arith) (other i (λ e. omega arith) ∙ at)) in
-    let loop_at : slice_get later again.state ≡ Some loop = rw again_is (agrees_set (length old) loop (omega arith) (rw set_is (get_set_same built (length old) loop (omega arith)))) in
-    let first_at = b.either later (λ i node past at. agrees i node (omega arith) (c.kept i node at)) in
-    let still_at = c.either later (λ i node past at. agrees i node (omega arith) at) in
-    let nowhere_known = knows_nowhere later are in
-    let again_ends : again.ends ≡ exits.moved.ends = ap (λ (p : Point). p.ends) again_is in
-    let back : Takes later again.state [] → Takes later exits.moved.state [] = λ path. elim (taken later _ loop_at path) [
-      | inl own ↦ own
-      | inr turned ↦ absurd (taken later _ are.dead (turns.ends.still.back nowhere_known turned))
-    ] in
-    let keeps : KeepsEnd later exits.moved again = record {
-      knows = λ knows. record { ends = λ e. by_first loop_at (knows.ends (sym again_ends ∙ e)); only = λ path. again_ends ∙ knows.only (back path) };
-      back = λ knows. back;
-    } in
-    let dead = keeps_dead later are in
+    let other = λ (i : ℕ) (o : i ≢ length old). let e : slice_get new i ≡ slice_get built i = rw new_is (get_set_other built (length old) i _ o) in e in
+    let new_are : AreNodes new = rw new_is (are_set built (length old) loop is.ready.are two (omega arith) (omega arith)) in
+    let turns = λ (later : List Node) (are : AreNodes later) (agrees : AgreesFrom (length old) new later). at_later is later are (λ i node past at. agrees i node (omega arith) (other i (λ e. omega arith) ∙ at)) in
+    let loop_at = λ (later : List Node) (agrees : AgreesFrom (length old) new later).
+    let at : slice_get later again.state ≡ Some loop = rw again_is (agrees (length old) loop (omega arith) (rw new_is (get_set_same built (length old) loop (omega arith)))) in at in
+    let known = λ (later : List Node) (are : AreNodes later) (agrees : AgreesFrom (length old) new later) (knows : KnowsEnds later exits).
+    knows_inner later exits turn again (loop_at later agrees) (ap (λ (p : Point). p.ends) again_is) (turns later are agrees).ends.still knows in
     record {
-      ends = record {
-        first = keeps_either later _ _ _ _ (keeps_same later _) (keeps_then later _ _ _ (dead _) turns.ends.first) first_at;
-        still = keeps_either later _ _ _ _ (keeps_same later _) (keeps_then later _ _ _ (dead _) turns.ends.still) still_at;
-        moved = keeps;
+      again = again;
+      kept = λ i node at. (let w = slice_get_within old i node at in other i (λ e. omega arith) ∙ is.kept i node (a.kept i node at));
+      longer = omega arith;
+      ready = record { are = new_are; below = below_more (length built) (length new) turn (omega arith) turn_below };
+      ends = λ later are agrees. let t = (turns later are agrees).ends in record {
+        first = t.first;
+        still = t.still;
+        moved = λ knows. let k = known later are agrees knows in record { knows = λ own. (t.moved k).knows k.moved; back = λ own path. by_again later exits turn again (loop_at later agrees) t.still knows ((t.moved k).back k.moved path) };
       };
-      serves = λ knows text. serves_any later text are greedy (body text) (fits text) exits turn _ (turns.serves (record { first = nowhere_known; still = nowhere_known; moved = keeps.knows knows.moved }) text)
-          first_at.fork still_at.fork loop_at;
+      loop = loop_at;
+      serves = λ later are agrees knows text. (turns later are agrees).serves (known later are agrees knows) text;
+    }
+
+pub looped_any : (body : List ℕ → Ways Turns) (exits turn entries : Gate) (old mid new : List Node) (greedy : Bool) → ((text : List ℕ) → Bounded (length text) (body text)) → IsBelow (length old) exits
+    → IsLooped body exits old mid turn → IsJoin mid new turn exits entries → IsFragment (λ text. any_turns greedy (body text) (length text)) exits old new entries
+looped_any body exits turn entries old mid new greedy fits below is join =
+    let l = is.longer in
+    let j = joined turn exits entries mid new join is.ready.are is.ready.below (below_more _ _ exits is.longer below) in
+    fragment (grows_on old mid new (record { kept = is.kept; longer = is.longer; are = is.ready.are }) j.grows) j.below (λ later are agrees.
+    let before = λ (i : ℕ) (node : Node) (past : length old ≤ i) (at : slice_get mid i ≡ Some node). agrees i node past (j.grows.kept i node at) in
+    let e = j.either later (λ i node past at. agrees i node (omega arith) at) in
+    record {
+      ends = ends_either later exits turn exits entries (is.ends later are before) (ends_same later exits) e;
+      serves = λ knows text. serves_any later text greedy (body text) (fits text) exits turn is.again (is.loop later before) knows.widens (is.serves later are before knows text) entries e;
+    })
+
+pub looped_turns : (body : List ℕ → Ways Turns) (exits turn : Gate) (old new : List Node) (greedy : Bool) → ((text : List ℕ) → Bounded (length text) (body text)) → IsLooped body exits old new turn
+    → IsFragment (λ text. behind (body text) (any_turns greedy (body text) (length text))) exits old new turn
+looped_turns body exits turn old new greedy fits is =
+    fragment (record { kept = is.kept; longer = is.longer; are = is.ready.are }) is.ready.below (λ later are agrees. record {
+      ends = is.ends later are agrees;
+      serves = λ knows text. serves_turns later text greedy (body text) (fits text) exits turn is.again (is.loop later agrees) knows.widens (is.serves later are agrees knows text);
     })
 
 -- ---- turns
@@ -335,15 +362,29 @@ then_behind : (body : Ways Turns) (least : ℕ) (more : Ways Turns) → behind (
 then_behind body zero more = behind-stop more
 then_behind body (suc least) more = behind-behind body (turns_then body least stop) more ∙ ap (behind body) (then_behind body least more)
 
--- Behind a turn of any number of turns.
-pub behind_ready : (old new : List Node) (exits behind : Gate) (again : Point) → IsReady old exits → new ≡ old ++ Dead ∷ [] → again.state ≡ length old → behind ≡ behind_turn [] [] again → IsReady new behind
-behind_ready old new exits behind again ready is_new last is = (let more = pushed old new Dead is_new in rw is (record { are = more.are ready.are tt; below = omega arith }))
+-- A turn before others is one more.
+then_one : (body : Ways Turns) (least : ℕ) (more : Ways Turns) → turns_then body least (behind body more) ≡ behind body (turns_then body least more)
+then_one body zero more = refl
+then_one body (suc least) more = ap (behind body) (then_one body least more)
+
+-- Behind the turn is where it may begin again.
+pub inner_ready : (old new : List Node) (exits inner : Gate) (again : Point) → IsReady old exits → new ≡ old ++ Dead ∷ [] → again.state ≡ length old → inner ≡ record exits { moved = again } → IsReady new inner
+inner_ready old new exits inner again ready is_new last is = (let more = pushed old new Dead is_new in let b = ready.below in rw is (record { are = more.are ready.are tt; below = omega arith }))
 
 module _ (body : List ℕ → Ways Turns) (exits more entries : Gate) (old mid new : List Node) (least : ℕ) where
   pub fragment_then : (rest : List ℕ → Ways Turns) → IsFragment rest exits old mid more → IsFragment (λ text. turns_then (body text) least stop) more mid new entries
       → IsFragment (λ text. turns_then (body text) least (rest text)) exits old new entries
   fragment_then rest later turns =
       fragment_as _ _ exits entries old new (λ text. then_behind (body text) least (rest text)) (fragment_behind _ _ exits more entries old mid new later turns)
+
+pub fragment_least : (greedy : Bool) (body : List ℕ → Ways Turns) (exits turn entries : Gate) (old mid new : List Node) (least : ℕ) → 0 < least → ((text : List ℕ) → Bounded (length text) (body text))
+    → IsLooped body exits old mid turn → IsFragment (λ text. turns_then (body text) (least - 1) stop) turn mid new entries
+    → IsFragment (λ text. repeated (length text) (body text) least None greedy) exits old new entries
+fragment_least greedy body exits turn entries old mid new zero some fits later turns = absurd (omega arith)
+fragment_least greedy body exits turn entries old mid new (suc least) some fits later turns =
+    let less : suc least - 1 ≡ least = omega arith in
+    fragment_as _ _ exits entries old new (λ text. then_one (body text) least (any_turns greedy (body text) (length text)))
+    (fragment_then body exits turn entries old mid new least _ (looped_turns body exits turn old mid greedy fits later) (rw less at turns))
 
 pub fragment_repeat : (greedy : Bool) (body : List ℕ → Ways Turns) (exits more entries : Gate) (old mid new : List Node) (least most : ℕ) → least ≤ most
     → IsFragment (λ text. turns_up_to greedy (body text) (most - least)) exits old mid more → IsFragment (λ text. turns_then (body text) least stop) more mid new entries

@@ -128,7 +128,7 @@ module _ (every : ByteSet) (full : IsFull every) (ways : List ℕ → Ways Turns
   knows : KnowsEnds later anything
   knows =
       let k : KnowsEnd later anything.first = record { ends = λ e. (every_rest 0 [] 0 (omega arith)).1 (λ k past below. absurd (omega arith)); only = λ path. refl } in
-      record { first = k; still = k; moved = k }
+      record { first = k; still = k; moved = k; widens = λ text path. path }
 
   any_at : (moved : Bool) (at : ℕ) → (point_at anything moved at).state ≡ 2
   any_at moved at = at_point (λ (p : Gate → Point). (p anything).state ≡ 2) moved at refl refl refl

@@ -1,11 +1,14 @@
 -- What is left of the texts of a set behind, or before, the texts of another one.
-use Rattle.hc_pat_lang.proofs.Common.{◌≡◌, ℕ, ◌+◌, ◌<◌, ◌⊎◌, ◌*◌, Bool, List, [], ◌∷◌, ◌++◌, Option, Some, None, true, refl, sym, ◌∙◌, ap, inl, inr, arith, eq-eqb, eqb-true, is_some, Automaton, states, next_state, is_final, run, accepts_from, accepts, Steps, AcceptsPathsOf, IsText, TextSet, IsLeastOf, IsAutomaton, IsMore, AddsFinals, AddsStarts, IsRow, IsFinal, ends_at, HaveCommon, LedToBelow, OnwardsBelow, AcceptsOnly, IsRest, IsFront}
+use Rattle.hc_pat_lang.proofs.Common.{◌≡◌, ℕ, ◌+◌, ◌<◌, ◌⊎◌, ◌*◌, Bool, List, [], ◌∷◌, ◌++◌, Option, Some, None, slice_get, slice_get_within, slice_get-get_or, slice_index_or, subst, length, ◌≤◌, false, IsMet, IsOne, Each-append, IsLedTo, true, refl, sym, ◌∙◌, ap, inl, inr, arith, eq-eqb, eqb-true, is_some, Automaton, states, next_state, is_final, run, accepts_from, accepts, Steps, AcceptsPathsOf, IsText, TextSet, IsLeastOf, IsAutomaton, next_within, IsMore, AddsFinals, AddsStarts, IsRow, IsFinal, ends_at, HaveCommon, LedToBelow, OnwardsBelow, AcceptsOnly, IsRest, IsFront}
 use Rattle.std.proofs.lemmas.Bool.{and_from, and_parts}
 use Rattle.hc_dfa.specs.Built.{Accepts, product_of}
 use Rattle.hc_dfa.specs.declared.products.Keep.TheVariants.{Both}
 use Rattle.hc_pat_lang.proofs.Adding.{finals_pushed, more_as, more_pushed}
 use Rattle.hc_pat_lang.proofs.Consisting.{Consists}
 use Rattle.hc_pat_lang.proofs.Tables.{table_accepts}
+use Rattle.hc_pat_lang.proofs.Walking.{get_some}
+use Rattle.hc_dfa.specs.Pairs.{IsPair, pair_step}
+use Rattle.hc_pat_lang.specs.Led.{AddsNexts, AreLed, ArePairs, IsKept, IsLedPair, StandsWithFinal}
 
 -- ---- the first numbers of which something holds
 
@@ -75,20 +78,130 @@ run_within : (a : Automaton) → IsAutomaton a → (state : ℕ) (text : List �
 run_within a is state [] s bytes = s
 run_within a is state (byte ∷ text) s bytes = run_within a is (next_state a state byte) text (is.within (256 * state + byte) (let w = is.whole in let b = bytes.0 in omega arith)) bytes.1
 
+-- ---- pairs that texts lead to
+
+run_push : (a : Automaton) (state byte : ℕ) (text : List ℕ) → run a state (text ++ byte ∷ []) ≡ next_state a (run a state text) byte
+run_push a state byte [] = refl
+run_push a state byte (other ∷ text) = run_push a (next_state a state other) byte text
+
+text_push : (byte : ℕ) (text : List ℕ) → byte < 256 → IsText text → IsText (text ++ byte ∷ [])
+text_push byte text small bytes = Each-append _ text (byte ∷ []) bytes (small, tt)
+
+module _ (a b : Automaton) (is_a : IsAutomaton a) (is_b : IsAutomaton b) where
+  next_led : (pair : ℕ × ℕ) (byte : ℕ) → byte < 256 → IsPair a b pair × IsLedPair a b pair → IsPair a b (pair_step a b pair byte) × IsLedPair a b (pair_step a b pair byte)
+  next_led pair byte small led = (
+    (next_within a is_a pair.0 byte led.0.0 small, next_within b is_b pair.1 byte led.0.1 small),
+    record {
+      text = led.1.text ++ byte ∷ [];
+      bytes = text_push byte led.1.text small led.1.bytes;
+      first = run_push a 0 byte led.1.text ∙ ap (λ (s : ℕ). next_state a s byte) led.1.first;
+      second = run_push b 0 byte led.1.text ∙ ap (λ (s : ℕ). next_state b s byte) led.1.second;
+    },
+  )
+
+  pub pairs_begin : (none pairs : List (ℕ × ℕ)) (number : ℕ) → length none ≡ 0 → IsMet IsOne none (0, 0) pairs number → ArePairs a b pairs 0
+  pairs_begin none pairs number empty met = record {
+    begin = (number, met.stored ∙ ap Some (sym met.same));
+    led = λ i pair at. elim (met.only i pair at) [
+      | inl before ↦ absurd (let w = slice_get_within none i pair before in omega arith)
+      | inr e ↦ rw e ((is_a.some, is_b.some), record { text = []; bytes = tt; first = refl; second = refl })
+    ];
+    closed = λ i byte pair less. absurd (omega arith);
+  }
+
+  pub pairs_more : (pairs more : List (ℕ × ℕ)) (pair : ℕ × ℕ) (count : ℕ) → ArePairs a b pairs count → slice_get pairs count ≡ Some pair → AddsNexts a b pair 256 pairs more → ArePairs a b more (count + 1)
+  pairs_more pairs more pair count are at adds = record {
+    begin = (are.begin.0, adds.extends _ _ are.begin.1);
+    led = λ i other there. elim (adds.only i other there) [
+      | inl old ↦ are.led i other old
+      | inr new ↦ rw new.2 (next_led pair new.0 new.1 (are.led count pair at))
+    ];
+    closed = λ i byte other less there small.
+        let within = slice_get_within pairs count pair at in
+        let cases : (i < count) ⊎ (i ≡ count) = grind arith in
+        elim cases [
+          | inl old ↦
+              let found = get_some pairs i (omega arith) in
+              let stays = adds.extends i found.0 found.1 in
+              let same : found.0 ≡ other = cc in
+              let kept = are.closed i byte found.0 old found.1 small in
+              let stands : IsKept more (pair_step a b found.0 byte) = (kept.0, adds.extends kept.0 _ kept.1) in
+              rw same at stands
+          | inr e ↦
+              let stays = adds.extends count pair at in
+              let same : pair ≡ other = cc in
+              rw same at (adds.has byte small)
+        ];
+  }
+
+  pairs_along : (pairs : List (ℕ × ℕ)) (count : ℕ) → ArePairs a b pairs count → length pairs ≤ count → (text : List ℕ) (pair : ℕ × ℕ) → IsKept pairs pair → IsText text → IsKept pairs (run a pair.0 text, run b pair.1 text)
+  pairs_along pairs count are all [] pair kept bytes = kept
+  pairs_along pairs count are all (byte ∷ text) pair kept bytes =
+      pairs_along pairs count are all text (pair_step a b pair byte) (are.closed kept.0 byte pair (let w = slice_get_within pairs kept.0 pair kept.1 in omega arith) kept.1 bytes.0) bytes.1
+
+  pub pairs_end : (pairs : List (ℕ × ℕ)) (count : ℕ) → ArePairs a b pairs count → length pairs ≤ count → AreLed a b pairs
+  pairs_end pairs count are all = record {
+    led = are.led;
+    all = λ pair led. (let kept = pairs_along pairs count are all led.text (0, 0) are.begin led.bytes in rw (led.first, led.second) at kept);
+  }
+
+pub led_tells : (a b : Automaton) (pairs : List (ℕ × ℕ)) (state : ℕ) (answer : Bool) → AreLed a b pairs → StandsWithFinal b pairs state answer → (answer ≡ true → IsLedTo a b state) × (answer ≡ false → IsLedTo a b state → ⊥)
+unfolding accepts
+led_tells a b pairs state answer are stands = (
+  (λ e.
+      let found = stands.some e in
+      let led = (are.led found.1.0 _ found.1.1).1 in
+      (led.text, record { bytes = led.bytes; in_first = eq-eqb _ _ led.first; in_second = final_run b 0 led.text ∙ rw led.second found.2 })),
+  (λ e led.
+      let text = led.0 in
+      let common = led.1 in
+      let kept = subst (λ (s : ℕ). IsKept pairs (s, run b 0 text)) (eqb-true _ _ common.in_first) (are.all (run a 0 text, run b 0 text) (record { text = text; bytes = common.bytes; first = refl; second = refl })) in
+      stands.none e kept.0 (run b 0 text) kept.1 (sym (final_run b 0 text) ∙ common.in_second)),
+)
+  where
+    final_run : (c : Automaton) (from : ℕ) (letters : List ℕ) → accepts_from c from letters ≡ is_final c (run c from letters)
+    final_run c from [] = refl
+    final_run c from (byte ∷ letters) = final_run c (next_state c from byte) letters
+
+pub pair_here : (pairs items : List (ℕ × ℕ)) (i : ℕ) → items ≡ pairs → i < length items → slice_get pairs i ≡ Some (slice_index_or items i (0, 0))
+pair_here pairs items i same below = subst (λ (xs : List (ℕ × ℕ)). slice_get xs i ≡ Some (slice_index_or items i (0, 0))) same (slice_get-get_or items i (0, 0) below)
+
+-- A pair more that isn't one of the state and a final one.
+pub none_more : (b : Automaton) (pairs : List (ℕ × ℕ)) (state count : ℕ) (pair : ℕ × ℕ) → slice_get pairs count ≡ Some pair
+    → ((i second : ℕ) → i < count → slice_get pairs i ≡ Some (state, second) → is_final b second ≡ true → ⊥) → (pair.0 ≡ state → is_final b pair.1 ≡ true → ⊥)
+    → (i second : ℕ) → i < count + 1 → slice_get pairs i ≡ Some (state, second) → is_final b second ≡ true → ⊥
+none_more b pairs state count pair here before isnt i second less at final =
+    let cases : (i < count) ⊎ (i ≡ count) = grind arith in
+    elim cases [
+      | inl old ↦ before i second old at final
+      | inr e ↦ (let there = rw e at at in let same : pair ≡ (state, second) = cc in isnt (ap (λ (p : ℕ × ℕ). p.0) same) (rw (ap (λ (p : ℕ × ℕ). p.1) same) final))
+    ]
+
+pub nexts_none : (a b : Automaton) (pair : ℕ × ℕ) (pairs : List (ℕ × ℕ)) → AddsNexts a b pair 0 pairs pairs
+nexts_none a b pair pairs = record { extends = λ i other at. at; has = λ byte less. absurd (omega arith); only = λ i other at. inl at }
+
+pub nexts_more : (a b : Automaton) (pair key : ℕ × ℕ) (byte number : ℕ) (old mid new : List (ℕ × ℕ)) → AddsNexts a b pair byte old mid → IsMet IsOne mid key new number → key ≡ pair_step a b pair byte
+    → AddsNexts a b pair (byte + 1) old new
+nexts_more a b pair key byte number old mid new adds met is = record {
+  extends = λ i other at. met.extends i other (adds.extends i other at);
+  has = λ low less.
+      let cases : (low < byte) ⊎ (low ≡ byte) = grind arith in
+      elim cases [
+        | inl before ↦ (let kept = adds.has low before in (kept.0, met.extends kept.0 _ kept.1))
+        | inr e ↦ (number, met.stored ∙ ap Some (sym met.same ∙ is ∙ ap (pair_step a b pair) (sym e)))
+      ];
+  only = λ i other at. elim (met.only i other at) [
+    | inl before ↦ elim (adds.only i other before) [ inl first ↦ inl first | inr own ↦ inr (own.0, (let l = own.1 in omega arith), own.2) ]
+    | inr e ↦ inr (byte, omega arith, e ∙ is)
+  ];
+}
+
 module _ (a : Automaton) (is : IsAutomaton a) (m : Steps) (automaton : Automaton) (same : AcceptsPathsOf m automaton) where
   final_there : (place : ℕ) → IsFinal a 0 place → is_final a place ≡ true
   final_there place final = grind arith
 
   final_at : (place : ℕ) → is_final a place ≡ true → place < states a → IsFinal a 0 place
   final_at place final s = record { state = place; below = s; here = omega arith; final = final }
-
-  pub fronts_accepted : (state : ℕ) → state < states a
-      → Consists m (λ from byte to. ⊥ ⊎ IsRow a 0 from byte to) (λ step. ⊥) (λ end. ⊥ ⊎ (state ≡ end)) (λ begin. ⊥ ⊎ (0 ≡ begin))
-      → Accepts automaton (ends_at a state)
-  fronts_accepted state s made text bytes =
-      let through = table_accepts a is m _ _ made automaton same (λ begin begins. rw (← begins) is.some) text bytes in
-      bool_same _ _ (λ accepted. let runs = through.0 accepted in eq-eqb (run a 0 text) state (sym (rw (← runs.begins) at runs.ends)))
-      (λ equal. through.1 (record { start = 0; begins = refl; ends = sym (eqb-true (run a 0 text) state equal) }))
 
   pub rests_accepted : (state : ℕ) → state < states a
       → Consists m (λ from byte to. ⊥ ⊎ IsRow a 0 from byte to) (λ step. ⊥) (λ end. ⊥ ⊎ IsFinal a 0 end) (λ begin. ⊥ ⊎ (state ≡ begin))

@@ -1,9 +1,9 @@
 -- Entries and exits, for each form of a pattern.
-use Rattle.hc_pat_lang.proofs.Common.{◌≡◌, ℕ, zero, suc, ◌+◌, ◌<◌, ◌≤◌, ◌⊎◌, ◌↔◌, ◌||◌, Bool, true, false, List, [], ◌∷◌, length, drop, if◌then◌else◌, nat_lt, nat_eq, Option, Some, slice_get, refl, sym, ◌∙◌, ap, subst, inl, inr, arith, eq-eqb, eqb-true, ltb-true, AllByRecursion, has_byte, ByteSet, Way, Ways, none, stop, behind, either, stop_where, meets, closed, grouped, preferred, moving, any_turns, Turns, with_turn, Bounded, any_turns_is, Exists, point_at, TakesRest, LeadsTo, Serves, KnowsEnd, KnowsEnds, KeepsEnd, alone_gate, nowhere, nowhere_gate, finish_point, finish_gate, Takes, AreNodes, Gate, Point, Node, Dead, End, Step, Marked, Fork, GroupPart, Inside, marked_byte, plain_byte, seen, seen_in, step_by, step_node, Each-append, Each-filter, Each-flat_map, Each-map}
+use Rattle.hc_pat_lang.proofs.Common.{◌≡◌, ℕ, zero, suc, ◌+◌, ◌<◌, ◌≤◌, ◌⊎◌, ◌↔◌, ◌||◌, Bool, true, false, List, [], ◌∷◌, length, drop, if◌then◌else◌, nat_lt, nat_eq, Option, Some, slice_get, refl, sym, ◌∙◌, ap, subst, inl, inr, arith, eq-eqb, eqb-true, lt-ltb, ltb-true, AllByRecursion, has_byte, ByteSet, Way, Ways, none, stop, behind, either, stop_where, meets, closed, grouped, preferred, moving, any_turns, Turns, with_turn, Bounded, any_turns_is, Exists, point_at, TakesRest, LeadsTo, Serves, KnowsEnd, KnowsEnds, KeepsEnd, alone_gate, nowhere, nowhere_gate, finish_point, finish_gate, Takes, AreNodes, Gate, Point, Node, Dead, End, Step, Marked, Fork, GroupPart, Inside, marked_byte, plain_byte, seen, seen_in, step_by, step_node, Each-append, Each-filter, Each-flat_map, Each-map}
 use Rattle.hc_pat_lang.specs.Nodes.Takes.{at_end, by_byte, by_marked, by_first, by_second}
 use Rattle.std.proofs.lemmas.List.{length-drop}
 use Rattle.std.proofs.lemmas.Bool.{or_cases}
-use Rattle.hc_pat_lang.proofs.Parts.{some_filtered, some_mapped, exists_as, exists_with, exists_left, exists_right, exists_cases, exists_if, if_exists, all_if, all_as, all_passed, some_preferred, to_flat, from_flat, meets_some, GoesOn, goes_on}
+use Rattle.hc_pat_lang.proofs.Parts.{some_filtered, some_mapped, exists_as, exists_with, exists_left, exists_right, exists_cases, exists_if, if_exists, all_if, all_as, all_passed, some_preferred, to_flat, from_flat, meets_some, GoesOn, goes_on, all_among, among_exists, exists_among}
 
 -- ---- tests
 
@@ -351,31 +351,146 @@ module _ (nodes : List Node) where
           );
     }
 
-    module _ (are : AreNodes nodes) (greedy : Bool) (body : Ways Turns) (is_bounded : Bounded (length text) body) (exits turn entries : Gate)
-        (serves : Serves nodes text body (behind_turn entries.moved) turn)
-        (at_first : slice_get nodes entries.first.state ≡ Some (Fork exits.first.state turn.first.state))
-        (at_still : slice_get nodes entries.still.state ≡ Some (Fork exits.still.state turn.still.state))
-        (at_moved : slice_get nodes entries.moved.state ≡ Some (Fork exits.moved.state turn.still.state)) where
+    still_at : (gate : Gate) (at : ℕ) → 0 < at → point_at gate false at ≡ gate.still
+    still_at gate at past = grind arith
+
+    unmoved : (moved : Bool) (at end : ℕ) → at ≤ end → (moved || nat_lt at end) ≡ false → (moved ≡ false) × (end ≡ at)
+    unmoved moved at end ordered is = grind arith
+
+    -- A turn whose exits lead back to it, where it has moved.
+    module _ (greedy : Bool) (body : Ways Turns) (is_bounded : Bounded (length text) body) (exits turn : Gate) (again : Point)
+        (loop : slice_get nodes again.state ≡ Some (Fork exits.moved.state turn.still.state))
+        (widens : (rest : List ℕ) → Takes nodes exits.still.state rest → Takes nodes exits.moved.state rest)
+        (serves : Serves nodes text body (record exits { moved = again }) turn) where
+      abbrev inner : Gate
+      inner = record exits { moved = again }
+
       abbrev any : Ways Turns
       any = any_turns greedy body (length text)
 
-      -- A turn more, where what is behind a turn that moves is known.
-      any_by : (at : ℕ) (held : Turns) (moved : Bool) → at ≤ length text → (moved ≡ true → 0 < at)
-          → ((way : Way Turns) → at < way.end → way.end ≤ length text → LeadsAt (TakesRest nodes text entries (moved || nat_lt at way.end) way.end) any exits way.end way.held (moved || nat_lt at way.end))
-          → LeadsAt (TakesRest nodes text entries moved at) any exits at held moved
-      any_by at held moved within past later =
-          let fork = at_point (λ (p : Gate → Point). slice_get nodes (p entries).state ≡ Some (Fork (p exits).state (p (alone_gate turn)).state)) moved at at_first at_still at_moved in
-          let split = either_taken fork in
-          let moves = serves_moving are body entries turn serves in
-          rw (any_turns_is text greedy body is_bounded) (leads_preferred _ _ greedy (behind (moving body) any) exits at held moved
-          ((λ path. elim (split.0 path) [ inl here ↦ inr here | inr one ↦ inl one ]), (λ paths. split.1 (elim paths [ inl one ↦ inr one | inr here ↦ inl here ])))
-          (leads_behind _ (moving body) any exits entries at held moved (λ way. Ordered at way × (nat_lt at way.end ≡ true)) (all_passed (Ordered at) _ (body at held) (serves.ordered at held within))
-          (λ way here. (here.0.0, ordered_any greedy body serves.ordered (length text) way.end way.held here.0.1, later way (ltb-true at way.end here.1) here.0.1))
-          (moves.leads at held moved within past)))
+      -- The ways that move.
+      abbrev Moves : Bool → ℕ → Turns → Type 0
+      Moves moved at held = Exists (LeadsTo nodes text inner moved at) (moving body at held)
 
-      any_leads : (fuel at : ℕ) (held : Turns) (moved : Bool) → length text ≤ at + fuel → at ≤ length text → (moved ≡ true → 0 < at) → LeadsAt (TakesRest nodes text entries moved at) any exits at held moved
-      any_leads zero at held moved enough within past = any_by at held moved within past (λ way less w. absurd (omega arith))
-      any_leads (suc fuel) at held moved enough within past = any_by at held moved within past (λ way less w. any_leads fuel way.end way.held (moved || nat_lt at way.end) (omega arith) w (λ e. omega arith))
+      ordered : (at : ℕ) (held : Turns) → at ≤ length text → AllByRecursion (Ordered at) (any at held)
+      ordered = ordered_any greedy body serves.ordered (length text)
 
-      pub serves_any : Serves nodes text any exits entries
-      serves_any = record { ordered = ordered_any greedy body serves.ordered (length text); leads = λ at held moved within past. any_leads (length text) at held moved (omega arith) within past }
+      any_is : any ≡ preferred greedy (behind (moving body) any)
+      any_is = any_turns_is text greedy body is_bounded
+
+      split : (at : ℕ) (held : Turns) (moved other : Bool) → at ≤ length text → Exists (LeadsTo nodes text inner moved at) (body at held) → Moves other at held ⊎ TakesRest nodes text inner moved at
+      split at held moved other within some =
+          let found = exists_among _ (body at held) some in
+          let way = found.0 in
+          let o = all_among (Ordered at) (body at held) way (serves.ordered at held within) found.1 in
+          let cases : (at < way.end) ⊎ (way.end ≡ at) = (let l = o.0 in grind arith) in
+          elim cases [
+            | inl less ↦ inl ((some_filtered _ (λ (w : Way Turns). nat_lt at w.end) (body at held)).1 (among_exists _ (body at held) way found.1 (rw (further other at way.end less) (rw (further moved at way.end less) at found.2), lt-ltb at way.end less)))
+            | inr e ↦ inr (rw (still_here moved at) at (rw e at found.2))
+          ]
+
+      moves_are : (at : ℕ) (held : Turns) (moved other : Bool) → Moves other at held → Exists (LeadsTo nodes text inner moved at) (body at held)
+      moves_are at held moved other some =
+          exists_as _ _ (body at held) (λ way here. let less = ltb-true at way.end here.1 in rw (further moved at way.end less) (rw (further other at way.end less) at here.0)) ((some_filtered _ (λ way. nat_lt at way.end) (body at held)).0 some)
+
+      -- Where the turn has moved.
+      abbrev Loops : ℕ → Turns → Type 0
+      Loops at held = LeadsAt (Takes nodes again.state (drop at text)) any exits at held true
+
+      any_leads : (Taken : Type 0) (at : ℕ) (held : Turns) (moved : Bool) → at ≤ length text → ((way : Way Turns) → at < way.end → way.end ≤ length text → Loops way.end way.held)
+          → Taken ↔ (Moves moved at held ⊎ TakesRest nodes text exits moved at) → LeadsAt Taken any exits at held moved
+      any_leads Taken at held moved within later either =
+          rw any_is (leads_preferred Taken _ greedy (behind (moving body) any) exits at held moved either
+          (leads_behind _ (moving body) any exits inner at held moved (λ way. Ordered at way × (nat_lt at way.end ≡ true)) (all_passed (Ordered at) _ (body at held) (serves.ordered at held within))
+          (λ way here. let less = ltb-true at way.end here.1 in (here.0.0, ordered way.end way.held here.0.1, rw (further moved at way.end less) (later way less here.0.1)))
+          ((λ some. some), (λ some. some))))
+
+      again_split : (at : ℕ) (held : Turns) → 0 < at → at ≤ length text → Takes nodes again.state (drop at text) → Moves true at held ⊎ Takes nodes exits.moved.state (drop at text)
+      again_split at held past within path = elim (taken _ loop path) [
+        | inl here ↦ inr here
+        | inr turned ↦ elim (split at held false true within ((serves.leads at held false within (λ e. absurd (let f = e in cc))).0 (rw (still_at turn at past) turned))) [
+          | inl moves ↦ inl moves
+          | inr here ↦ inr (widens _ (rw (still_at inner at past) at here))
+        ]
+      ]
+
+      again_joins : (at : ℕ) (held : Turns) → 0 < at → at ≤ length text → Moves true at held → Takes nodes again.state (drop at text)
+      again_joins at held past within moves =
+          by_second loop (rw (still_at turn at past) at ((serves.leads at held false within (λ e. absurd (let f = e in cc))).1 (moves_are at held false true moves)))
+
+      loops_by : (at : ℕ) (held : Turns) → 0 < at → at ≤ length text → ((way : Way Turns) → at < way.end → way.end ≤ length text → Loops way.end way.held) → Loops at held
+      loops_by at held past within later = any_leads _ at held true within later (
+        again_split at held past within,
+        (λ either. elim either [ inl moves ↦ again_joins at held past within moves | inr here ↦ by_first loop here ]),
+      )
+
+      loops_for : (fuel at : ℕ) (held : Turns) → length text ≤ at + fuel → 0 < at → at ≤ length text → Loops at held
+      loops_for zero at held enough past within = loops_by at held past within (λ way less w. absurd (omega arith))
+      loops_for (suc fuel) at held enough past within = loops_by at held past within (λ way less w. loops_for fuel way.end way.held (omega arith) (omega arith) w)
+
+      loops : (at : ℕ) (held : Turns) → 0 < at → at ≤ length text → Loops at held
+      loops at held = loops_for (length text) at held (omega arith)
+
+      -- The turn and further ones, or none.
+      pub serves_any : (entries : Gate) → AreEither turn exits entries → Serves nodes text any exits entries
+      serves_any entries are = record {
+        ordered = ordered;
+        leads = λ at held moved within past.
+            let fork = either_taken (either_at turn exits entries moved at are).fork in
+            let leads = serves.leads at held moved within past in
+            any_leads _ at held moved within (λ way less w. loops way.end way.held (omega arith) w) (
+              (λ path. elim (fork.0 path) [
+                | inl turned ↦ elim (split at held moved moved within (leads.0 turned)) [ inl moves ↦ inl moves | inr here ↦ inner_split moved at held within past here ]
+                | inr here ↦ inr here
+              ]),
+              (λ either. fork.1 (elim either [ inl moves ↦ inl (leads.1 (moves_are at held moved moved moves)) | inr here ↦ inr here ])),
+            );
+      }
+        where
+          inner_split : (moved : Bool) (at : ℕ) (held : Turns) → at ≤ length text → (moved ≡ true → 0 < at) → TakesRest nodes text inner moved at → Moves moved at held ⊎ TakesRest nodes text exits moved at
+          inner_split true at held within past path = again_split at held (past refl) within path
+          inner_split false at held within past path = inr path
+
+      -- From where the turn has ended.
+      inner_any : (moved : Bool) (at : ℕ) (held : Turns) → at ≤ length text → (moved ≡ true → 0 < at) → TakesRest nodes text inner moved at → Exists (LeadsTo nodes text exits moved at) (any at held)
+      inner_any true at held within past path = (loops at held (past refl) within).0 path
+      inner_any false at held within past path = subst (λ (w : Ways Turns). Exists (LeadsTo nodes text exits false at) (w at held)) (sym any_is) ((some_preferred _ greedy (behind (moving body) any) at held).1 (inr (rw (still_here false at) path)))
+
+      any_inner : (moved : Bool) (at : ℕ) (held : Turns) → at ≤ length text → (moved ≡ true → 0 < at) → Exists (LeadsTo nodes text exits moved at) (any at held)
+          → TakesRest nodes text inner moved at ⊎ ((moved ≡ false) × TakesRest nodes text turn false at)
+      any_inner true at held within past some = inl ((loops at held (past refl) within).1 some)
+      any_inner false at held within past some =
+          let leads = any_leads (Moves false at held ⊎ TakesRest nodes text exits false at) at held false within (λ way less w. loops way.end way.held (omega arith) w) ((λ either. either), (λ either. either)) in
+          elim (leads.1 some) [ inl moves ↦ inr (refl, (serves.leads at held false within past).1 (moves_are at held false false moves)) | inr here ↦ inl here ]
+
+      pub serves_turns : Serves nodes text (behind body any) exits turn
+      serves_turns = record {
+        ordered = λ at held within. ordered_behind body any at held (serves.ordered at held within) (λ way here. ordered way.end way.held here.1);
+        leads = λ at held moved within past. (
+          (λ path. to_flat _ _ (body at held) (exists_with (Ordered at) _ _ (body at held) (serves.ordered at held within)
+              (λ way o here. exists_with (Ordered way.end) _ _ (any way.end way.held) (ordered way.end way.held o.1) (λ other on end. rw (moved_on moved at way.end other.end o.0 on.0) at end)
+              (inner_any (moved || nat_lt at way.end) way.end way.held o.1 (moved_past moved at way.end past o.0) here)) ((serves.leads at held moved within past).0 path))),
+          (λ some.
+              let found = exists_among _ (body at held) (from_flat _ _ (body at held) some) in
+              let way = found.0 in
+              let o = all_among (Ordered at) (body at held) way (serves.ordered at held within) found.1 in
+              let later = exists_with (Ordered way.end) _ _ (any way.end way.held) (ordered way.end way.held o.1) (λ other on end. rw (moved_on moved at way.end other.end o.0 on.0) end) found.2 in
+              elim (any_inner (moved || nat_lt at way.end) way.end way.held o.1 (moved_past moved at way.end past o.0) later) [
+                | inl here ↦ (serves.leads at held moved within past).1 (among_exists (LeadsTo nodes text inner moved at) (body at held) way found.1 here)
+                | inr turned ↦ let same = unmoved moved at way.end o.0 turned.0 in rw same.0 (rw same.1 at turned.1)
+              ]),
+        );
+      }
+
+  -- What is taken where the turn has not moved is taken where it has.
+  pub serves_widens : (rest : List ℕ) (ways : Ways Turns) (exits entries : Gate) → ((text : List ℕ) → Takes nodes exits.still.state text → Takes nodes exits.moved.state text)
+      → Serves nodes (0 ∷ rest) ways exits entries → Takes nodes entries.still.state rest → Takes nodes entries.moved.state rest
+  serves_widens rest ways exits entries widens serves path =
+      let text = 0 ∷ rest in
+      let within : 1 ≤ length text = omega arith in
+      (serves.leads 1 [] true within (λ e. omega arith)).1 (exists_with (λ way. (1 ≤ way.end) × (way.end ≤ length text)) _ _ (ways 1 []) (serves.ordered 1 [] within)
+      (λ way o there. wide (nat_lt 1 way.end) way.end o.0 there) ((serves.leads 1 [] false within (λ e. absurd (let f = e in cc))).0 path))
+    where
+      wide : (v : Bool) (end : ℕ) → 1 ≤ end → TakesRest nodes (0 ∷ rest) exits v end → TakesRest nodes (0 ∷ rest) exits true end
+      wide true end past path = path
+      wide false end past path = widens _ (rw (still_at [] exits end past) at path)

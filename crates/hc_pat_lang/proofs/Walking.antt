@@ -119,7 +119,7 @@ final_stepped nodes a keys m n i from sound at last pushed =
 
 -- ---- lengths
 
-get_some : {A : Type 0} (xs : List A) (k : ℕ) → k < length xs → (x : A) × (slice_get xs k ≡ Some x)
+pub get_some : {A : Type 0} (xs : List A) (k : ℕ) → k < length xs → (x : A) × (slice_get xs k ≡ Some x)
 get_some xs k below = elim (slice_get_cases xs k).1 [ inl found ↦ (found.0, found.2) | inr past ↦ absurd (let p = past.0 in omega arith) ]
 
 pub extends_longer : {A : Type 0} (xs ys : List A) → ((i : ℕ) (x : A) → slice_get xs i ≡ Some x → slice_get ys i ≡ Some x) → length xs ≤ length ys

@@ -1,5 +1,5 @@
 -- What the nodes of a pattern take, by the ways of the pattern.
-use Rattle.std.specs.Prelude.{◌≡◌, ℕ, ◌<◌, ◌≤◌, ◌==◌, ◌||◌, ◌⊎◌, ◌↔◌, nat_lt, Bool, true, List, [], ◌∷◌, length, drop, if◌then◌else◌}
+use Rattle.std.specs.Prelude.{◌≡◌, ℕ, ◌<◌, ◌≤◌, ◌==◌, ◌||◌, ◌⊎◌, ◌↔◌, nat_lt, Bool, true, List, [], ◌∷◌, length, drop, if◌then◌else◌, slice_get, Some}
 use Rattle.std.specs.List.{AllByRecursion}
 use Rattle.hc_dfa.specs.Explored.{Extends}
 use Rattle.hc_ways.specs.Ways.{Way, Ways}
@@ -9,6 +9,7 @@ use Rattle.hc_pat_lang.specs.declared.gates.Gate.{Gate}
 use Rattle.hc_pat_lang.specs.declared.gates.Point.{Point}
 use Rattle.hc_pat_lang.specs.declared.chosen.Turns.{Turns as Both}
 use Rattle.hc_pat_lang.specs.declared.nodes.Node.{Node}
+use Rattle.hc_pat_lang.specs.declared.nodes.Node.TheVariants.{Fork}
 
 -- It holds of some element.
 abbrev pub Exists : {A : Type 0} → (A → Type 0) → List A → Type 0
@@ -43,15 +44,17 @@ pub record KeepsEnd (nodes : List Node) (exit entry : Point) : Type 0 where
   pub knows : KnowsEnd nodes exit → KnowsEnd nodes entry
   pub back : KnowsEnd nodes exit → Takes nodes entry.state [] → Takes nodes exit.state []
 
+-- It is known of each point, and what is taken where the turn has not moved is taken where it has.
 pub record KnowsEnds (nodes : List Node) (gate : Gate) : Type 0 where
   pub first : KnowsEnd nodes gate.first
   pub still : KnowsEnd nodes gate.still
   pub moved : KnowsEnd nodes gate.moved
+  pub widens : (text : List ℕ) → Takes nodes gate.still.state text → Takes nodes gate.moved.state text
 
 pub record KeepsEnds (nodes : List Node) (exits entries : Gate) : Type 0 where
   pub first : KeepsEnd nodes exits.first entries.first
   pub still : KeepsEnd nodes exits.still entries.still
-  pub moved : KeepsEnd nodes exits.moved entries.moved
+  pub moved : KnowsEnds nodes exits → KeepsEnd nodes exits.moved entries.moved
 
 -- The gate's points are nodes below the count.
 pub record IsBelow (count : ℕ) (gate : Gate) : Type 0 where
@@ -72,6 +75,17 @@ pub record IsFragment (ways : List ℕ → Ways Turns) (exits : Gate) (old new :
   pub ends : (later : List Node) → AreNodes later → AgreesFrom (length old) new later → KeepsEnds later exits entries
   pub serves : (later : List Node) → AreNodes later → AgreesFrom (length old) new later → KnowsEnds later exits
       → (text : List ℕ) → Serves later text (ways text) exits entries
+
+-- A turn of the body that leads back to where it begins again, once it has moved.
+pub record IsLooped (body : List ℕ → Ways Turns) (exits : Gate) (old new : List Node) (turn : Gate) : Type 0 where
+  pub again : Point
+  pub kept : Extends old new
+  pub longer : length old ≤ length new
+  pub ready : IsReady new turn
+  pub ends : (later : List Node) → AreNodes later → AgreesFrom (length old) new later → KeepsEnds later exits turn
+  pub loop : (later : List Node) → AgreesFrom (length old) new later → slice_get later again.state ≡ Some (Fork exits.moved.state turn.still.state)
+  pub serves : (later : List Node) → AreNodes later → AgreesFrom (length old) new later → KnowsEnds later exits
+      → (text : List ℕ) → Serves later text (body text) (record exits { moved = again }) turn
 
 -- Both gates of turns lead to the exits, the one by all ways and the other by those with a chosen turn.
 pub record AreTurns (all chosen : List ℕ → Ways Turns) (exits : Gate) (old new : List Node) (turns : Both) : Type 0 where

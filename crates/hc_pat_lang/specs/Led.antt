@@ -1,6 +1,8 @@
 -- Which states the texts of a set lead to, and from which they lead to a final state.
-use Rattle.std.specs.Prelude.{◌≡◌, ℕ, ◌<◌, ◌==◌, IsTrue, List, Bool, true, false}
-use Rattle.hc_dfa.specs.Automata.{Automaton, run, accepts_from, accepts}
+use Rattle.std.specs.Prelude.{◌≡◌, ℕ, ◌<◌, ◌==◌, ◌⊎◌, IsTrue, List, Bool, true, false, slice_get, Some}
+use Rattle.hc_dfa.specs.Automata.{Automaton, is_final, run, accepts_from, accepts}
+use Rattle.hc_dfa.specs.Explored.{Extends}
+use Rattle.hc_dfa.specs.Pairs.{IsPair, pair_step}
 use Rattle.hc_dfa.specs.Texts.{IsText, TextSet}
 
 -- The text leads from the start to the state.
@@ -31,3 +33,38 @@ LedToBelow a by count state = (state < count) × IsLedTo a by state
 
 abbrev pub OnwardsBelow : Automaton → Automaton → ℕ → ℕ → Type 0
 OnwardsBelow a by count state = (state < count) × LeadsOnwards a by state
+
+-- ---- pairs of states of two automata
+
+-- Some text leads from both starts to the pair.
+pub record IsLedPair (a b : Automaton) (pair : ℕ × ℕ) : Type 0 where
+  pub text : List ℕ
+  pub bytes : IsText text
+  pub first : run a 0 text ≡ pair.0
+  pub second : run b 0 text ≡ pair.1
+
+abbrev pub IsKept : List (ℕ × ℕ) → (ℕ × ℕ) → Type 0
+IsKept pairs pair = (i : ℕ) × (slice_get pairs i ≡ Some pair)
+
+-- The second list is the first with the pairs that the first bytes lead to from a pair.
+pub record AddsNexts (a b : Automaton) (pair : ℕ × ℕ) (count : ℕ) (old new : List (ℕ × ℕ)) : Type 0 where
+  pub extends : Extends old new
+  pub has : (byte : ℕ) → byte < count → IsKept new (pair_step a b pair byte)
+  pub only : (i : ℕ) (other : ℕ × ℕ) → slice_get new i ≡ Some other
+      → (slice_get old i ≡ Some other) ⊎ ((byte : ℕ) × (byte < count) × (other ≡ pair_step a b pair byte))
+
+-- The pairs that texts lead to, where those that the first of them lead to are among them.
+pub record ArePairs (a b : Automaton) (pairs : List (ℕ × ℕ)) (count : ℕ) : Type 0 where
+  pub begin : IsKept pairs (0, 0)
+  pub led : (i : ℕ) (pair : ℕ × ℕ) → slice_get pairs i ≡ Some pair → IsPair a b pair × IsLedPair a b pair
+  pub closed : (i byte : ℕ) (pair : ℕ × ℕ) → i < count → slice_get pairs i ≡ Some pair → byte < 256 → IsKept pairs (pair_step a b pair byte)
+
+-- The pairs that texts lead to.
+pub record AreLed (a b : Automaton) (pairs : List (ℕ × ℕ)) : Type 0 where
+  pub led : (i : ℕ) (pair : ℕ × ℕ) → slice_get pairs i ≡ Some pair → IsPair a b pair × IsLedPair a b pair
+  pub all : (pair : ℕ × ℕ) → IsLedPair a b pair → IsKept pairs pair
+
+-- The answer tells whether the state stands in a pair with a final one.
+pub record StandsWithFinal (b : Automaton) (pairs : List (ℕ × ℕ)) (state : ℕ) (answer : Bool) : Type 0 where
+  pub some : answer ≡ true → (second : ℕ) × IsKept pairs (state, second) × (is_final b second ≡ true)
+  pub none : answer ≡ false → (i second : ℕ) → slice_get pairs i ≡ Some (state, second) → is_final b second ≡ true → ⊥

@@ -2,7 +2,7 @@ ghost use Rattle.std.specs.Prelude.{◌≡◌, ◌-◌, ◌≤◌, ◌==◌, ℕ
 ghost use Rattle.std.specs.Prelude.{length};
 ghost use Rattle.hc_pattern.specs.Bits.{has_byte};
 ghost use Rattle.hc_pattern.specs.Pattern.{group, pattern_of};
-ghost use Rattle.hc_pat_lang.specs.Fragments.{IsFragment, IsReady};
+ghost use Rattle.hc_pat_lang.specs.Fragments.{IsFragment, IsLooped, IsReady};
 ghost use Rattle.hc_pat_lang.specs.Turned.{part_ways, seen, step_by, times_of};
 ghost use Rattle.hc_ways.specs.Ways.{any_turns, stop, turns_then, turns_up_to};
 
@@ -107,9 +107,13 @@ impl Nodes {
             exits self.old.list.items self.new.list.items) }
     {
         match times.most {
+            None if times.least == 0 => {
+                let entries = self.any_turns(body, times.greedy, part, exits)?;
+                Ok(entries)
+            }
             None => {
-                let more = self.any_turns(body, times.greedy, part, exits)?;
-                let entries = self.turns(body, times.least, part, more)?;
+                let more = self.looped(body, part, exits)?;
+                let entries = self.turns(body, times.least - 1, part, more)?;
                 Ok(entries)
             }
             Some(most) if most < times.least => Ok(Gate::nowhere()),
@@ -178,19 +182,24 @@ impl Nodes {
             any_turns _greedy (part_ways part text (pattern_of body.now)) (length text))
             exits self.old.list.items self.new.list.items) }
     {
+        let turn = self.looped(body, part, exits)?;
+        let entries = self.join(turn, exits)?;
+        Ok(entries)
+    }
+
+    /// A turn, and then any number of turns, each of which takes a byte: they lead back into the one.
+    #[cycle(build)]
+    fn looped(&mut self, body: &Pat, part: GroupPart, exits: Gate) -> Result<Gate, NoMemory>
+        requires { IsReady self.old.list.items exits }
+        ensures { IfOk result (IsLooped (λ text. part_ways part text (pattern_of body.now))
+            exits self.old.list.items self.new.list.items) }
+    {
         let again = Point {
             state: self.add(Node::Dead)?,
             ends: exits.moved.ends,
         };
-        let behind = Gate::nowhere().with_moved(again);
-        let turn = self.build(body, part, behind)?;
+        let turn = self.build(body, part, exits.with_moved(again))?;
         self.set(again.state, Node::Fork(exits.moved.state, turn.still.state));
-        let first = self.fork(exits.first, turn.first)?;
-        let still = self.fork(exits.still, turn.still)?;
-        Ok(Gate {
-            first,
-            still,
-            moved: again,
-        })
+        Ok(turn)
     }
 }

@@ -53,7 +53,7 @@ pub fn marked_machine(
 }
 
 /// The number of a place, in the order in which they are first met.
-fn number_of(places: &mut IndexSet<(u32, u32)>, place: (u32, u32)) -> Result<u32, NoMemory>
+pub fn number_of(places: &mut IndexSet<(u32, u32)>, place: (u32, u32)) -> Result<u32, NoMemory>
     ensures { IfOk result (λ number. IsMet IsOne places.old.keys place places.new.keys number) }
 {
     let (index, _) = places.insert_full(place)?;

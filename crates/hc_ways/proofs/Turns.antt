@@ -11,17 +11,17 @@ Below n at way = way.end ≤ max at n
 abbrev pub Bounded : {K : Type 0} → ℕ → Ways K → Type 0
 Bounded {K} n body = (at : ℕ) (held : K) → Each (Below n at) (body at held)
 
-bounded_stop : {K : Type 0} (n : ℕ) → Bounded n (stop {Kept = K})
+pub bounded_stop : {K : Type 0} (n : ℕ) → Bounded n (stop {Kept = K})
 bounded_stop n at held = (omega arith, tt)
 
-bounded_either : {K : Type 0} (n : ℕ) (a b : Ways K) → Bounded n a → Bounded n b → Bounded n (either a b)
+pub bounded_either : {K : Type 0} (n : ℕ) (a b : Ways K) → Bounded n a → Bounded n b → Bounded n (either a b)
 bounded_either n a b first second at held = Each-append (Below n at) (a at held) (b at held) (first at held) (second at held)
 
 raised : {K : Type 0} (n at end : ℕ) → end ≤ max at n → (ways : List (Way K)) → Each (Below n end) ways → Each (Below n at) ways
 raised n at end within [] each = tt
 raised n at end within (way ∷ ways) each = (omega (arith, each.0), raised n at end within ways each.1)
 
-bounded_behind : {K : Type 0} (n : ℕ) (a b : Ways K) → Bounded n a → Bounded n b → Bounded n (behind a b)
+pub bounded_behind : {K : Type 0} (n : ℕ) (a b : Ways K) → Bounded n a → Bounded n b → Bounded n (behind a b)
 bounded_behind n a b first second at held =
     Each-flat_map (Below n at) (Below n at) _ (a at held) (first at held) (λ way within. raised n at way.end within _ (second way.end way.held))
 
@@ -45,11 +45,11 @@ bounded_then : {K : Type 0} (n : ℕ) (body : Ways K) (least : ℕ) (more : Ways
 bounded_then n body zero more each later = later
 bounded_then n body (suc least) more each later = bounded_behind n body _ each (bounded_then n body least more each later)
 
-bounded_if : {K : Type 0} (n : ℕ) (v : Bool) (a : Ways K) → Bounded n a → Bounded n (if v then none else a)
+pub bounded_if : {K : Type 0} (n : ℕ) (v : Bool) (a : Ways K) → Bounded n a → Bounded n (if v then none else a)
 bounded_if n true a each = λ at held. tt
 bounded_if n false a each = each
 
-bounded_repeated : {K : Type 0} (n bytes : ℕ) (body : Ways K) (least : ℕ) (most : Option ℕ) (greedy : Bool) → Bounded n body → Bounded n (repeated bytes body least most greedy)
+pub bounded_repeated : {K : Type 0} (n bytes : ℕ) (body : Ways K) (least : ℕ) (most : Option ℕ) (greedy : Bool) → Bounded n body → Bounded n (repeated bytes body least most greedy)
 bounded_repeated n bytes body least None greedy each = bounded_then n body least _ each (bounded_any n greedy body bytes each)
 bounded_repeated n bytes body least (Some most) greedy each =
     bounded_if n (nat_lt most least) _ (bounded_then n body least _ each (bounded_up_to n greedy body (most - least) each))

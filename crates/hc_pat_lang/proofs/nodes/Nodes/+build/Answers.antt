@@ -1,7 +1,6 @@
-use Rattle.hc_pat_lang.proofs.Common.{◌≡◌, ℕ, [], ◌∙◌, Some, ap, arith, rules, sym, alt, byte, cat, finish, pattern_of, part_ways, Gate, Point}
+use Rattle.hc_pat_lang.proofs.Common.{◌≡◌, ℕ, ◌∙◌, Some, ap, arith, rules, sym, alt, byte, cat, finish, pattern_of, part_ways, Point}
 use Rattle.hc_pat_lang.proofs.Bounds.{bounded_part}
-use Rattle.hc_pat_lang.proofs.Fragmenting.{behind_ready, fragment_any, fragment_behind, fragment_either, fragment_finish, fragment_grouped, fragment_none, fragment_optional, fragment_repeat, fragment_then, fragment_turn}
-use Rattle.hc_pat_lang.proofs.Serving.{behind_turn}
+use Rattle.hc_pat_lang.proofs.Fragmenting.{fragment_behind, fragment_either, fragment_finish, fragment_grouped, fragment_least, fragment_none, fragment_optional, fragment_repeat, fragment_turn, inner_ready, is_looped, looped_any}
 use Rattle.hc_pattern.proofs.Nodes.{is_alt, is_byte, is_cat, is_finish}
 use Rattle.hc_pat_lang.proofs.nodes.Nodes.+build.Goals as goal
 
@@ -32,8 +31,12 @@ pub group-returns : goal.group-returns
 group-returns t c = rw (sym c.leaves_out.ensures ∙ c.if-leaves_out.false) (fragment_grouped c.args.number _ _ _ _ _ c.in_ok-entries.ensures)
 
 pub repeat-returns-in_ok-entries-in-None : goal.repeat-returns-in_ok-entries-in-None
-repeat-returns-in_ok-entries-in-None t c =
-    rw c.in-None.is (fragment_then (λ text. part_ways c.args.part text (pattern_of c.args.body.now)) _ _ _ _ _ _ c.args.times.least _ c.in_ok-more-in-None.ensures c.in_ok-entries-in-None.ensures)
+repeat-returns-in_ok-entries-in-None t c = rw (c.in-None.is, c.if-times-eq0.true) c.in_ok-entries-in-None.ensures
+
+pub repeat-returns-in_ok-entries-in-None-2 : goal.repeat-returns-in_ok-entries-in-None-2
+repeat-returns-in_ok-entries-in-None-2 t c =
+    rw c.in-None-2.is (fragment_least c.args.times.greedy (λ text. part_ways c.args.part text (pattern_of c.args.body.now)) _ _ _ _ _ _ c.args.times.least (let f = c.if-times-eq0.false in omega arith)
+    (λ text. bounded_part c.args.part text (pattern_of c.args.body.now)) c.in_ok-more-in-None-2.ensures c.in_ok-entries-in-None-2.ensures)
 
 pub repeat-returns-in_ok-entries-in-Some-2 : goal.repeat-returns-in_ok-entries-in-Some-2
 repeat-returns-in_ok-entries-in-Some-2 t c =
@@ -45,21 +48,20 @@ repeat-returns-in_ok-entries-in-Some-2 t c =
 pub turns-loop-turn-preserved : goal.turns-loop-turn-preserved
 turns-loop-turn-preserved t c = fragment_turn (λ text. part_ways c.args.part text (pattern_of c.args.body.now)) _ _ _ _ _ _ c.loop-turn._turn c.loop-turn.invariant c.in_ok-gate.ensures
 
-pub any_turns-build-requires : goal.any_turns-build-requires
-any_turns-build-requires t c =
-    let again : Point = record { state = c.in_ok-add.field-0; ends = c.args.exits.moved.ends } in (
-      search rules,
-      behind_ready c.args.self.now.list.items _ c.args.exits _ again c.requires c.in_ok-add.ensures.ok c.in_ok-add.ensures.number
-          (c.with_moved-behind.ensures ∙ ap (λ (g : Gate). record g { moved = again }) c.nowhere.ensures),
-    )
+pub looped-build-requires : goal.looped-build-requires
+looped-build-requires t c =
+    let again : Point = record { state = c.in_ok-add.field-0; ends = c.args.exits.moved.ends } in
+    (search rules, inner_ready c.args.self.now.list.items _ c.args.exits _ again c.requires c.in_ok-add.ensures.ok c.in_ok-add.ensures.number c.with_moved.ensures)
+
+pub looped-returns : goal.looped-returns
+looped-returns t c =
+    is_looped (λ text. part_ways c.args.part text (pattern_of c.args.body.now)) c.args.exits c.in_ok-turn.turn _ _ _ _ _ c.requires c.in_ok-add.ensures.ok
+    (ap (λ (n : ℕ). record { state = n; ends = c.args.exits.moved.ends }) c.in_ok-add.ensures.number)
+    (rw c.with_moved.ensures at c.in_ok-turn.ensures) (rw c.in_ok-add.ensures.number at c.set.ensures)
 
 pub any_turns-returns : goal.any_turns-returns
 any_turns-returns t c =
-    let again : Point = record { state = c.in_ok-add.field-0; ends = c.args.exits.moved.ends } in
-    let behind : c.with_moved-behind.result ≡ behind_turn [] [] again = c.with_moved-behind.ensures ∙ ap (λ (g : Gate). record g { moved = again }) c.nowhere.ensures in
-    fragment_any c.args._greedy (λ text. part_ways c.args.part text (pattern_of c.args.body.now)) c.args.exits c.in_ok-turn.turn again c.in_ok-first.first c.in_ok-still.still _ _ _ _ _ _ (λ text. bounded_part c.args.part text (pattern_of c.args.body.now)) c.requires c.in_ok-add.ensures.ok
-    (ap (λ (n : ℕ). record { state = n; ends = c.args.exits.moved.ends }) c.in_ok-add.ensures.number)
-    (rw behind at c.in_ok-turn.ensures) (rw c.in_ok-add.ensures.number at c.set.ensures) c.in_ok-first.ensures c.in_ok-still.ensures
+    looped_any (λ text. part_ways c.args.part text (pattern_of c.args.body.now)) _ _ _ _ _ _ c.args._greedy (λ text. bounded_part c.args.part text (pattern_of c.args.body.now)) c.requires.below c.in_ok-turn.ensures c.in_ok-entries.ensures
 
 pub turns-returns : goal.turns-returns
 turns-returns t c = (let e : c.loop-turn._turn ≡ c.args.count = omega arith in rw e at c.loop-turn.invariant)
