@@ -15,7 +15,7 @@ pub use Rattle.hc_dfa.specs.Blocks.{RespectsFinals, Refines, IsStable, AreLeader
 pub use Rattle.hc_dfa.specs.Built.{Accepts, AreFirst, IsInOrder, product_of, Includes, inclusion_of, kept, AcceptsImages, complement_of}
 pub use Rattle.hc_dfa.specs.Classings.{Classing, IsAsFine, AreClasses, AreColumns, IsColumn, Tells, TellsByNumber, class_of, class_count, first_of, AreClassesBelow, IsRows}
 unfoldable pub use Rattle.hc_dfa.specs.Classings.{expanded}
-pub use Rattle.hc_dfa.specs.Distances.{Distances, IsBound, IsNearer, IsWalk}
+pub use Rattle.hc_dfa.specs.Distances.{Bounds, Distances, IsNearest, IsSettled, IsWalk}
 pub use Rattle.hc_dfa.specs.Explored.{IsOne, Extends, IsMet, Leads, Explored}
 pub use Rattle.hc_dfa.specs.Machines.{Steps, Reads, IsSilent, PathToFinal, AcceptsPathsOf}
 pub use Rattle.hc_dfa.specs.Pairs.{IsPair, pair_step, PairsExplored}
