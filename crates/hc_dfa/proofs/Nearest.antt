@@ -61,14 +61,6 @@ module _ (a : Automaton) where
                 (b.0, b.1, let l = lower (next_state a t b.0) in omega (arith, b.2)))
           ]
 
-  -- A byte that leads one nearer.
-  pub one_nearer : (d : List ℕ) → Distances a d → (state : ℕ) → state < states a → slice_index d state < NONE → 0 < slice_index d state
-      → (byte : ℕ) × (byte < 256) × (slice_index d state ≡ value_on a d state byte + 1)
-  one_nearer d distances state s some more =
-      let b = distances.bounds.some state s some more in
-      let near = distances.settled state s b.0 b.1 (omega (arith, b.2)) in
-      (b.0, b.1, omega (arith, b.2, near.1))
-
 module _ (a : Automaton) (is : IsAutomaton a) where
   -- A text that is accepted is at least as long as the distance.
   pub no_nearer : (d : List ℕ) → Distances a d → (state : ℕ) (text : List ℕ) → state < states a → IsText text

@@ -107,7 +107,8 @@ fn bring_nearer(a: &Dfa, distances: &mut Vec<u32>, state: u32) -> bool
     requires bounds { Bounds a.now distances.old.items }
     requires state { state < states a.now }
     ensures bounds { Bounds a.now distances.new.items }
-    ensures settled { result ≡ false → (distances.new.items ≡ distances.old.items) × IsSettled a.now distances.new.items state }
+    ensures settled { result ≡ false
+        → (distances.new.items ≡ distances.old.items) × IsSettled a.now distances.new.items state }
 {
     let nearest = nearest(a, a.classes().firsts(), distances, state);
     let own = distances[state as usize];
