@@ -1,82 +1,157 @@
--- Sets of states that grow by one state.
-use Rattle.hc_dfa.proofs.Common.{◌≡◌, ℕ, ◌+◌, ◌<◌, ◌≤◌, ◌∙◌, sym, arith, ◌||◌, ap, refl, subst, not, count_by, length-set, slice_index_or, List, length, slice_set, Bool, true, false, ◌⊎◌, inl, inr, get_or-set_same, get_or-set_other, get_or_default, common_steps, Steps, Reads, IsSilent, Classing, IsAsFine, AreChanges, ArePieces, Marks, Has, IsClosed, IsStep, SilentPath, Follows, TellsSteps, stays, goes_on, ReadingStep, SilentStep}
-use Rattle.std.proofs.Math.Bool.{or-false}
+-- Sets of states that grow.
+use Rattle.hc_dfa.proofs.Common.{◌≡◌, ℕ, ◌+◌, ◌<◌, ◌≤◌, ◌∙◌, sym, arith, ap, refl, subst, slice_index, slice_index_or, List, [], ◌∷◌, ◌++◌, length, length-append, map, slice_set, Bool, true, false, ◌⊎◌, inl, inr, get_or-set_same, get_or-set_other, get_or_default, get_or_append_left, get_or-map, length-map, Contains, Steps, Reads, IsSilent, Classing, IsAsFine, AreChanges, ArePieces, AreSpans, AreStates, HitsAt, ReadsTo, FollowsTo, Some, None, Gathers, GathersAll, Marks, Has, IsClosure, IsStep, SilentPath, TellsSteps, stays, goes_on, ReadingStep, SilentStep, Spans}
 use Rattle.std.proofs.lemmas.Bool.{cases_eq}
+use Rattle.std.proofs.lemmas.List.Elements.{Contains-append_cases, Contains-append_left, Contains-append_right, Contains-get_or}
+use Rattle.std.proofs.lemmas.List.Sorted.{Contains-permutation, IsPermutation-sym}
+use Rattle.std.specs.List.Sorted.{IsPermutation}
+use Rattle.hc_dfa.specs.Machines.{IsMachine}
 
 pub has_added : (set : List Bool) (added state : ℕ) → added < length set → Has set state → Has (slice_set set added true) state
 has_added set added state below has =
     elim (cases_eq state added) [ inl e ↦ rw e (get_or-set_same set added true false below) | inr ne ↦ rw (get_or-set_other set added state true false ne) has ]
 
-pub has_before : (set : List Bool) (added state : ℕ) → added < length set → Has (slice_set set added true) state → (state ≡ added) ⊎ Has set state
-has_before set added state below has =
-    elim (cases_eq state added) [ inl e ↦ inl e | inr ne ↦ inr (rw (get_or-set_other set added state true false ne) at has) ]
+pub gathers_first : (Done Belongs : ℕ → Type 0) (set : List ℕ) → ((x : ℕ) → Done x → ⊥) → Gathers Done Belongs set set
+gathers_first Done Belongs set none = record { keeps = λ x at. at; sound = λ x at. inl at; complete = λ x done. absurd (none x done); front = λ i below. refl; len = omega arith }
 
--- One more state in a set leaves one fewer outside.
-pub fewer_added : (set : List Bool) (added : ℕ) → added < length set → (Has set added → ⊥) → count_by not (slice_set set added true) < count_by not set
-fewer_added set added below out = grind (arith, common_steps)
+-- Nothing new, and what is done now was done before.
+pub gathers_same : (Done More Belongs : ℕ → Type 0) (set more : List ℕ) → Gathers Done Belongs set more → ((x : ℕ) → More x → Done x) → Gathers More Belongs set more
+gathers_same Done More Belongs set more is done =
+    record { keeps = is.keeps; sound = is.sound; complete = λ x m. is.complete x (done x m); front = is.front; len = is.len }
 
-pub silent_append : (m : Steps) (from middle : ℕ) {to : ℕ} → SilentPath m from middle → SilentPath m middle to → SilentPath m from to
-silent_append m from middle front stays = front
-silent_append m from middle front (goes_on path step) = goes_on (silent_append m from middle front path) step
+pub gathers_more : (Done More Belongs New : ℕ → Type 0) (set more next : List ℕ) → Gathers Done Belongs set more → GathersAll New more next
+    → ((x : ℕ) → New x → Belongs x) → ((x : ℕ) → More x → Done x ⊎ New x) → Gathers More Belongs set next
+gathers_more Done More Belongs New set more next is new belongs done = record {
+  keeps = λ x at. new.keeps x (is.keeps x at);
+  sound = λ x at. elim (new.sound x at) [ inl old ↦ is.sound x old | inr n ↦ inr (belongs x n) ];
+  complete = λ x m. elim (done x m) [ inl d ↦ new.keeps x (is.complete x d) | inr n ↦ new.complete x n ];
+  front = λ i below. new.front i (let l = is.len in omega arith) ∙ is.front i below;
+  len = let l = is.len in let k = new.len in omega arith;
+}
 
--- A round over the first silent steps.
-pub record Spreading (m : Steps) (set more : List Bool) (grew : Bool) (count : ℕ) : Type 0 where
-  pub len : length more ≡ length set
-  pub keeps : (state : ℕ) → Has set state → Has more state
-  pub sound : (state : ℕ) → Has more state → (before : ℕ) × Has set before × SilentPath m before state
-  pub closed : grew ≡ false → (k : ℕ) (d : SilentStep) → k < count → Has more (slice_index_or m.silent k d).from → Has more (slice_index_or m.silent k d).to
-  pub most : count_by not more ≤ count_by not set
-  pub fewer : grew ≡ true → count_by not more < count_by not set
+pub gathers_old : (set : List ℕ) (state : ℕ) → Contains set state → GathersAll (λ x. x ≡ state) set set
+gathers_old set state here =
+    record { keeps = λ x at. at; sound = λ x at. inl at; complete = λ x e. subst (λ (y : ℕ). Contains set y) (sym e) here; front = λ i below. refl; len = omega arith }
 
-pub spreading_first : (m : Steps) (set : List Bool) → Spreading m set set false 0
-spreading_first m set = record { len = refl; keeps = λ state has. has; sound = λ state has. (state, has, stays); closed = λ is k d below. absurd (omega arith); most = omega arith; fewer = λ is. absurd (cc) }
-
-pub spreading_more : (m : Steps) (set more next : List Bool) (grew added : Bool) (count : ℕ) (step : SilentStep) → Spreading m set more grew count
-    → count < length m.silent → slice_index_or m.silent count step ≡ step → step.to < length more → Follows step more next added → Spreading m set next (grew || added) (count + 1)
-spreading_more m set more next grew true count step is below at to follows =
-    let new = follows.new refl in
-    let fewer = fewer_added more step.to to new.1 in
-    let silent : IsSilent m step.from step.to = record { step = step; among = (count, below, at); leaves = refl; enters = refl } in
-    rw new.2 (record {
-      len = length-set _ _ _ ∙ is.len;
-      keeps = λ state has. has_added more step.to state to (is.keeps state has);
-      sound = λ state has. elim (has_before more step.to state to has) [
-        | inl e ↦ (let path = is.sound step.from new.0 in (path.0, path.1, rw e (goes_on path.2 silent)))
-        | inr old ↦ is.sound state old
-      ];
-      closed = λ same. absurd (grew_or grew same);
-      most = (let f = is.most in omega arith);
-      fewer = λ yes. (let f = is.most in omega arith);
-    })
+pub gathers_new : (set : List ℕ) (state : ℕ) → GathersAll (λ x. x ≡ state) set (set ++ state ∷ [])
+gathers_new set state = record {
+  keeps = λ x at. Contains-append_left set (state ∷ []) x at;
+  sound = λ x at. elim (Contains-append_cases set (state ∷ []) x at) [ inl old ↦ inl old | inr c ↦ inr (only x c) ];
+  complete = λ x e. Contains-append_right set (state ∷ []) x (0, omega arith, sym e);
+  front = λ i below. get_or_append_left set (state ∷ []) 0 i below;
+  len = let l = length-append set (state ∷ []) in omega arith;
+}
   where
-    grew_or : (g : Bool) → (g || true) ≡ false → ⊥
-    grew_or true same = cc
-    grew_or false same = cc
-spreading_more m set more next grew false count step is below at to follows =
-    let kept = follows.kept refl in
-    rw (kept.1, or-false grew) (record {
-      len = is.len;
-      keeps = is.keeps;
-      sound = is.sound;
-      closed = λ same k d k_below.
-          let cases : (k < count) ⊎ (k ≡ count) = grind arith in
-          elim cases [
-            | inl old ↦ is.closed same k d old
-            | inr e ↦ (let item : slice_index_or m.silent k d ≡ step = ap (λ n. slice_index_or m.silent n d) e ∙ (get_or_default m.silent count d step below ∙ at) in
-                subst (λ (x : SilentStep). Has more x.from → Has more x.to) (sym item) kept.0)
-          ];
-      most = is.most;
-      fewer = is.fewer;
-    })
+    only : (x : ℕ) → Contains (state ∷ []) x → x ≡ state
+    only x c = let e : c.0 ≡ 0 = (let b = c.1 in omega arith) in sym (rw e at c.2)
 
--- A whole round that added nothing leaves a closed set.
-pub spread_closed : (m : Steps) (set more : List Bool) (grew : Bool) (count : ℕ) → Spreading m set more grew count → length m.silent ≤ count → grew ≡ false → IsClosed m more
-spread_closed m set more grew count is all same state next has silent =
-    let k = silent.among.0 in
-    let item = silent.among.2 in
-    let from = subst (λ (x : SilentStep). Has more x.from) (sym item) (subst (λ (x : ℕ). Has more x) (sym silent.leaves) has) in
-    let to = is.closed same k silent.step (let w = silent.among.1 in omega arith) from in
-    subst (λ (x : ℕ). Has more x) silent.enters (subst (λ (x : SilentStep). Has more x.to) item to)
+pub gathers_states : (m : Steps) (set more : List ℕ) (to : ℕ) → AreStates m set → to < m.states → GathersAll (λ x. x ≡ to) set more → AreStates m more
+gathers_states m set more to are below is k d k_below =
+    elim (is.sound (slice_index_or more k d) (Contains-get_or more k d k_below)) [
+      | inl old ↦ subst (λ (y : ℕ). y < m.states) old.2 (are old.0 (slice_index_or more k d) old.1)
+      | inr e ↦ subst (λ (y : ℕ). y < m.states) (sym e) below
+    ]
+
+-- Steps of a list that lead to a state, and stand from one place up to another.
+module _ {X : Type 0} (xs : List X) (Hits : X → ℕ → Type 0) where
+  abbrev pub HitsBetween : ℕ → ℕ → ℕ → Type 0
+  HitsBetween begin end x = (k : ℕ) × (step : X) × (begin ≤ k) × (k < end) × (slice_index_or xs k step ≡ step) × Hits step x
+
+  pub hits_none : (begin x : ℕ) → HitsBetween begin begin x → ⊥
+  hits_none begin x hit = let l = hit.2 in let u = hit.3 in omega arith
+
+  -- What one more step may hit.
+  pub hits_more : (begin at x : ℕ) (here : X) → at < length xs → slice_index_or xs at here ≡ here → HitsBetween begin (at + 1) x
+      → HitsBetween begin at x ⊎ Hits here x
+  hits_more begin at x here below is hit =
+      let cases : (hit.0 < at) ⊎ (hit.0 ≡ at) = (let u = hit.3 in grind arith) in
+      elim cases [
+        | inl old ↦ inl (hit.0, hit.1, hit.2, old, hit.4, hit.5)
+        | inr e ↦
+            (let same : hit.1 ≡ here = sym hit.4 ∙ (ap (λ k. slice_index_or xs k hit.1) e ∙ (get_or_default xs at hit.1 here below ∙ is)) in
+            inr (subst (λ (step : X). Hits step x) same hit.5))
+      ]
+
+  -- After a step that hits nothing, and after one whose state was added.
+  pub hits_nothing : (Belongs : ℕ → Type 0) (begin at : ℕ) (set more : List ℕ) → Gathers (HitsBetween begin at) Belongs set more → at < length xs
+      → HitsAt xs Hits at None → Gathers (HitsBetween begin (at + 1)) Belongs set more
+  hits_nothing Belongs begin at set more is below none =
+      gathers_same (HitsBetween begin at) (HitsBetween begin (at + 1)) Belongs set more is
+      (λ x hit. elim (hits_more begin at x (slice_index_or xs at hit.1) below (get_or_default xs at (slice_index_or xs at hit.1) hit.1 below) hit) [
+        | inl old ↦ old
+        | inr h ↦ absurd (none x (slice_index_or xs at hit.1) (get_or_default xs at (slice_index_or xs at hit.1) hit.1 below) h)
+      ])
+
+  pub hits_one : (Belongs : ℕ → Type 0) (begin at to : ℕ) (set more next : List ℕ) → Gathers (HitsBetween begin at) Belongs set more → at < length xs
+      → HitsAt xs Hits at (Some to) → Belongs to → GathersAll (λ x. x ≡ to) more next → Gathers (HitsBetween begin (at + 1)) Belongs set next
+  hits_one Belongs begin at to set more next is below one belongs new =
+      gathers_more (HitsBetween begin at) (HitsBetween begin (at + 1)) Belongs (λ x. x ≡ to) set more next is new
+      (λ x e. subst Belongs (sym e) belongs)
+      (λ x hit. elim (hits_more begin at x one.0 below one.1 hit) [ inl old ↦ inl old | inr h ↦ inr (one.3 x h) ])
+
+  -- Each step that hits stands in the span of the state that it leaves.
+  pub hits_all : (from : X → ℕ) (count : ℕ) (spans : Spans) → AreSpans count (map from xs) spans → (state end x : ℕ) (step : X) → Contains xs step
+      → from step ≡ state → slice_index spans.ends.items state ≤ end → Hits step x → HitsBetween (slice_index spans.begins.items state) end x
+  hits_all from count spans are state end x step among leaves past hits =
+      let k = among.0 in
+      let below : k < length (map from xs) = (let w = among.1 in omega (arith, length-map xs from)) in
+      let is : slice_index (map from xs) k ≡ state = get_or-map from xs k step 0 among.1 ∙ (ap from among.2 ∙ leaves) in
+      let before = rw is at (are.begins.before k below) in
+      let behind = rw is at (are.ends.behind k below) in
+      (k, step, before, omega arith, among.2, hits)
+
+pub silent_hit : (m : Steps) (state at to : ℕ) → IsMachine m → at < length m.silent → HitsAt m.silent (FollowsTo state) at (Some to) → IsSilent m state to × (to < m.states)
+silent_hit m state at to is below hit = (
+  record { step = hit.0; among = (at, below, hit.1); leaves = hit.2.0; enters = hit.2.1 },
+  subst (λ (y : ℕ). y < m.states) (ap (λ (step : SilentStep). step.to) hit.1 ∙ hit.2.1) (is.silent at hit.0 below).1,
+)
+
+pub reading_hit : (m : Steps) (state byte at to : ℕ) → IsMachine m → at < length m.reading → HitsAt m.reading (ReadsTo state byte) at (Some to) → Reads m state byte to × (to < m.states)
+reading_hit m state byte at to is below hit = (
+  record { step = hit.0; among = (at, below, hit.1); leaves = hit.2.0; low = hit.2.1; high = hit.2.2; enters = hit.2.3 },
+  subst (λ (y : ℕ). y < m.states) (ap (λ (step : ReadingStep). step.to) hit.1 ∙ hit.2.3) (is.reading at hit.0 below).1,
+)
+
+-- What a byte leads to from the first states of the set.
+abbrev pub ReadBelow : Steps → List ℕ → ℕ → ℕ → ℕ → Type 0
+ReadBelow m set byte count x = (k : ℕ) × (k < count) × Reads m (slice_index set k) byte x
+
+-- What silent steps lead to from the first states of the set.
+abbrev pub FollowedBelow : Steps → List ℕ → ℕ → ℕ → Type 0
+FollowedBelow m set count x = (k : ℕ) × (k < count) × IsSilent m (slice_index set k) x
+
+abbrev pub FollowedFrom : Steps → List ℕ → ℕ → Type 0
+FollowedFrom m set x = (before : ℕ) × Contains set before × SilentPath m before x
+
+pub closing_more : (m : Steps) (initial set next : List ℕ) (place state : ℕ) → Gathers (FollowedBelow m set place) (FollowedFrom m initial) initial set
+    → place < length set → slice_index set place ≡ state → GathersAll (IsSilent m state) set next
+    → Gathers (FollowedBelow m next (place + 1)) (FollowedFrom m initial) initial next
+closing_more m initial set next place state is below at new =
+    gathers_more (FollowedBelow m set place) (FollowedBelow m next (place + 1)) (FollowedFrom m initial) (IsSilent m state) initial set next is new
+    (λ x silent. elim (is.sound state (subst (λ (y : ℕ). Contains set y) at (Contains-get_or set place 0 below))) [
+      | inl first ↦ (state, first, goes_on stays silent)
+      | inr path ↦ (path.0, path.1, goes_on path.2 silent)
+    ])
+    (λ x followed.
+    let front = new.front followed.0 (let w = followed.1 in omega arith) in
+    let cases : (followed.0 < place) ⊎ (followed.0 ≡ place) = (let w = followed.1 in grind arith) in
+    elim cases [
+      | inl old ↦ inl (followed.0, old, subst (λ (y : ℕ). IsSilent m y x) front followed.2)
+      | inr e ↦ inr (subst (λ (y : ℕ). IsSilent m y x) (front ∙ (ap (λ k. slice_index set k) e ∙ at)) followed.2)
+    ])
+
+pub closing_done : (m : Steps) (initial set sorted : List ℕ) (place : ℕ) → Gathers (FollowedBelow m set place) (FollowedFrom m initial) initial set
+    → length set ≤ place → IsPermutation set sorted → IsClosure m initial sorted
+closing_done m initial set sorted place is all moved =
+    let to = λ (x : ℕ). Contains-permutation set sorted x moved in
+    let back = λ (x : ℕ). Contains-permutation sorted set x (IsPermutation-sym set sorted moved) in
+    record {
+      keeps = λ x at. to x (is.keeps x at);
+      sound = λ x at. elim (is.sound x (back x at)) [ inl first ↦ (x, first, stays) | inr path ↦ path ];
+      closed = λ state next at silent.
+          let here = back state at in
+          let same : slice_index set here.0 ≡ state = get_or_default set here.0 0 state here.1 ∙ here.2 in
+          to next (is.complete next (here.0, (let w = here.1 in omega arith), subst (λ (y : ℕ). IsSilent m y next) (sym same) silent));
+    }
 
 -- Two bytes with no change between them are read by the same steps.
 module _ (m : Steps) (changes : List Bool) (are : AreChanges m changes) (b d : ℕ) (ordered : b ≤ d)
@@ -106,13 +181,12 @@ module _ (m : Steps) (changes : List Bool) (are : AreChanges m changes) (b d : �
       }
 
 -- Bytes that are read by the same steps lead to the same sets.
-step_alike : (m : Steps) (from to : List Bool) (b d : ℕ) → ((before state : ℕ) → Reads m before b state → Reads m before d state)
+step_alike : (m : Steps) (from to : List ℕ) (b d : ℕ) → ((before state : ℕ) → Reads m before b state → Reads m before d state)
     → ((before state : ℕ) → Reads m before d state → Reads m before b state) → IsStep m from b to → IsStep m from d to
 step_alike m from to b d later earlier step = record {
   read = step.read;
   closes = step.closes;
   reads = record {
-    len = step.reads.len;
     sound = λ state has. let r = step.reads.sound state has in (r.0, r.1, later r.0 state r.2);
     complete = λ before state has reads. step.reads.complete before state has (earlier before state reads);
   };

@@ -15,14 +15,16 @@ pub use Rattle.hc_dfa.specs.Blocks.{RespectsFinals, Refines, IsStable, AreLeader
 pub use Rattle.hc_dfa.specs.Built.{Accepts, AreFirst, IsInOrder, product_of, Includes, inclusion_of, kept, AcceptsImages, complement_of}
 pub use Rattle.hc_dfa.specs.Classings.{Classing, IsAsFine, AreClasses, AreColumns, IsColumn, Tells, TellsByNumber, class_of, class_count, first_of, AreClassesBelow, IsRows}
 unfoldable pub use Rattle.hc_dfa.specs.Classings.{expanded}
-pub use Rattle.hc_dfa.specs.Distances.{Distances, IsBound, IsNearer, IsWalk}
+pub use Rattle.hc_dfa.specs.Distances.{Bounds, Distances, IsNearest, IsSettled, IsWalk}
 pub use Rattle.hc_dfa.specs.Explored.{IsOne, Extends, IsMet, Leads, Explored}
 pub use Rattle.hc_dfa.specs.Machines.{Steps, Reads, IsSilent, PathToFinal, AcceptsPathsOf}
 pub use Rattle.hc_dfa.specs.Pairs.{IsPair, pair_step, PairsExplored}
-pub use Rattle.hc_dfa.specs.Sets.{AreChanges, ArePieces, Marks, Has, IsClosed, IsStep, SilentPath, Follows, TellsSteps, IsSetOf, IsClosure, IsProper, IsMark, IsSameSet, SetsExplored, IsRead}
+pub use Rattle.hc_dfa.specs.Sets.{AreChanges, AreMoves, ArePieces, AreStates, FollowsTo, Gathers, GathersAll, HitsAt, ReadsTo, Marks, Has, IsClosed, IsStep, SilentPath, TellsSteps, IsSetOf, IsClosure, IsProper, IsMark, SetsExplored, IsRead}
 pub use Rattle.hc_dfa.specs.Sets.SilentPath.{stays, goes_on}
 pub use Rattle.hc_dfa.specs.Singles.{single, single_step, IsSingle, is_among, AreFound}
 pub use Rattle.hc_dfa.specs.Texts.{IsText, TextSet, IsEmptySet, IsLeast, comes_before, byte_order, IsLeastOf}
+pub use Rattle.hc_dfa.specs.Spans.{AreSpans}
+pub use Rattle.hc_dfa.specs.declared.spans.Spans.{Spans}
 pub use Rattle.hc_dfa.specs.declared.leasts.TheConstants.{NONE}
 pub use Rattle.hc_dfa.specs.declared.machine.ReadingStep.{ReadingStep}
 pub use Rattle.hc_dfa.specs.declared.machine.SilentStep.{SilentStep}

@@ -1,5 +1,5 @@
 -- Automata whose states with the same test are made one.
-use Rattle.hc_dfa.proofs.Common.{◌≡◌, ℕ, ◌<◌, List, length, slice_index, Bool, true, false, ◌&&◌, refl, sym, ◌∙◌, ap, subst, arith, Some, slice_get, ◌≤◌, Vec, slice_get_within, Global, Automaton, states, next_state, accepts, value_on, RespectsFinals, Refines, IsStable, AreLeaders, IsSignature, Represents, Accepts, product_of, Both, Classing, AreClasses, Tells, class_of}
+use Rattle.hc_dfa.proofs.Common.{◌≡◌, ℕ, ◌<◌, List, length, slice_index, Bool, true, false, ◌&&◌, refl, sym, ◌∙◌, ap, subst, arith, Some, slice_get, ◌≤◌, Vec, slice_get_within, Global, Automaton, states, next_state, accepts, value_on, RespectsFinals, Refines, IsStable, AreLeaders, IsSignature, Represents, Bounds, is_final, Accepts, product_of, Both, Classing, AreClasses, Tells, class_of}
 use Rattle.hc_dfa.proofs.Runs.{IsAutomaton, next_within, simulated}
 use Rattle.hc_dfa.proofs.Tables.{stands_for}
 
@@ -37,9 +37,24 @@ both_same : (answer : Bool) → (answer && answer) ≡ answer
 both_same true = refl
 both_same false = refl
 
-pub reduced : (a met merged made : Automaton) → Accepts met (product_of Both a a) → Accepts merged (accepts met) → Accepts made (product_of Both merged merged) → Accepts made (accepts a)
-reduced a met merged made first second third text bytes =
-    third text bytes ∙ (both_same (accepts merged text) ∙ (second text bytes ∙ (first text bytes ∙ both_same (accepts a text))))
+pub reduced : (a merged made : Automaton) → Accepts merged (accepts a) → Accepts made (product_of Both merged merged) → Accepts made (accepts a)
+reduced a merged made first second text bytes = second text bytes ∙ (both_same (accepts merged text) ∙ first text bytes)
+
+-- States with one pair of distances are both final, or none is.
+abbrev pub IsPaired : List ℕ → List (ℕ × ℕ) → ℕ → ℕ → Type 0
+IsPaired d pairs state number = (other : ℕ) × (slice_get pairs number ≡ Some (slice_index d state, other))
+
+pub distances_tell : (a : Automaton) (d blocks : List ℕ) (pairs : List (ℕ × ℕ)) → Bounds a d → ((s : ℕ) → s < states a → IsPaired d pairs s (slice_index blocks s))
+    → RespectsFinals a blocks
+distances_tell a d blocks pairs bounds each s t sb tb same =
+    let pair : (slice_index d s, (each s sb).0) ≡ (slice_index d t, (each t tb).0) = (let x = (each s sb).1 in let y = (each t tb).1 in cc) in
+    let one : slice_index d s ≡ slice_index d t = ap (λ (p : ℕ × ℕ). p.0) pair in
+    same_answers (is_final a s) (is_final a t) (λ final. bounds.zero t tb (sym one ∙ bounds.finals s sb final)) (λ final. bounds.zero s sb (one ∙ bounds.finals t tb final))
+  where
+    same_answers : (x y : Bool) → (x ≡ true → y ≡ true) → (y ≡ true → x ≡ true) → x ≡ y
+    same_answers true y to from = sym (to refl)
+    same_answers false true to from = from refl
+    same_answers false false to from = refl
 
 -- Each state's number is that of its signature.
 abbrev pub AreNumbered : Automaton → List ℕ → List ℕ → List (Vec ℕ Global) → ℕ → ℕ → Type 0

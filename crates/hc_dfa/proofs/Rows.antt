@@ -1,6 +1,5 @@
 -- Automata that are built row by row from keys.
-use Rattle.hc_dfa.proofs.Common.{◌≡◌, ℕ, ◌+◌, ◌*◌, ◌/◌, ◌%◌, ◌<◌, ◌≤◌, List, [], ◌∷◌, ◌++◌, length, get_or, Some, None, slice_get, slice_index, refl, sym, ◌∙◌, ap, subst, arith, inl, inr, ◌⊎◌, Bool, true, false, ◌^◌, if◌then◌else◌, length-append, common_steps, div-mul-add, mod-mul-add, get_or_append_left, list_any, pointwise, get_or-append_seam, slice_get_within, slice_get-get_or, slice_get_cases, get_or_from_slice_get, Classing, AreClasses, IsRows, class_count, Extends, IsMet, Leads, Explored}
-use Rattle.std.proofs.Math.Bool.{beq}
+use Rattle.hc_dfa.proofs.Common.{◌≡◌, ℕ, ◌+◌, ◌*◌, ◌/◌, ◌%◌, ◌<◌, ◌≤◌, List, [], ◌∷◌, ◌++◌, length, get_or, Some, None, slice_get, slice_index, sym, ◌∙◌, ap, subst, arith, inl, inr, ◌⊎◌, Bool, true, false, ◌^◌, if◌then◌else◌, length-append, common_steps, div-mul-add, mod-mul-add, get_or_append_left, list_any, get_or-append_seam, slice_get_within, slice_get-get_or, slice_get_cases, get_or_from_slice_get, Classing, AreClasses, IsRows, class_count, Extends, IsMet, Leads, Explored}
 use Rattle.indexmap.specs.IndexSet.{insert_key}
 
 -- Where no key stands, the keys have ended.
@@ -41,16 +40,6 @@ met_inserted {K} eq Same law keys key more number inserted stored =
           | inl old ↦ inl (slice_get-get_or keys i k old ∙ (ap Some (sym (get_or_append_left keys (key ∷ []) k i old) ∙ is)))
           | inr last ↦ inr (sym is ∙ rw last (get_or-append_seam keys key [] k))
         ]
-
--- Two lists of marks that compare as equal are one.
-pub same_marks : (xs ys : List Bool) → pointwise beq xs ys ≡ true → xs ≡ ys
-same_marks [] [] same = refl
-same_marks [] (y ∷ ys) same = absurd (cc)
-same_marks (x ∷ xs) [] same = absurd (cc)
-same_marks (true ∷ xs) (true ∷ ys) same = ap (λ rest. true ∷ rest) (same_marks xs ys same)
-same_marks (true ∷ xs) (false ∷ ys) same = absurd (cc)
-same_marks (false ∷ xs) (true ∷ ys) same = absurd (cc)
-same_marks (false ∷ xs) (false ∷ ys) same = ap (λ rest. false ∷ rest) (same_marks xs ys same)
 
 module _ {K : Type 0} (width : ℕ) (Same : K → K → Type 0) (Proper : K → Type 0) (Step : K → ℕ → K → Type 0) where
   -- A cell that leads on still does when keys are added.

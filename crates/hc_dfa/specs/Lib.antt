@@ -9,4 +9,5 @@ pub mod Machines
 pub mod Pairs
 pub mod Sets
 pub mod Singles
+pub mod Spans
 pub mod Texts

@@ -1,32 +1,60 @@
--- Sets of a machine's states, as a mark for each state.
-use Rattle.std.specs.Prelude.{◌≡◌, ℕ, ◌+◌, ◌<◌, ◌≤◌, List, length, count_by, not, slice_index, slice_index_or, Bool, true, false, slice_get, slice_set, Option, None, Some, Vec}
-use Rattle.std.specs.List.{Contains}
+-- Sets of a machine's states, as lists.
+use Rattle.std.specs.Prelude.{◌≡◌, ℕ, ◌+◌, ◌<◌, ◌≤◌, ◌⊎◌, List, length, map, slice_index, slice_index_or, Bool, true, false, slice_get, Option, None, Some, Vec}
+use Rattle.std.specs.List.{All, Contains}
 use Rattle.std.specs.declared.alloc.Global.{Global}
 use Rattle.hc_dfa.specs.Classings.{Classing, class_of}
 use Rattle.hc_dfa.specs.Explored.{Explored}
 use Rattle.hc_dfa.specs.Machines.{Steps, Reads, IsSilent}
 use Rattle.hc_dfa.specs.declared.machine.ReadingStep.{ReadingStep}
 use Rattle.hc_dfa.specs.declared.machine.SilentStep.{SilentStep}
+use Rattle.hc_dfa.specs.Spans.{AreSpans}
+use Rattle.hc_dfa.specs.declared.spans.Spans.{Spans}
+use Rattle.hc_dfa.specs.declared.subsets.Moves.{Moves}
 
--- The state is in the set.
+-- The mark at the place is set.
 abbrev pub Has : List Bool → ℕ → Type 0
-Has set state = slice_index_or set state false ≡ true
+Has marks place = slice_index_or marks place false ≡ true
 
--- The set has exactly the states of the list.
+-- The states of the list are marked, and no other.
 pub record IsSetOf (count : ℕ) (states : List ℕ) (set : List Bool) : Type 0 where
   pub len : length set ≡ count
   pub sound : (state : ℕ) → Has set state → Contains states state
   pub complete : (state : ℕ) → Contains states state → Has set state
 
+-- The second list is the first with states behind it: with all that are done, and none that doesn't belong there.
+pub record Gathers (Done Belongs : ℕ → Type 0) (set more : List ℕ) : Type 0 where
+  pub keeps : (state : ℕ) → Contains set state → Contains more state
+  pub sound : (state : ℕ) → Contains more state → Contains set state ⊎ Belongs state
+  pub complete : (state : ℕ) → Done state → Contains more state
+  pub front : (i : ℕ) → i < length set → slice_index more i ≡ slice_index set i
+  pub len : length set ≤ length more
+
+abbrev pub GathersAll : (ℕ → Type 0) → List ℕ → List ℕ → Type 0
+GathersAll Belongs set more = Gathers Belongs Belongs set more
+
+abbrev pub ReadsTo : ℕ → ℕ → ReadingStep → ℕ → Type 0
+ReadsTo state byte step x = (step.from ≡ state) × (step.low ≤ byte) × (byte ≤ step.high) × (step.to ≡ x)
+
+abbrev pub FollowsTo : ℕ → SilentStep → ℕ → Type 0
+FollowsTo state step x = (step.from ≡ state) × (step.to ≡ x)
+
+-- The state that the step at this place hits, if it hits one.
+abbrev pub HitsAt : {X : Type 0} → List X → (X → ℕ → Type 0) → ℕ → Option ℕ → Type 0
+HitsAt {X} xs Hits at None = (x : ℕ) (step : X) → slice_index_or xs at step ≡ step → Hits step x → ⊥
+HitsAt {X} xs Hits at (Some to) = (step : X) × (slice_index_or xs at step ≡ step) × Hits step to × ((x : ℕ) → Hits step x → x ≡ to)
+
 -- The second set has exactly the states that a byte leads to from the first.
-pub record IsRead (m : Steps) (from : List Bool) (byte : ℕ) (to : List Bool) : Type 0 where
-  pub len : length to ≡ m.states
-  pub sound : (state : ℕ) → Has to state → (before : ℕ) × Has from before × Reads m before byte state
-  pub complete : (before state : ℕ) → Has from before → Reads m before byte state → Has to state
+pub record IsRead (m : Steps) (from : List ℕ) (byte : ℕ) (to : List ℕ) : Type 0 where
+  pub sound : (state : ℕ) → Contains to state → (before : ℕ) × Contains from before × Reads m before byte state
+  pub complete : (before state : ℕ) → Contains from before → Reads m before byte state → Contains to state
+
+-- Each number is one of the machine's states.
+abbrev pub AreStates : Steps → List ℕ → Type 0
+AreStates m set = All (λ (state : ℕ). state < m.states) set
 
 -- No silent step leads out of the set.
-abbrev pub IsClosed : Steps → List Bool → Type 0
-IsClosed m set = (state next : ℕ) → Has set state → IsSilent m state next → Has set next
+abbrev pub IsClosed : Steps → List ℕ → Type 0
+IsClosed m set = (state next : ℕ) → Contains set state → IsSilent m state next → Contains set next
 
 -- A path of silent steps.
 pub data SilentPath (m : Steps) (from : ℕ) : ℕ → Type 0 where
@@ -34,35 +62,34 @@ pub data SilentPath (m : Steps) (from : ℕ) : ℕ → Type 0 where
   goes_on : {state next : ℕ} → SilentPath m from state → IsSilent m state next → SilentPath m from next
 
 -- The second set is the first with all that silent steps lead to.
-pub record IsClosure (m : Steps) (set closure : List Bool) : Type 0 where
-  pub len : length closure ≡ length set
-  pub keeps : (state : ℕ) → Has set state → Has closure state
-  pub sound : (state : ℕ) → Has closure state → (before : ℕ) × Has set before × SilentPath m before state
+pub record IsClosure (m : Steps) (set closure : List ℕ) : Type 0 where
+  pub keeps : (state : ℕ) → Contains set state → Contains closure state
+  pub sound : (state : ℕ) → Contains closure state → (before : ℕ) × Contains set before × SilentPath m before state
   pub closed : IsClosed m closure
 
--- What following one silent step leaves, and whether it added a state.
-pub record Follows (step : SilentStep) (set more : List Bool) (added : Bool) : Type 0 where
-  pub new : added ≡ true → Has set step.from × (Has set step.to → ⊥) × (more ≡ slice_set set step.to true)
-  pub kept : added ≡ false → (Has set step.from → Has set step.to) × (more ≡ set)
-
--- What one round over the silent steps leaves, and whether it added a state.
-pub record Spreads (m : Steps) (set more : List Bool) (grew : Bool) : Type 0 where
-  pub len : length more ≡ length set
-  pub keeps : (state : ℕ) → Has set state → Has more state
-  pub sound : (state : ℕ) → Has more state → (before : ℕ) × Has set before × SilentPath m before state
-  pub closed : grew ≡ false → IsClosed m more
-  pub fewer : grew ≡ true → count_by not more < count_by not set
-
 -- A set that stands for a state of the automaton.
-pub record IsProper (m : Steps) (set : List Bool) : Type 0 where
-  pub len : length set ≡ m.states
+pub record IsProper (m : Steps) (set : List ℕ) : Type 0 where
+  pub states : AreStates m set
   pub closed : IsClosed m set
 
 -- A byte leads from the first set to the second.
-pub record IsStep (m : Steps) (from : List Bool) (byte : ℕ) (to : List Bool) : Type 0 where
-  pub read : List Bool
+pub record IsStep (m : Steps) (from : List ℕ) (byte : ℕ) (to : List ℕ) : Type 0 where
+  pub read : List ℕ
   pub reads : IsRead m from byte read
   pub closes : IsClosure m read to
+
+-- Where the machine's steps stand, by the states that they leave.
+abbrev pub AreReadingSpans : Steps → Spans → Type 0
+AreReadingSpans m spans = AreSpans m.states (map (λ (step : ReadingStep). step.from) m.reading) spans
+
+abbrev pub AreSilentSpans : Steps → Spans → Type 0
+AreSilentSpans m spans = AreSpans m.states (map (λ (step : SilentStep). step.from) m.silent) spans
+
+-- Both, and a place for each state.
+pub record AreMoves (m : Steps) (moves : Moves) : Type 0 where
+  pub reading : AreReadingSpans m moves.reading
+  pub silent : AreSilentSpans m moves.silent
+  pub places : length moves.places.items ≡ m.states
 
 -- What marking one reading step leaves.
 pub record Marks (step : ReadingStep) (changes more : List Bool) : Type 0 where
@@ -78,18 +105,14 @@ pub record AreChanges (m : Steps) (changes : List Bool) : Type 0 where
   pub high : (step : ReadingStep) → Contains m.reading step → Has changes (step.high + 1)
 
 -- The answer tells whether the set has one of the states.
-pub record IsMark (states : List ℕ) (set : List Bool) (answer : Bool) : Type 0 where
-  pub found : answer ≡ true → (state : ℕ) × Has set state × Contains states state
-  pub none : (state : ℕ) → Has set state → Contains states state → answer ≡ true
-
--- Two vectors have the same marks.
-abbrev pub IsSameSet : Vec Bool Global → Vec Bool Global → Type 0
-IsSameSet set other = set.items ≡ other.items
+pub record IsMark (states : List ℕ) (set : List ℕ) (answer : Bool) : Type 0 where
+  pub found : answer ≡ true → (state : ℕ) × Contains set state × Contains states state
+  pub none : (state : ℕ) → Contains set state → Contains states state → answer ≡ true
 
 -- The copy of the set that stands at a place of the list; none past its end.
-abbrev pub IsSetAt : List (Vec Bool Global) → ℕ → Option (Vec Bool Global) → Type 0
+abbrev pub IsSetAt : List (Vec ℕ Global) → ℕ → Option (Vec ℕ Global) → Type 0
 IsSetAt sets i None = length sets ≤ i
-IsSetAt sets i (Some set) = (stored : Vec Bool Global) × (slice_get sets i ≡ Some stored) × (stored.items ≡ set.items)
+IsSetAt sets i (Some set) = (stored : Vec ℕ Global) × (slice_get sets i ≡ Some stored) × (stored.items ≡ set.items)
 
 -- Bytes with the same number have no change between them, nor at the later one.
 abbrev pub ArePieces : List Bool → ℕ → List ℕ → Type 0
@@ -99,9 +122,9 @@ ArePieces changes count numbers =
 -- Bytes of one class lead from each set to the same sets.
 abbrev pub TellsSteps : Steps → Classing → Type 0
 TellsSteps m c =
-    (from to : List Bool) (b d : ℕ) → b < 256 → d < 256 → class_of c b ≡ class_of c d → IsStep m from b to → IsStep m from d to
+    (from to : List ℕ) (b d : ℕ) → b < 256 → d < 256 → class_of c b ≡ class_of c d → IsStep m from b to → IsStep m from d to
 
 -- The rows made so far have an entry for each of these bytes.
-abbrev pub SetsExplored : Steps → List ℕ → List (Vec Bool Global) → List ℕ → Type 0
+abbrev pub SetsExplored : Steps → List ℕ → List (Vec ℕ Global) → List ℕ → Type 0
 SetsExplored m bytes sets next =
     Explored (length bytes) (λ set. IsProper m set.items) (λ from k to. IsStep m from.items (slice_index bytes k) to.items) sets next

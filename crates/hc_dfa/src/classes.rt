@@ -3,9 +3,7 @@ ghost use Rattle.std.specs.Prelude.{vec_len, IfOk};
 ghost use Rattle.hc_dfa.specs.Classings.{AreClasses, IsAsFine, class_count, class_of, first_of};
 
 use crate::dfa::BYTES;
-use crate::numbers::number_of;
 use hc_base::NoMemory;
-use indexmap::IndexSet;
 use std::alloc::Global;
 use std::marker::Model;
 
@@ -63,11 +61,11 @@ impl Classes {
         ensures first { IfOk result (λ classes. IsAsFine classes a.now.classes) }
         ensures second { IfOk result (λ classes. IsAsFine classes b.now.classes) }
     {
-        let mut pairs = IndexSet::new(alloc);
         let mut numbers = Vec::new(alloc);
         for byte in 0..BYTES {
-            let pair = (a.class_of(byte as u8), b.class_of(byte as u8));
-            numbers.push(number_of(&mut pairs, pair)?)?;
+            let first = u32::from(a.class_of(byte as u8));
+            let second = u32::from(b.class_of(byte as u8));
+            numbers.push(256 * first + second)?;
         }
         let classes = Classes::of_numbers(alloc, &numbers)?;
         Ok(classes)

@@ -1,7 +1,7 @@
-ghost use Rattle.std.specs.Prelude.{◌≡◌, ℕ, ◌+◌, ◌<◌, ◌≤◌, slice_index, length, vec_len, IfOk};
+ghost use Rattle.std.specs.Prelude.{◌≡◌, ℕ, ◌+◌, ◌<◌, false, slice_index, length, IfOk};
 ghost use Rattle.hc_dfa.specs.Automata.{Automaton, states, next_state, is_final, accepts, IsTable, value_on};
 ghost use Rattle.hc_dfa.specs.Classings.{Classing, AreClasses, Tells};
-ghost use Rattle.hc_dfa.specs.Distances.{Distances, IsBound, IsFirstTo, IsNearer};
+ghost use Rattle.hc_dfa.specs.Distances.{Bounds, Distances, IsFirstTo, IsNearest, IsSettled};
 ghost use Rattle.hc_dfa.specs.Texts.{IsLeastOf};
 
 use crate::{Dfa, Member};
@@ -31,7 +31,7 @@ pub fn least(alloc: Global, a: &Dfa) -> Result<Option<Member>, NoMemory>
 
 /// The first byte that leads from a state one nearer to a final one.
 fn first_step(a: &Dfa, distances: &[u32], state: u32) -> u8
-    requires distances { (round : ℕ) × Distances a.now distances.now round }
+    requires distances { Distances a.now distances.now }
     requires state { state < states a.now }
     requires more { 0 < slice_index distances.now state }
     requires some { slice_index distances.now state < NONE }
@@ -62,24 +62,20 @@ fn first_to(a: &Dfa, bytes: &[u8], distances: &[u32], state: u32, distance: u32)
 }
 
 /// The distance of each state to the nearest final one.
-fn distances(alloc: Global, a: &Dfa) -> Result<Vec<u32>, NoMemory>
-    ensures { IfOk result (λ found. (round : ℕ) × Distances a.now found.items (round + 1)
-        × IsBound a.now found.items round) }
+pub(crate) fn distances(alloc: Global, a: &Dfa) -> Result<Vec<u32>, NoMemory>
+    ensures { IfOk result (λ found. Distances a.now found.items) }
 {
     let mut distances = at_finals(alloc, a)?;
-    for round in 0..NONE - 1 {
-        let nearer = after_round(alloc, a, &distances, round)?;
-        if nearer == distances {
+    for _pass in 0..u32::MAX {
+        if !bring_all_nearer(a, &mut distances) {
             return Ok(distances);
         }
-        distances = nearer;
     }
     Err(NoMemory)
 }
 
 fn at_finals(alloc: Global, a: &Dfa) -> Result<Vec<u32>, NoMemory>
-    ensures distances { IfOk result (λ found. Distances a.now found.items 0) }
-    ensures bound { IfOk result (λ found. IsBound a.now found.items 0) }
+    ensures { IfOk result (λ found. Bounds a.now found.items) }
 {
     let mut distances = Vec::new(alloc);
     for state in 0..a.states() {
@@ -88,32 +84,58 @@ fn at_finals(alloc: Global, a: &Dfa) -> Result<Vec<u32>, NoMemory>
     Ok(distances)
 }
 
-/// The distances with those that are one more than the round.
-fn after_round(alloc: Global, a: &Dfa, distances: &[u32], round: u32) -> Result<Vec<u32>, NoMemory>
-    requires distances { Distances a.now distances.now round }
-    requires bound { IsBound a.now distances.now round }
-    requires round { round + 1 < NONE }
-    ensures distances { IfOk result (λ found. Distances a.now found.items (round + 1)) }
-    ensures bound { IfOk result (λ found. IsBound a.now found.items (round + 1)) }
+/// Brings states nearer, in one pass from the last one on: mostly states lead on to later ones. Tells
+/// whether there was one to be brought nearer.
+fn bring_all_nearer(a: &Dfa, distances: &mut Vec<u32>) -> bool
+    requires { Bounds a.now distances.old.items }
+    ensures bounds { Bounds a.now distances.new.items }
+    ensures all { result ≡ false → Distances a.now distances.new.items }
 {
-    let mut nearer = Vec::new(alloc);
-    for state in 0..a.states() {
-        nearer.push(after_step(a, distances, round, state))?;
+    let mut some = false;
+    for later in 0..a.states() {
+        let moved = bring_nearer(a, distances, a.states() - 1 - later);
+        if !moved {
+            continue;
+        }
+        some = true;
     }
-    Ok(nearer)
+    some
 }
 
-fn after_step(a: &Dfa, distances: &[u32], round: u32, state: u32) -> u32
+/// Brings a state nearer where a byte leads to a nearer one. Tells whether one does.
+fn bring_nearer(a: &Dfa, distances: &mut Vec<u32>, state: u32) -> bool
+    requires bounds { Bounds a.now distances.old.items }
+    requires state { state < states a.now }
+    ensures bounds { Bounds a.now distances.new.items }
+    ensures settled { result ≡ false
+        → (distances.new.items ≡ distances.old.items) × IsSettled a.now distances.new.items state }
+{
+    let nearest = nearest(a, a.classes().firsts(), distances, state);
+    let own = distances[state as usize];
+    if nearest == NONE {
+        return false;
+    }
+    if own < NONE && own <= nearest + 1 {
+        return false;
+    }
+    distances[state as usize] = nearest + 1;
+    true
+}
+
+/// The least distance of the states that bytes lead to. Asked are the least bytes of classes.
+fn nearest(a: &Dfa, bytes: &[u8], distances: &[u32], state: u32) -> u32
+    requires bytes { (c : Classing) × (c.firsts ≡ bytes.now) × AreClasses c × Tells c a.now }
     requires len { length distances.now ≡ states a.now }
     requires state { state < states a.now }
-    requires round { round < NONE }
-    ensures { IsNearer a.now distances.now round state result }
+    ensures { IsNearest a.now distances.now state result }
 {
-    if distances[state as usize] < NONE {
-        return distances[state as usize];
+    let mut nearest = NONE;
+    for byte in bytes {
+        let distance = distances[a.next_state(state, *byte) as usize];
+        if nearest <= distance {
+            continue;
+        }
+        nearest = distance;
     }
-    match first_to(a, a.classes().firsts(), distances, state, round) {
-        Some(_) => round + 1,
-        None => NONE,
-    }
+    nearest
 }

@@ -14,6 +14,7 @@ mod member;
 mod numbers;
 mod products;
 mod reduced;
+mod spans;
 mod subsets;
 
 pub use dfa::{Dfa, complement};

@@ -1,7 +1,6 @@
 ghost use Rattle.std.specs.Prelude.{◌≡◌, true, IfOk};
 ghost use Rattle.hc_dfa.specs.Blocks.{IsSameList};
 ghost use Rattle.hc_dfa.specs.Explored.{IsMet, IsOne};
-ghost use Rattle.hc_dfa.specs.Sets.{IsSameSet};
 
 use hc_base::NoMemory;
 use indexmap::IndexSet;
@@ -13,17 +12,6 @@ pub fn number_of<K: Eq + Hash + Drop>(keys: &mut IndexSet<K>, key: K) -> Result<
     ensures { IfOk result (λ number. IsMet IsOne keys.old.keys key keys.new.keys number) }
 {
     let (index, _) = keys.insert_full(key)?;
-    match u32::try_from(index) {
-        Ok(number) => Ok(number),
-        Err(_) => Err(NoMemory),
-    }
-}
-
-/// The same for sets, which are the same where they have the same marks.
-pub fn number_of_set(sets: &mut IndexSet<Vec<bool>>, set: Vec<bool>) -> Result<u32, NoMemory>
-    ensures { IfOk result (λ number. IsMet IsSameSet sets.old.keys set sets.new.keys number) }
-{
-    let (index, _) = sets.insert_full(set)?;
     match u32::try_from(index) {
         Ok(number) => Ok(number),
         Err(_) => Err(NoMemory),

@@ -4,22 +4,23 @@ ghost use Rattle.hc_dfa.specs.Blocks.{IsSignature, IsStable, AreLeaders, Refines
 ghost use Rattle.hc_dfa.specs.Built.{Accepts};
 
 use crate::coarse::coarsened;
-use crate::dfa::led;
-use crate::numbers::number_of_list;
+use crate::dfa::{complement, led};
+use crate::leasts::distances;
+use crate::numbers::{number_of, number_of_list};
 use crate::{Dfa, Keep, product};
 use hc_base::NoMemory;
 use indexmap::IndexSet;
 use std::alloc::Global;
 
-/// The automaton with the same test that has the fewest states: of those that can be reached, the
-/// ones with the same test are made one. That they are the fewest is tested, and no contract says it.
+/// The automaton with the same test that has the fewest states: the ones with the same test are made
+/// one, and those that can't be reached are left out. That they are the fewest is tested, and no
+/// contract says it.
 pub fn reduce(alloc: Global, a: &Dfa) -> Result<Dfa, NoMemory>
     ensures { IfOk result (λ made. Accepts made (accepts a.now)) }
 {
-    let met = product(alloc, a, a, Keep::Both)?;
-    let merged = merge(alloc, &met)?;
-    let again = product(alloc, &merged, &merged, Keep::Both)?;
-    let reduced = coarsened(alloc, &again)?;
+    let merged = merge(alloc, a)?;
+    let met = product(alloc, &merged, &merged, Keep::Both)?;
+    let reduced = coarsened(alloc, &met)?;
     Ok(reduced)
 }
 
@@ -55,7 +56,7 @@ fn stable_blocks(alloc: Global, a: &Dfa) -> Result<Vec<u32>, NoMemory>
     ensures { IfOk result (λ blocks. IsStable a.now blocks.items) }
 {
     let bytes = a.classes().firsts();
-    let mut blocks = by_finals(alloc, a)?;
+    let mut blocks = by_distances(alloc, a)?;
     for _round in 0..u32::MAX {
         let finer = refine(alloc, a, bytes, &blocks)?;
         if finer == blocks {
@@ -66,13 +67,19 @@ fn stable_blocks(alloc: Global, a: &Dfa) -> Result<Vec<u32>, NoMemory>
     Err(NoMemory)
 }
 
-fn by_finals(alloc: Global, a: &Dfa) -> Result<Vec<u32>, NoMemory>
+/// States as far from a final state and from one that is not final: mostly few rounds are left then.
+fn by_distances(alloc: Global, a: &Dfa) -> Result<Vec<u32>, NoMemory>
     ensures len { IfOk result (λ blocks. length blocks.items ≡ states a.now) }
     ensures finals { IfOk result (λ blocks. RespectsFinals a.now blocks.items) }
 {
+    let to_final = distances(alloc, a)?;
+    let to_other = distances(alloc, &complement(alloc, a)?)?;
+    let mut pairs = IndexSet::new(alloc);
     let mut blocks = Vec::new(alloc);
     for state in 0..a.states() {
-        blocks.push(a.is_final(state) as u32)?;
+        let other = to_other.get(state as usize).copied();
+        let pair = (to_final[state as usize], other.unwrap_or(0));
+        blocks.push(number_of(&mut pairs, pair)?)?;
     }
     Ok(blocks)
 }

@@ -4,8 +4,7 @@ use Rattle.hc_dfa.proofs.leasts.least.Goals as goal
 
 pub returns-then-index : goal.returns-then-index
 returns-then-index c =
-    let d = c.in_ok-distances.ensures in
-    none_near c.args.a.now c.start-state.ensures.table _ d.0 d.1 d.2 (grind (arith, common_steps))
+    none_near c.args.a.now c.start-state.ensures.table _ c.in_ok-distances.ensures (grind (arith, common_steps))
 
 pub bytes-preserved : goal.bytes-preserved
 bytes-preserved c =
@@ -20,5 +19,4 @@ bytes-preserved c =
 
 pub returns : goal.returns
 returns c =
-    let d = c.in_ok-distances.ensures in
-    rw c.from.ensures (walk_least c.args.a.now c.start-state.ensures.table _ d.0 d.1 d.2 c.bytes.bytes.items (rw append-nil at (c.bytes.invariant.walk [] (grind (arith, common_steps)))))
+    rw c.from.ensures (walk_least c.args.a.now c.start-state.ensures.table _ c.in_ok-distances.ensures c.bytes.bytes.items (rw append-nil at (c.bytes.invariant.walk [] (grind (arith, common_steps)))))

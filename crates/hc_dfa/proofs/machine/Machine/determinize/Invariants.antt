@@ -1,9 +1,10 @@
-use Rattle.hc_dfa.proofs.Common.{◌≡◌, ◌*◌, length, vec_len, slice_get, AreClasses, SetsExplored, TellsSteps}
+use Rattle.hc_dfa.proofs.Common.{◌≡◌, ◌*◌, length, vec_len, slice_get, AreClasses, AreMoves, SetsExplored, TellsSteps}
 use Rattle.hc_dfa.proofs.Determined.{SetsMarked}
 use Rattle.hc_dfa.proofs.machine.Machine.determinize.Given as goal
 
 abbrev pub invariant-loop-state : goal.invariant-loop-state
 invariant-loop-state l = record {
+  moves : AreMoves l.self l.moves;
   classes : AreClasses l.classes;
   tells : TellsSteps l.self l.classes;
   explored : SetsExplored l.self l.classes.firsts l.sets.keys l.next.items;
