@@ -1,5 +1,5 @@
 -- The names that the proofs of this crate cite, passed on from one place. Declares nothing.
-pub use Rattle.std.proofs.Common.{append-nil, ◌≡◌, ℕ, zero, suc, ◌+◌, ◌<◌, ◌≤◌, inl, inr, Bool, true, false, List, [], ◌∷◌, ◌++◌, length, Option, Some, None, map, if◌then◌else◌, get_or, nat_lt, lt-ltb, le-ltb, slice_get, slice_set, refl, sym, ap, ◌∙◌, arith, ◌-◌, option_map, true≢false, ◌⊎◌, append_assoc, IfSome, eqb, eq-eqb, ne_eqb, drop, ◌/◌, take, unwrap_or, nat_eq, max, subst, ◌*◌}
+pub use Rattle.std.proofs.Common.{append-nil, ◌≡◌, ℕ, zero, suc, ◌+◌, ◌<◌, ◌≤◌, inl, inr, Bool, true, false, List, [], ◌∷◌, ◌++◌, length, Option, Some, None, map, if◌then◌else◌, get_or, nat_lt, lt-ltb, le-ltb, slice_get, slice_set, refl, sym, ap, ◌∙◌, arith, ◌-◌, option_map, true≢false, ◌⊎◌, append_assoc, IfSome, eqb, eq-eqb, eqb-true, ne_eqb, drop, ◌/◌, take, unwrap_or, nat_eq, max, subst, ◌*◌}
 pub use Rattle.std.proofs.lemmas.List.{length-append, length-set, get_or_read}
 pub use Rattle.std.proofs.lemmas.Option.{slice_get-get_or, slice_get_past, none-some, same_Some}
 pub use Rattle.std.specs.List.{flat_map, fold}

@@ -1,5 +1,5 @@
 -- What each kind of pattern adds to a program.
-use Rattle.hc_match.proofs.Common.{◌≡◌, ℕ, zero, suc, ◌+◌, ◌<◌, ◌≤◌, inl, inr, Bool, true, false, List, [], ◌∷◌, ◌++◌, length, Option, Some, None, map, if◌then◌else◌, get_or, nat_lt, lt-ltb, le-ltb, slice_get, slice_set, refl, sym, ap, ◌∙◌, arith, flat_map, length-append, length-set, slice_get-get_or, slice_get_past, Way, Ways, any_turns, behind, closed, either, grouped, meets, moving, none, preferred, step_where, stop, turns_then, Pattern, has_byte, behind-behind, behind-either, behind-preferred, behind-stop, same_ways, stop-behind, turn_or_next, Compiles, Extends, HasMeaning, IsAdded, IsMeaning, Kept, Meaning, NamesBelow, closed_at, keeping_held, kept_ways, opened, step_ways, turn_step, Step}
+use Rattle.hc_match.proofs.Common.{◌≡◌, ℕ, zero, suc, ◌+◌, ◌<◌, ◌≤◌, inl, inr, Bool, true, false, List, [], ◌∷◌, ◌++◌, length, Option, Some, None, map, if◌then◌else◌, get_or, nat_lt, lt-ltb, le-ltb, max, slice_get, slice_set, refl, sym, ap, ◌∙◌, arith, flat_map, length-append, length-set, slice_get-get_or, slice_get_past, Way, Ways, any_turns, behind, closed, either, grouped, meets, moving, none, preferred, step_where, stop, turns_then, Pattern, has_byte, behind-behind, behind-either, behind-preferred, behind-stop, same_ways, stop-behind, turn_or_next, Compiles, Extends, HasMeaning, IsAdded, IsMeaning, Kept, Meaning, NamesBelow, closed_at, keeping_held, kept_ways, opened, step_ways, turn_step, Step}
 use Rattle.std.specs.Prelude.{IfOk}
 use Rattle.std.specs.declared.result.Result.{Result}
 use Rattle.std.proofs.lemmas.Result.{IfOk-weaker}
@@ -273,9 +273,9 @@ ok_turns result old mid new body more ways least next between same later now =
     rw (← (then_behind (body text) least (more text) ∙ same text))
     (compiled_behind text old mid new (turns_then (body text) least stop) (more text) next between place (later text) (is text))) now
 
--- The head of a loop is kept free, and then set to its step.
-compiled_loop : (text : List ℕ) (old mid : List Step) (pattern : Pattern) (greedy : Bool) (next turn : ℕ) → next < length old → moving (kept_ways text pattern) ≡ kept_ways text pattern
-    → Compiles text (old ++ Done ∷ []) mid (kept_ways text pattern) (length old) turn → (place : ℕ) (ways : Ways Kept) → place < length mid
+-- The head of a loop is kept free, and then set to its step. It may begin there, or at a turn.
+pub compiled_loop : (text : List ℕ) (old mid : List Step) (pattern : Pattern) (greedy : Bool) (next turn : ℕ) → next < length old → moving (kept_ways text pattern) ≡ kept_ways text pattern
+    → Compiles text (old ++ Done ∷ []) mid (kept_ways text pattern) (length old) turn → (place : ℕ) (ways : Ways Kept) → place ≤ max (length old) turn
     → ((meaning : Meaning) → meaning (length old) ≡ behind (any_turns greedy (kept_ways text pattern) (length text)) (meaning next)
     → meaning turn ≡ behind (kept_ways text pattern) (meaning (length old)) → meaning place ≡ behind ways (meaning next))
     → Compiles text old (slice_set mid (length old) (turn_step greedy turn next)) ways next place
@@ -287,7 +287,7 @@ compiled_loop text old mid pattern greedy next turn within moves body place ways
     let size : length new ≡ length mid = length-set mid head step in
     let free : head < length (old ++ Done ∷ []) = omega (arith, length-append old (Done ∷ [])) in
     record {
-      within = omega (arith, there, size);
+      within = omega (arith, there, room, body.within, size);
       longer = omega (arith, room, size);
       reads = λ before.
           let all = behind (any_turns greedy (kept_ways text pattern) (length text)) (before next) in
@@ -323,21 +323,6 @@ compiled_loop text old mid pattern greedy next turn within moves body place ways
                 (b.is ∙ ap (behind (kept_ways text pattern)) (placed_there head all before ∙ sym here)) ∙ ap (behind ways) same;
           };
     }
-
--- No turn has to be.
-pub compiled_any : (text : List ℕ) (old mid : List Step) (pattern : Pattern) (greedy : Bool) (next turn : ℕ) → next < length old → moving (kept_ways text pattern) ≡ kept_ways text pattern
-    → Compiles text (old ++ Done ∷ []) mid (kept_ways text pattern) (length old) turn
-    → Compiles text old (slice_set mid (length old) (turn_step greedy turn next)) (any_turns greedy (kept_ways text pattern) (length text)) next (length old)
-compiled_any text old mid pattern greedy next turn within moves body =
-    compiled_loop text old mid pattern greedy next turn within moves body (length old) _ (omega (arith, body.longer, length-append old (Done ∷ []))) (λ meaning head turn. head)
-
--- The last of the turns that have to be is the one that the others lead back to.
-pub compiled_one : (text : List ℕ) (old mid : List Step) (pattern : Pattern) (greedy : Bool) (next turn : ℕ) → next < length old → moving (kept_ways text pattern) ≡ kept_ways text pattern
-    → Compiles text (old ++ Done ∷ []) mid (kept_ways text pattern) (length old) turn
-    → Compiles text old (slice_set mid (length old) (turn_step greedy turn next)) (behind (kept_ways text pattern) (any_turns greedy (kept_ways text pattern) (length text))) next turn
-compiled_one text old mid pattern greedy next turn within moves body =
-    compiled_loop text old mid pattern greedy next turn within moves body turn _ body.within
-    (λ meaning head is. is ∙ ap (behind (kept_ways text pattern)) head ∙ sym (behind-behind (kept_ways text pattern) _ (meaning next)))
 
 pub turns_before : (body : Ways Kept) (least : ℕ) (more : Ways Kept) → turns_then body least (behind body more) ≡ behind body (turns_then body least more)
 turns_before body zero more = refl

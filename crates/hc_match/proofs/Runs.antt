@@ -1,6 +1,11 @@
 -- The ways of a repeat of one byte are the ends of its run, in order.
-use Rattle.hc_match.proofs.Common.{◌≡◌, ℕ, zero, suc, ◌+◌, ◌-◌, ◌<◌, Bool, true, false, List, [], ◌++◌, length, if◌then◌else◌, nat_lt, Option, Some, None, slice_get, refl, ap, sym, ◌∙◌, arith, append_assoc, lt-ltb, none-some, same_Some, Ways, any_turns, behind, meets, moving, none, preferred, repeated, step_where, stop, turns_then, turns_up_to, Held, behind-behind, behind-preferred, turn_or_next, append-nil, ends, further_turns, run_length}
+use Rattle.hc_match.proofs.Common.{◌≡◌, inl, inr, slice_get_past, ℕ, zero, suc, ◌+◌, ◌-◌, ◌<◌, Bool, true, false, List, [], ◌++◌, length, if◌then◌else◌, nat_lt, Option, Some, None, slice_get, refl, ap, sym, ◌∙◌, arith, append_assoc, lt-ltb, le-ltb, none-some, same_Some, Ways, any_turns, behind, meets, moving, none, preferred, repeated, step_where, stop, turns_then, turns_up_to, Held, behind-behind, behind-preferred, turn_or_next, append-nil, ends, further_turns, run_length}
 use Rattle.std.specs.List.{filter, flat_map}
+use Rattle.std.specs.Prelude.{min, ◌^◌, ◌==◌}
+use Rattle.std.proofs.lemmas.Nat.Bits.{bit_at_ones}
+use Rattle.hc_pattern.specs.Bits.{has_byte}
+use Rattle.hc_pattern.specs.declared.set.ByteSet.{ByteSet}
+use Rattle.std.proofs.lemmas.Bool.{cases_lt}
 
 -- ---- the length
 
@@ -14,6 +19,27 @@ one_fits text test at count most all less fits is =
     rw left (rw (← fits) (ap (λ place. suc (run_length text test place (most - (count + 1)))) place)) in
     let sum : count + 1 + rest ≡ count + suc rest = omega arith in
     sum ∙ ap (λ length. count + length) (sym one) ∙ is
+
+pub full_has : (set : ByteSet) → set.low ≡ 2 ^ 128 - 1 → set.high ≡ 2 ^ 128 - 1 → (byte : ℕ) → byte < 256 → has_byte set byte ≡ true
+full_has set low high byte within =
+    elim (cases_lt byte 128) [
+      | inl below ↦ rw (lt-ltb byte 128 below, low) (ap (λ bit. bit == 1) (bit_at_ones 128 byte below))
+      | inr past ↦ rw (le-ltb byte 128 past, high) (ap (λ bit. bit == 1) (bit_at_ones 128 (byte - 128) (omega (arith, within, past))))
+    ]
+
+-- All bytes up to the end fit.
+pub all_fit : (text : List ℕ) (test : ℕ → Bool) (at most : ℕ) → ((place : ℕ) → place < length text → meets test (slice_get text place) ≡ true)
+    → min most (length text - at) ≡ run_length text test at most
+all_fit text test at zero fit = omega arith
+all_fit text test at (suc most) fit =
+    elim (cases_lt at (length text)) [
+      | inl within ↦
+          rw (fit at within)
+          (let rest = all_fit text test (at + 1) most fit in
+          let one : min (suc most) (length text - at) ≡ suc (min most (length text - (at + 1))) = omega (arith, within) in
+          one ∙ ap suc rest)
+      | inr past ↦ rw (slice_get_past text at past) (omega (arith, past))
+    ]
 
 -- ---- turns of one byte
 

@@ -1,7 +1,7 @@
 -- What patterns begin with.
 use Rattle.hc_match.proofs.Common.{IfSome, ◌≡◌, ℕ, zero, suc, ◌+◌, ◌-◌, ◌<◌, Bool, true, false, List, [], length, if◌then◌else◌, nat_lt, Option, Some, None, option_map, refl, ap, sym, ◌∙◌, arith, flat_map, option_or, Pattern, repeat, Held, first_match, first_of, held_by, last_ways, match_among, match_at, nothing_held, Ways, any_turns, none, repeated, turns_then, turns_up_to}
-use Rattle.hc_pattern.specs.declared.set.ByteSet.{ByteSet}
-use Rattle.hc_match.specs.Single.{BeginsAtStart, BeginsIn}
+use Rattle.hc_match.specs.declared.start.First.{First}
+use Rattle.hc_match.specs.Single.{BeginsAtStart, BeginsWith}
 
 unless : (v : Bool) (a : Ways Held) (at : ℕ) (held : Held) → a at held ≡ [] → (if v then none else a) at held ≡ []
 unless true a at held is = refl
@@ -24,10 +24,10 @@ pub turns_begin : (whole body a : Pattern) (least : ℕ) (most : Option ℕ) (gr
 turns_begin whole body a least most greedy is one some starts text from held later =
     no_repeat text whole body a least most greedy from held is one some (starts text from held later)
 
-pub turns_begin_in : (found : Option ByteSet) (whole body a : Pattern) (least : ℕ) (most : Option ℕ) (greedy : Bool) → whole ≡ repeat body least most greedy → a ≡ body → 0 < least
-    → IfSome found (λ set. BeginsIn set a) → IfSome found (λ set. BeginsIn set whole)
+pub turns_begin_in : (found : Option First) (whole body a : Pattern) (least : ℕ) (most : Option ℕ) (greedy : Bool) → whole ≡ repeat body least most greedy → a ≡ body → 0 < least
+    → IfSome found (λ first. BeginsWith first a) → IfSome found (λ first. BeginsWith first whole)
 turns_begin_in None whole body a least most greedy is one some starts = tt
-turns_begin_in (Some set) whole body a least most greedy is one some starts = λ text from held out.
+turns_begin_in (Some first) whole body a least most greedy is one some starts = λ text from held out.
     no_repeat text whole body a least most greedy from held is one some (starts text from held out)
 
 later_places : (text : List ℕ) (pattern : Pattern) (count from : ℕ) → BeginsAtStart pattern → 0 < from → match_among text pattern count from ≡ None

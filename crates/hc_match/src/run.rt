@@ -1,6 +1,6 @@
 //! Repeats of one byte: the bytes that fit are counted, and no turn is tried by itself.
 ghost use Rattle.std.specs.Prelude.{◌≡◌, ℕ, ◌+◌, ◌≤◌, ◌<◌, Bool, List, [], length, max};
-ghost use Rattle.std.specs.Prelude.{slice_get, IfSome, IfNone, IsTrue};
+ghost use Rattle.std.specs.Prelude.{slice_get, true, IfSome, IfNone, IsTrue};
 ghost use Rattle.hc_pattern.specs.Bits.{has_byte};
 ghost use Rattle.hc_pattern.specs.Pattern.{pattern_of};
 ghost use Rattle.hc_ways.specs.Ways.{Ways, behind, meets, repeated, step_where};
@@ -66,9 +66,19 @@ fn fitting(text: &[u8], set: ByteSet, at: usize, most: usize) -> usize
     ensures value { result ≡ run_length text.now (has_byte set) at most }
     ensures within { at + result ≤ max at (length text.now) }
 {
+    if is_full(set) {
+        return most.min(text.len().saturating_sub(at));
+    }
     let mut count = 0;
     'bytes: while count < most && is_in_class(text, at + count, set) {
         count += 1;
     }
     count
+}
+
+// It is the set of all bytes.
+fn is_full(set: ByteSet) -> bool
+    ensures { IsTrue result → (byte : ℕ) → byte < 256 → has_byte set byte ≡ true }
+{
+    set.low == u128::MAX && set.high == u128::MAX
 }

@@ -2,17 +2,16 @@
 ghost use Rattle.std.specs.Prelude.{◌≡◌, [], IfOk, IfSome};
 ghost use Rattle.hc_pattern.specs.Pattern.{pattern_of};
 ghost use Rattle.hc_ways.specs.Kept.{first_match, held_by, last_ways, match_among, nothing_held};
-ghost use Rattle.hc_match.specs.Single.{BeginsIn};
+ghost use Rattle.hc_match.specs.Single.{BeginsWith};
 ghost use Rattle.hc_match.specs.Settings.{captured, held_over};
 ghost use Rattle.hc_match.specs.Frames.{Says, Tells};
 
 use crate::captures::{Captures, Setting};
 use crate::frame::{Frame, Trial, Tried};
-use crate::single::is_in_class;
-use crate::start::{begins_at_start, first_bytes};
+use crate::start::{First, begins_at_start, first_bytes};
 use crate::straight::Straight;
 use hc_base::NoMemory;
-use hc_pattern::{ByteSet, Pat};
+use hc_pattern::Pat;
 use std::alloc::Global;
 
 /// What came of a search.
@@ -58,20 +57,20 @@ fn places(pat: &Pat, text: &[u8]) -> usize
     }
 }
 
-// The pattern from this place, where its first byte may be one of these alone.
+// The pattern from this place, where it begins with one of these bytes alone.
 fn from_place(
     search: &mut Straight,
     text: &[u8],
     pat: &Pat,
-    starts: Option<ByteSet>,
+    starts: Option<First>,
     from: usize,
 ) -> Trial
     requires unset { search.old.settings.items ≡ [] }
-    requires starts { IfSome starts (λ set. BeginsIn set (pattern_of pat.now)) }
+    requires starts { IfSome starts (λ first. BeginsWith first (pattern_of pat.now)) }
     ensures { IfOk result (λ tried. Says tried search.new (last_ways text.now (pattern_of pat.now) from)) }
 {
-    if let Some(set) = starts {
-        if !is_in_class(text, from, set) {
+    if let Some(first) = starts {
+        if !first.is_at(text, from) {
             return Ok(Tried::Failed);
         }
     }

@@ -76,7 +76,8 @@ pub fn single_end(text: &[u8], pat: &Pat, at: usize) -> Option<usize>
     }
 }
 
-fn is_byte(text: &[u8], at: usize, byte: u8) -> bool
+/// The byte is at the place.
+pub fn is_byte(text: &[u8], at: usize, byte: u8) -> bool
     ensures value { result ≡ meets (λ c. c == byte) (slice_get text.now at) }
     ensures within { IsTrue result → at < length text.now }
 {

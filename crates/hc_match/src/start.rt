@@ -1,9 +1,46 @@
 //! What a pattern begins with: the start of a text, or certain bytes.
-ghost use Rattle.std.specs.Prelude.{IfSome, IsTrue};
+ghost use Rattle.std.specs.Prelude.{◌≡◌, ◌||◌, ℕ, slice_get, IfSome, IsTrue};
+ghost use Rattle.hc_pattern.specs.Bits.{has_byte};
 ghost use Rattle.hc_pattern.specs.Pattern.{pattern_of};
-ghost use Rattle.hc_match.specs.Single.{BeginsAtStart, BeginsIn};
+ghost use Rattle.hc_ways.specs.Ways.{meets};
+ghost use Rattle.hc_match.specs.Single.{BeginsAtStart, BeginsWith, is_first};
 
+use crate::single::{is_byte, is_in_class};
 use hc_pattern::{ByteSet, Pat};
+
+/// A byte, or one of certain bytes.
+#[derive(Clone, Copy)]
+pub enum First {
+    Byte(u8),
+    Class(ByteSet),
+}
+
+impl First {
+    /// One of the bytes is at the place.
+    pub fn is_at(self, text: &[u8], at: usize) -> bool
+        ensures { result ≡ meets (is_first self) (slice_get text.now at) }
+    {
+        match self {
+            First::Byte(byte) => is_byte(text, at, byte),
+            First::Class(set) => is_in_class(text, at, set),
+        }
+    }
+
+    fn set(self) -> ByteSet
+        ensures { (byte : ℕ) → has_byte result byte ≡ is_first self byte }
+    {
+        match self {
+            First::Byte(byte) => ByteSet::empty().with(byte),
+            First::Class(set) => set,
+        }
+    }
+
+    fn or(self, other: First) -> First
+        ensures { (byte : ℕ) → is_first result byte ≡ (is_first self byte || is_first other byte) }
+    {
+        First::Class(self.set().union(other.set()))
+    }
+}
 
 /// The pattern is seen to match at the start of a text only.
 pub fn begins_at_start(pat: &Pat) -> bool
@@ -20,15 +57,15 @@ pub fn begins_at_start(pat: &Pat) -> bool
 }
 
 /// Bytes of which one stands at the beginning of each match, where there are such that are soon seen.
-pub fn first_bytes(pat: &Pat) -> Option<ByteSet>
-    ensures { IfSome result (λ set. BeginsIn set (pattern_of pat.now)) }
+pub fn first_bytes(pat: &Pat) -> Option<First>
+    ensures { IfSome result (λ first. BeginsWith first (pattern_of pat.now)) }
 {
     match pat {
-        Pat::Byte(byte) => Some(ByteSet::empty().with(*byte)),
-        Pat::Class(set) => Some(*set),
+        Pat::Byte(byte) => Some(First::Byte(*byte)),
+        Pat::Class(set) => Some(First::Class(*set)),
         Pat::Cat(first, _) => first_bytes(first),
         Pat::Alt(first, second) => match (first_bytes(first), first_bytes(second)) {
-            (Some(first), Some(second)) => Some(first.union(second)),
+            (Some(first), Some(second)) => Some(first.or(second)),
             _ => None,
         },
         Pat::Group(_, body) => first_bytes(body),

@@ -16,6 +16,8 @@ static LONG: &[(&str, &str, usize, &str)] = &[
     ("(x+x+)+y", "x", 4000, "none"),
     ("(.*)(.*)(.*)(.*)y", "x", 400, "none"),
     ("(?:a?){1}(?:(?:a|b)(?:a|b)?){255}c", "ab", 4000, "none"),
+    ("^(?:(a)|b){3,}$", "a", 8190, "0-8190 8189-8190 - -"),
+    ("^(?:(a)|b){3,}?$", "a", 8190, "0-8190 8189-8190 - -"),
 ];
 
 #[test]
@@ -26,6 +28,39 @@ fn hostile_texts_take_a_moment(rt: HostRuntime) -> Result<(), NoMemory> {
         let pat = read(&rt, alloc, pattern.as_bytes(), false);
         let shown = show_groups(alloc, first_match(alloc, &pat, hay.as_bytes())?)?;
         assert!(rt; shown.as_str() == wanted, "{pattern} on {count} of {part}");
+    }
+    Ok(())
+}
+
+// Repeats in each other: how many, and what each begins and ends with.
+static NESTED: &[(usize, &str, &str)] = &[
+    (20, "(?:", ")+"),
+    (20, "(?:", ")+?"),
+    (1000, "(?:", ")+"),
+    (1000, "(?:", ")+?"),
+    (18, "(", ")+"),
+];
+
+fn nested(alloc: Global, depth: usize, open: &str, close: &str) -> Result<String, NoMemory> {
+    let mut pattern = open.repeat(alloc, depth)?;
+    pattern.push_str("a")?;
+    let closes = close.repeat(alloc, depth)?;
+    pattern.push_str(closes.as_str())?;
+    pattern.push_str("b")?;
+    Ok(pattern)
+}
+
+#[test]
+fn nested_repeats_take_a_moment(rt: HostRuntime) -> Result<(), NoMemory> {
+    let alloc = rt.alloc();
+    let hay = "a".repeat(alloc, 8190)?;
+    for &(depth, open, close) in NESTED {
+        let pattern = nested(alloc, depth, open, close)?;
+        let pat = read(&rt, alloc, pattern.as_bytes(), false);
+        assert!(rt;
+            first_match(alloc, &pat, hay.as_bytes())?.is_none(),
+            "{open} {depth}"
+        );
     }
     Ok(())
 }

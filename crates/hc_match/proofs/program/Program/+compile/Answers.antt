@@ -1,6 +1,6 @@
-use Rattle.hc_match.proofs.Common.{◌≡◌, ℕ, List, Ways, Kept, suc, ◌+◌, unwrap_or, ◌∷◌, ◌-◌, ◌≤◌, ◌∙◌, [], length, nat_eq, refl, sym, ap, lt-ltb, le-ltb, arith, length-append, has_byte, pattern_of, any_turns, behind, either, grouped, none, step_where, stop, stop_where, turns_then, turns_up_to, keeping_held, kept_ways, takes_a_byte, is_alt, is_byte, is_cat, is_class, is_empty, is_finish, is_group, is_repeat, is_start}
+use Rattle.hc_match.proofs.Common.{◌≡◌, ℕ, List, Ways, Kept, suc, ◌+◌, unwrap_or, ◌∷◌, ◌-◌, ◌≤◌, ◌∙◌, [], length, nat_eq, refl, sym, ap, lt-ltb, le-ltb, arith, length-append, has_byte, pattern_of, any_turns, behind, either, grouped, none, step_where, stop, stop_where, turns_then, turns_up_to, keeping_held, kept_ways, behind-behind, takes_a_byte, is_alt, is_byte, is_cat, is_class, is_empty, is_finish, is_group, is_repeat, is_start}
 use Rattle.hc_match.proofs.Bytes.{moves}
-use Rattle.hc_match.proofs.Compiled.{compiled_any, compiled_as, compiled_behind, compiled_either, compiled_group, compiled_none, compiled_nothing, compiled_one, compiled_preferred, compiled_step, emitted, ok_behind, ok_turns, turns_before}
+use Rattle.hc_match.proofs.Compiled.{compiled_as, compiled_behind, compiled_either, compiled_group, compiled_loop, compiled_none, compiled_nothing, compiled_preferred, compiled_step, emitted, ok_behind, ok_turns, turns_before}
 use Rattle.hc_match.proofs.program.Program.+compile.Goals as goal
 
 pub compile-returns-in-Empty-clause-ways : goal.compile-returns-in-Empty-clause-ways
@@ -128,9 +128,9 @@ endless-returns-then-least-eq0-clause-ways t c text =
     let pattern = pattern_of c.deref-2.result.now in
     let head = c.in_ok-head.ensures in
     rw (c.turn_or_next.ensures, head.0, ← c.deref-2.ensures, c.if-least-eq0.true)
-    (compiled_any text c.args.self.now.steps.items c.compile.new.self.steps.items pattern c.args.greedy c.args.next c.in_ok-turn.turn c.requires
+    (compiled_loop text c.args.self.now.steps.items c.compile.new.self.steps.items pattern c.args.greedy c.args.next c.in_ok-turn.turn c.requires
     (moves keeping_held text pattern (ap (λ pat. takes_a_byte (pattern_of pat)) (c.deref-2.ensures ∙ sym c.deref.ensures) ∙ sym c.takes_a_byte.ensures ∙ c.if-not-takes_a_byte.false))
-    (rw (← head.0, ← head.1) (c.in_ok-turn.ensures.ways text)))
+    (rw (← head.0, ← head.1) (c.in_ok-turn.ensures.ways text)) (length c.args.self.now.steps.items) _ (omega arith) (λ meaning head turn. head))
 
 pub endless-returns-clause-ways : goal.endless-returns-clause-ways
 endless-returns-clause-ways t c =
@@ -142,7 +142,8 @@ endless-returns-clause-ways t c =
     ok_turns _ c.args.self.now.steps.items _ c.turns.new.self.steps.items body (λ text. behind (body text) (turns text)) _ (c.args.least - 1) c.args.next c.in_ok-turn.turn
     (λ text. turns_before (body text) (c.args.least - 1) (turns text) ∙ ap (λ least. turns_then (body text) least (turns text)) more)
     (λ text. rw (c.turn_or_next.ensures, head.0, ← c.deref-2.ensures)
-    (compiled_one text c.args.self.now.steps.items c.compile.new.self.steps.items pattern c.args.greedy c.args.next c.in_ok-turn.turn c.requires
+    (compiled_loop text c.args.self.now.steps.items c.compile.new.self.steps.items pattern c.args.greedy c.args.next c.in_ok-turn.turn c.requires
     (moves keeping_held text pattern (ap (λ pat. takes_a_byte (pattern_of pat)) (c.deref-2.ensures ∙ sym c.deref.ensures) ∙ sym c.takes_a_byte.ensures ∙ c.if-not-takes_a_byte.false))
-    (rw (← head.0, ← head.1) (c.in_ok-turn.ensures.ways text))))
+    (rw (← head.0, ← head.1) (c.in_ok-turn.ensures.ways text))
+    c.in_ok-turn.turn _ (omega arith) (λ meaning head turn. turn ∙ ap (behind (kept_ways text pattern)) head ∙ sym (behind-behind (kept_ways text pattern) _ (meaning c.args.next)))))
     c.turns.ensures.ways
