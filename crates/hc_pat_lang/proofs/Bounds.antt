@@ -1,5 +1,5 @@
 -- No way of a part ends past the text.
-use Rattle.hc_pat_lang.proofs.Common.{◌≡◌, ◌+◌, ◌<◌, ◌≤◌, ◌⊎◌, ℕ, Bool, true, [], ◌∷◌, if◌then◌else◌, max, List, length, nat_eq, inl, inr, arith, has_byte, Pattern, empty, byte, class, start, finish, cat, alt, group, repeat, meets, closed, with_turn, Below, Bounded, bounded_behind, bounded_either, bounded_if, bounded_repeated, bounded_stop, leaves_out, part_ways, seen, step_by, GroupPart, Each-map}
+use Rattle.hc_pat_lang.proofs.Common.{ℕ, Bool, List, length, nat_eq, inl, inr, arith, has_byte, Pattern, empty, byte, class, start, finish, cat, alt, group, repeat, meets, closed, with_turn, Below, Bounded, bounded_behind, bounded_either, bounded_if, bounded_repeated, bounded_stop, leaves_out, part_ways, seen, step_by, GroupPart, Each-map}
 use Rattle.hc_pat_lang.proofs.Parts.{all_if, goes_on}
 
 bounded_step : (part : GroupPart) (text : List ℕ) (test : ℕ → Bool) → Bounded (length text) (step_by (seen part text) test)

@@ -1,5 +1,5 @@
 -- What is left of the texts of a set behind, or before, the texts of another one.
-use Rattle.hc_pat_lang.proofs.Common.{◌≡◌, ℕ, ◌+◌, ◌<◌, ◌⊎◌, ◌*◌, Bool, List, [], ◌∷◌, ◌++◌, Option, Some, None, slice_get, slice_get_within, slice_get-get_or, slice_index_or, subst, length, ◌≤◌, false, IsMet, IsOne, Each-append, IsLedTo, true, refl, sym, ◌∙◌, ap, inl, inr, arith, eq-eqb, eqb-true, is_some, Automaton, states, next_state, is_final, run, accepts_from, accepts, Steps, AcceptsPathsOf, IsText, TextSet, IsLeastOf, IsAutomaton, next_within, IsMore, AddsFinals, AddsStarts, IsRow, IsFinal, ends_at, HaveCommon, LedToBelow, OnwardsBelow, AcceptsOnly, IsRest, IsFront}
+use Rattle.hc_pat_lang.proofs.Common.{◌≡◌, ℕ, ◌+◌, ◌<◌, ◌⊎◌, ◌*◌, Bool, List, [], ◌∷◌, ◌++◌, Option, Some, None, slice_get, slice_get_within, slice_get-get_or, slice_index_or, subst, length, ◌≤◌, false, IsMet, IsOne, Each-append, IsLedTo, true, refl, sym, ◌∙◌, ap, inl, inr, arith, eq-eqb, eqb-true, is_some, Automaton, states, next_state, is_final, run, accepts_from, accepts, Steps, AcceptsPathsOf, IsText, TextSet, IsLeastOf, IsAutomaton, next_within, IsMore, AddsFinals, AddsStarts, IsRow, IsFinal, HaveCommon, LedToBelow, OnwardsBelow, AcceptsOnly, IsRest, IsFront}
 use Rattle.std.proofs.lemmas.Bool.{and_from, and_parts}
 use Rattle.hc_dfa.specs.Built.{Accepts, product_of}
 use Rattle.hc_dfa.specs.declared.products.Keep.TheVariants.{Both}

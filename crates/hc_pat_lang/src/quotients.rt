@@ -128,7 +128,7 @@ fn rests_from(alloc: Global, a: &Dfa, state: u32) -> Result<Dfa, NoMemory>
     add_table(&mut machine, a, 0)?;
     add_finals(&mut machine, a, 0)?;
     machine.add_start(state)?;
-    let made = automaton_of(alloc, &machine)?;
+    let made = machine.determinize(alloc)?;
     Ok(made)
 }
 

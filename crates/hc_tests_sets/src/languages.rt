@@ -68,6 +68,30 @@ fn a_late_byte_needs_many_states(rt: HostRuntime) -> Result<(), NoMemory> {
     Ok(())
 }
 
+// Repeats in one another.
+fn nested(alloc: Global, depth: usize, close: &str) -> Result<String, NoMemory> {
+    let mut pattern = "(?:".repeat(alloc, depth)?;
+    pattern.push_str("a")?;
+    pattern.push_str(close.repeat(alloc, depth)?.as_str())?;
+    pattern.push_str("b")?;
+    Ok(pattern)
+}
+
+static NESTED: &[(usize, &str)] = &[(20, ")+"), (20, ")+?"), (1000, ")+"), (1000, ")+?")];
+
+#[test]
+fn nested_repeats_take_a_moment(rt: HostRuntime) -> Result<(), NoMemory> {
+    for &(depth, close) in NESTED {
+        let pattern = nested(rt.alloc(), depth, close)?;
+        let set = found_in(&rt, rt.alloc(), pattern.as_str())?;
+        assert!(rt;
+            set.accepts(b"xaab") && !set.accepts(b"aaxb"),
+            "{depth} of {close}"
+        );
+    }
+    Ok(())
+}
+
 #[test]
 fn the_first_texts_of_a_pattern(rt: HostRuntime) -> Result<(), NoMemory> {
     let set = found_in(&rt, rt.alloc(), "^ab*c$")?;

@@ -1,4 +1,4 @@
-use Rattle.hc_pat_lang.proofs.Common.{arith, refl}
+use Rattle.hc_pat_lang.proofs.Common.{refl}
 use Rattle.hc_pat_lang.proofs.Rests.{nexts_more, nexts_none}
 use Rattle.hc_pat_lang.proofs.quotients.add_nexts.Goals as goal
 

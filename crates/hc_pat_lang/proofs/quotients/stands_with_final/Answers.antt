@@ -1,4 +1,4 @@
-use Rattle.hc_pat_lang.proofs.Common.{◌≡◌, ◌<◌, ℕ, true, false, arith, eqb_tells, inl, inr, sym, ◌∙◌, slice_index_or}
+use Rattle.hc_pat_lang.proofs.Common.{arith}
 use Rattle.hc_pat_lang.proofs.Rests.{none_more, pair_here}
 use Rattle.hc_pat_lang.proofs.quotients.stands_with_final.Goals as goal
 
