@@ -1,26 +1,67 @@
 -- What a command of the code is seen as.
-use Rattle.std.specs.Prelude.{ℕ, List, Result, Ok, Err}
+use Rattle.std.specs.Prelude.{◌≡◌, ℕ, List, [], true, Option, Some, None, Result, Ok, Err, String, ⊤}
 use Rattle.std.specs.Borrow.{Bor}
-use Rattle.hc_world.specs.declared.world.ListKind.{ListKind}
+use Rattle.std.specs.declared.alloc.Global.{Global}
+use Rattle.serde_json.specs.View.{members_view}
+use Rattle.serde_json.specs.declared.value.Value.{Value}
+use Rattle.std.specs.BTreeMap.{BTreeMap}
+use Rattle.hc_base.specs.Paths.{begins_with_slash}
+use Rattle.hc_model.specs.declared.request.Header.{Header}
+use Rattle.hc_model.specs.declared.request.Request.{Request}
 use Rattle.hc_session.specs.Command as spec
-use Rattle.hc_session.specs.declared.command.BadField.{BadField}
+use Rattle.hc_session.specs.Forms.{headers_of}
+use Rattle.hc_session.specs.declared.asked.Asked.{Asked}
+use Rattle.hc_session.specs.declared.fields.BadField.{BadField}
 use Rattle.hc_session.specs.declared.command.Command.{Command}
 use Rattle.hc_session.specs.declared.command.Command.TheVariants.{Put, ListPath, Check, Ask}
+
+abbrev pub headers_view : Option (Bor (BTreeMap (String Global) Value)) → List Header
+headers_view None = []
+headers_view (Some members) = headers_of (members_view members.now.entries)
+
+abbrev pub request_view : Asked → Request
+request_view asked = record {
+  method = asked.method.now;
+  scheme = asked.scheme;
+  server = asked.server;
+  port = asked.port;
+  host = asked.host.now;
+  client = asked.client;
+  headers = headers_view asked.headers;
+  target = asked.target.now;
+}
 
 abbrev pub command_view : Command → spec.Command
 command_view (Put path bytes) = spec.put path.now bytes.now
 command_view (ListPath path kind) = spec.list path.now kind
 command_view Check = spec.check
-command_view (Ask target) = spec.ask target.now
+command_view (Ask asked) = spec.ask (request_view asked)
+
+-- The target of an `ask` begins with a slash.
+abbrev pub IsAskable : Command → Type 0
+IsAskable (Put path bytes) = ⊤
+IsAskable (ListPath path kind) = ⊤
+IsAskable Check = ⊤
+IsAskable (Ask asked) = begins_with_slash asked.target.now ≡ true
+
+-- ---- what is read, or the wrong field
 
 abbrev pub read_view : Result Command BadField → Result spec.Command (List ℕ)
 read_view (Ok command) = Ok (command_view command)
 read_view (Err bad) = Err bad.0.now
 
+abbrev pub asked_view : Result Asked BadField → Result Request (List ℕ)
+asked_view (Ok asked) = Ok (request_view asked)
+asked_view (Err bad) = Err bad.0.now
+
 abbrev pub field_view : Result (Bor (List ℕ)) BadField → Result (List ℕ) (List ℕ)
 field_view (Ok text) = Ok text.now
 field_view (Err bad) = Err bad.0.now
 
-abbrev pub kind_view : Result ListKind BadField → Result ListKind (List ℕ)
-kind_view (Ok kind) = Ok kind
-kind_view (Err bad) = Err bad.0.now
+abbrev pub members_field_view : Result (Option (Bor (BTreeMap (String Global) Value))) BadField → Result (List Header) (List ℕ)
+members_field_view (Ok members) = Ok (headers_view members)
+members_field_view (Err bad) = Err bad.0.now
+
+abbrev pub value_view : {A : Type 0} → Result A BadField → Result A (List ℕ)
+value_view (Ok value) = Ok value
+value_view (Err bad) = Err bad.0.now

@@ -1,9 +1,11 @@
+pub mod Asked
 pub mod Command
 pub mod CommandView
 pub mod Conversation
+pub mod Fields
+pub mod Forms
 pub mod Reply
 pub mod ReplyView
 pub mod Sending
-pub mod Asked
 pub mod Session
 pub mod Status

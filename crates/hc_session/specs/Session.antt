@@ -1,14 +1,14 @@
 -- The session: what each line of a script is answered, and the world that it leaves. Our own choice.
-use Rattle.std.specs.Prelude.{◌≡◌, ◌⊎◌, ◌+◌, ◌≤◌, ℕ, List, [], ◌∷◌, length, if◌then◌else◌, Result, Ok, Err, codes}
+use Rattle.std.specs.Prelude.{◌≡◌, ◌⊎◌, ◌+◌, ◌≤◌, ℕ, List, [], ◌∷◌, length, Result, Ok, Err, codes}
 use Rattle.hc_base.specs.declared.codes.TheConstants.{BAD_COMMAND}
 use Rattle.hc_base.specs.declared.place.Refusal.{Refusal}
 use Rattle.hc_model.specs.World.{World, put as put_in}
 use Rattle.hc_config.specs.Configuration.{built}
 use Rattle.hc_include.specs.Flat.{flat_of}
 use Rattle.hc_world.specs.Edits.{listed}
+use Rattle.hc_model.specs.declared.request.Request.{Request}
 use Rattle.hc_serve.specs.Request.{received}
 use Rattle.hc_model.specs.declared.config.Config.{Config}
-use Rattle.hc_session.specs.Asked.{asked, is_target}
 use Rattle.hc_session.specs.Command.{Command, put, list, check, ask, command_of}
 use Rattle.std.specs.declared.alloc.AllocError.{AllocError as NoMemory}
 use Rattle.hc_session.specs.Reply.{Reply, done_put, done_list, configured, outcome, refused, no_memory, reply_line}
@@ -42,21 +42,15 @@ abbrev pub check_reply : Result Config Refusal → Reply
 check_reply (Ok found) = configured (length found.hosts)
 check_reply (Err refusal) = refused refusal
 
-abbrev pub reply_under : World → List ℕ → Result Config Refusal → Reply
-reply_under world target (Ok config) = outcome (received world config (asked target))
-reply_under world target (Err refusal) = refused refusal
-
--- The target is looked at before the configuration.
-abbrev pub ask_reply : World → List ℕ → Reply
-ask_reply world target =
-    if is_target target then reply_under world target (configuration world)
-    else refused (bad_command (codes "target"))
+abbrev pub ask_reply : World → Request → Result Config Refusal → Reply
+ask_reply world request (Ok config) = outcome (received world config request)
+ask_reply world request (Err refusal) = refused refusal
 
 abbrev pub turn_of : World → Result Command (List ℕ) → Turn
 turn_of world (Ok (put path text)) = edit_turn done_put world (put_in world path text)
 turn_of world (Ok (list path kind)) = edit_turn done_list world (listed world path kind)
 turn_of world (Ok check) = record { reply = check_reply (configuration world); world = world }
-turn_of world (Ok (ask target)) = record { reply = ask_reply world target; world = world }
+turn_of world (Ok (ask request)) = record { reply = ask_reply world request (configuration world); world = world }
 turn_of world (Err field) = record { reply = refused (bad_command field); world = world }
 
 -- The one reply to a line in a world, and the world after it.
@@ -69,9 +63,9 @@ abbrev pub evaluations_under : Result Config Refusal → ℕ
 evaluations_under (Ok config) = 1
 evaluations_under (Err refusal) = 0
 
--- Once for each target that is asked about under a configuration.
+-- Once for each request that is asked about under a configuration.
 abbrev pub evaluations_of : World → Result Command (List ℕ) → ℕ
-evaluations_of world (Ok (ask target)) = if is_target target then evaluations_under (configuration world) else 0
+evaluations_of world (Ok (ask request)) = evaluations_under (configuration world)
 evaluations_of world (Ok (put path text)) = 0
 evaluations_of world (Ok (list path kind)) = 0
 evaluations_of world (Ok check) = 0

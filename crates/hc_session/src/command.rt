@@ -1,15 +1,17 @@
-ghost use Rattle.std.specs.Prelude.{◌≡◌, ℕ, List, IfOk, None, Ok, map};
+ghost use Rattle.std.specs.Prelude.{◌≡◌, IfOk, None, Ok};
 ghost use Rattle.std.specs.Option.{option_map};
-ghost use Rattle.serde_json.specs.View.{view, members_view};
-ghost use Rattle.hc_session.specs.Command.{json_of, required, unless_unknown, unknown_field, unknown_member};
+ghost use Rattle.serde_json.specs.View.{view};
 ghost use Rattle.hc_session.specs.Command.{ask_fields, check_fields, list_fields, put_fields};
 ghost use Rattle.hc_session.specs.Command.{ask_in, check, command_in, list_in, list_kind, put_in};
-ghost use Rattle.hc_session.specs.CommandView.{read_view, field_view, kind_view};
+ghost use Rattle.hc_session.specs.Command.{json_of, unless_unknown};
+ghost use Rattle.hc_session.specs.CommandView.{IsAskable, read_view, value_view};
+ghost use Rattle.hc_session.specs.Fields.{unknown_field};
 
+use crate::asked::{Asked, read_asked};
+use crate::fields::{BadField, required, unknown_field};
 use hc_base::NoMemory;
-use hc_base::bytes::is_among;
 use hc_world::ListKind;
-use serde_json::{Map, Value};
+use serde_json::Value;
 use std::alloc::Global;
 
 /// A command of a script. It borrows from the JSON value that it is read from.
@@ -21,14 +23,9 @@ pub enum Command<'v> {
     ListPath { path: &'v str, kind: ListKind },
     /// Reads the configuration.
     Check,
-    /// Asks what a request for a target receives.
-    Ask { target: &'v str },
+    /// Asks what a request receives.
+    Ask(Asked<'v>),
 }
-
-/// The first wrong field of a value that is no command: `do` where it is missing or unknown; else
-/// the least unknown field; else the first field of the command that is missing or ill-formed.
-#[derive(Clone, Copy)]
-pub struct BadField<'v>(pub &'v str);
 
 /// The JSON value that a line is; none where it is no JSON.
 #[tactic(auto, using(crate::proofs::Parsing::parsing))]
@@ -47,7 +44,8 @@ pub fn parse(alloc: Global, line: &[u8]) -> Result<Option<Value>, NoMemory>
 
 /// The command that a value is.
 pub fn read_command(value: &Value) -> Result<Command<'_>, BadField<'_>>
-    ensures { read_view result ≡ command_in (view value.now) }
+    ensures command { read_view result ≡ command_in (view value.now) }
+    ensures askable { IfOk result IsAskable }
 {
     match required(value, "do")? {
         "put" => read_put(value),
@@ -59,8 +57,9 @@ pub fn read_command(value: &Value) -> Result<Command<'_>, BadField<'_>>
 }
 
 fn read_put(value: &Value) -> Result<Command<'_>, BadField<'_>>
-    ensures { read_view result
+    ensures command { read_view result
         ≡ unless_unknown (unknown_field put_fields (view value.now)) (put_in (view value.now)) }
+    ensures askable { IfOk result IsAskable }
 {
     if let Some(field) = unknown_field(value, &["do", "path", "text"]) {
         return Err(BadField(field));
@@ -71,8 +70,9 @@ fn read_put(value: &Value) -> Result<Command<'_>, BadField<'_>>
 }
 
 fn read_list(value: &Value) -> Result<Command<'_>, BadField<'_>>
-    ensures { read_view result
+    ensures command { read_view result
         ≡ unless_unknown (unknown_field list_fields (view value.now)) (list_in (view value.now)) }
+    ensures askable { IfOk result IsAskable }
 {
     if let Some(field) = unknown_field(value, &["do", "path", "kind"]) {
         return Err(BadField(field));
@@ -83,7 +83,7 @@ fn read_list(value: &Value) -> Result<Command<'_>, BadField<'_>>
 }
 
 fn list_kind(name: &str) -> Result<ListKind, BadField<'static>>
-    ensures { kind_view result ≡ list_kind name.now }
+    ensures { value_view result ≡ list_kind name.now }
 {
     match name {
         "file" => Ok(ListKind::File),
@@ -93,7 +93,8 @@ fn list_kind(name: &str) -> Result<ListKind, BadField<'static>>
 }
 
 fn read_check(value: &Value) -> Result<Command<'_>, BadField<'_>>
-    ensures { read_view result ≡ unless_unknown (unknown_field check_fields (view value.now)) (Ok check) }
+    ensures command { read_view result ≡ unless_unknown (unknown_field check_fields (view value.now)) (Ok check) }
+    ensures askable { IfOk result IsAskable }
 {
     match unknown_field(value, &["do"]) {
         Some(field) => Err(BadField(field)),
@@ -102,39 +103,23 @@ fn read_check(value: &Value) -> Result<Command<'_>, BadField<'_>>
 }
 
 fn read_ask(value: &Value) -> Result<Command<'_>, BadField<'_>>
-    ensures { read_view result
+    ensures command { read_view result
         ≡ unless_unknown (unknown_field ask_fields (view value.now)) (ask_in (view value.now)) }
+    ensures askable { IfOk result IsAskable }
 {
-    if let Some(field) = unknown_field(value, &["do", "target"]) {
+    if let Some(field) = unknown_ask_field(value) {
         return Err(BadField(field));
     }
-    let target = required(value, "target")?;
-    Ok(Command::Ask { target })
+    Ok(Command::Ask(read_asked(value)?))
 }
 
-// The text at a key that must be there.
-fn required<'v>(value: &'v Value, key: &'v str) -> Result<&'v str, BadField<'v>>
-    ensures { field_view result ≡ required key.now (view value.now) }
+fn unknown_ask_field(value: &Value) -> Option<&str>
+    ensures { option_map (λ field. field.now) result ≡ unknown_field ask_fields (view value.now) }
 {
-    value.get(key).and_then(Value::as_str).ok_or(BadField(key))
-}
-
-// The first key, in byte order, that is not among the known ones.
-fn unknown_field<'v>(value: &'v Value, known: &[&str]) -> Option<&'v str>
-    ensures { option_map (λ field. field.now) result
-        ≡ unknown_field (map (λ k. k.now) known.now) (view value.now) }
-{
-    unknown_member(value.as_object()?, known)
-}
-
-fn unknown_member<'v>(members: &'v Map<String, Value>, known: &[&str]) -> Option<&'v str>
-    ensures { option_map (λ field. field.now) result
-        ≡ unknown_member (map (λ k. k.now) known.now) (members_view members.now.entries) }
-{
-    for (key, _) in members.iter() {
-        if !is_among(known, key.as_str()) {
-            return Some(key.as_str());
-        }
-    }
-    None
+    unknown_field(
+        value,
+        &[
+            "do", "target", "method", "scheme", "server", "port", "host", "client", "headers",
+        ],
+    )
 }

@@ -5,6 +5,9 @@
 mod asked;
 mod command;
 mod conversation;
+mod fields;
+mod forms;
+mod headers;
 mod limits;
 mod line_buffer;
 mod reply;

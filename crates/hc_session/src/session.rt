@@ -1,21 +1,21 @@
-ghost use Rattle.std.specs.Prelude.{◌≡◌, true, Ok, IfOk};
+ghost use Rattle.std.specs.Prelude.{◌≡◌, true, IfOk};
 ghost use Rattle.std.specs.Option.{option_map};
 ghost use Rattle.serde_json.specs.View.{view};
 ghost use Rattle.hc_model.specs.World.{new_world, put as put_in};
 ghost use Rattle.hc_base.specs.Gives.{Gives};
 ghost use Rattle.hc_base.specs.Paths.{begins_with_slash};
 ghost use Rattle.hc_serve.specs.Request.{received};
-ghost use Rattle.hc_session.specs.Asked.{asked};
-ghost use Rattle.hc_session.specs.Command.{ask, command_of_json};
-ghost use Rattle.hc_session.specs.CommandView.{read_view};
+ghost use Rattle.hc_session.specs.Command.{command_of_json};
+ghost use Rattle.hc_session.specs.CommandView.{IsAskable, read_view, request_view};
 ghost use Rattle.hc_session.specs.Reply.{done_list, done_put, refused, reply_line};
 ghost use Rattle.hc_session.specs.ReplyView.{reply_view};
 ghost use Rattle.hc_session.specs.Session.{Counts, Turned, TurnedInto, ask_reply, bad_command, bad_edit};
-ghost use Rattle.hc_session.specs.Session.{check_reply, configuration, edit_turn, evaluations, evaluations_of};
+ghost use Rattle.hc_session.specs.Session.{check_reply, configuration, edit_turn, evaluations, evaluations_under};
 ghost use Rattle.hc_world.specs.Edits.{listed};
 
-use crate::asked::{asked, is_target};
-use crate::command::{BadField, Command, parse, read_command};
+use crate::asked::Asked;
+use crate::command::{Command, parse, read_command};
+use crate::fields::BadField;
 use crate::reply::{Reply, print_reply};
 use hc_base::codes::BAD_COMMAND;
 use hc_base::{Fault, NoMemory, Place, Refusal, Steps, Text};
@@ -77,7 +77,7 @@ impl Session {
             Ok(Command::Put { path, text }) => self.put(path, text),
             Ok(Command::ListPath { path, kind }) => self.list(path, kind),
             Ok(Command::Check) => self.check(bytes),
-            Ok(Command::Ask { target }) => self.ask(target, evals, bytes),
+            Ok(Command::Ask(asked)) => self.ask(&asked, evals, bytes),
             Err(BadField(field)) => refuse(self.alloc, field),
         }
     }
@@ -127,49 +127,50 @@ impl Session {
 
     fn ask<E: Ledger, L: Ledger>(
         &self,
-        target: &str,
+        asked: &Asked<'_>,
         evals: &mut Steps<E>,
         bytes: &mut Steps<L>,
     ) -> Result<Text, NoMemory>
-        ensures line { IfOk result (λ line. line ≡ reply_line (ask_reply self.now target.now)) }
-        ensures evals { Counts result (evaluations_of self.now (Ok (ask target.now))) evals.old evals.new }
+        requires { begins_with_slash asked.now.target.now ≡ true }
+        ensures line { IfOk result
+            (λ line. line ≡ reply_line (ask_reply self.now (request_view asked.now) (configuration self.now))) }
+        ensures evals { Counts result (evaluations_under (configuration self.now)) evals.old evals.new }
     {
-        let reply = self.ask_reply(target.as_bytes(), evals, bytes)?;
+        let reply = self.ask_reply(asked, evals, bytes)?;
         print_reply(self.alloc, &reply)
     }
 
-    // The target is looked at before the configuration.
     fn ask_reply<E: Ledger, L: Ledger>(
         &self,
-        target: &[u8],
+        asked: &Asked<'_>,
         evals: &mut Steps<E>,
         bytes: &mut Steps<L>,
     ) -> Result<Reply, NoMemory>
-        ensures reply { IfOk result (λ reply. reply_view reply ≡ ask_reply self.now target.now) }
-        ensures evals { Counts result (evaluations_of self.now (Ok (ask target.now))) evals.old evals.new }
+        requires { begins_with_slash asked.now.target.now ≡ true }
+        ensures reply { IfOk result
+            (λ reply. reply_view reply ≡ ask_reply self.now (request_view asked.now) (configuration self.now)) }
+        ensures evals { Counts result (evaluations_under (configuration self.now)) evals.old evals.new }
     {
-        if !is_target(target) {
-            return Ok(Reply::Refused(bad_command(self.alloc, "target")?));
-        }
         match self.config(bytes) {
-            Ok(config) => Ok(Reply::Outcome(self.outcome(&config, target, evals)?)),
+            Ok(config) => Ok(Reply::Outcome(self.outcome(&config, asked, evals)?)),
             Err(Fault::Refused(refusal)) => Ok(Reply::Refused(refusal)),
             Err(Fault::NoMemory) => Err(NoMemory),
         }
     }
 
-    // What a request for a target receives.
+    // What a request receives.
     fn outcome<E: Ledger>(
         &self,
         config: &Config,
-        target: &[u8],
+        asked: &Asked<'_>,
         evals: &mut Steps<E>,
     ) -> Result<Outcome, NoMemory>
-        requires { begins_with_slash target.now ≡ true }
-        ensures outcome { IfOk result (λ outcome. outcome ≡ received self.now config.now (asked target.now)) }
+        requires { begins_with_slash asked.now.target.now ≡ true }
+        ensures outcome { IfOk result
+            (λ outcome. outcome ≡ received self.now config.now (request_view asked.now)) }
         ensures evals { Counts result 1 evals.old evals.new }
     {
-        let request = asked(self.alloc, target)?;
+        let request = asked.to_request(self.alloc)?;
         Ok(evaluate(self.alloc, config, &self.world, &request, evals)?.outcome)
     }
 
@@ -187,7 +188,8 @@ impl Session {
 
 // The command of a line, where the line is JSON.
 fn command_in(value: &Option<Value>) -> Result<Command<'_>, BadField<'_>>
-    ensures { read_view result ≡ command_of_json (option_map view value.now) }
+    ensures command { read_view result ≡ command_of_json (option_map view value.now) }
+    ensures askable { IfOk result IsAskable }
 {
     match value {
         Some(value) => read_command(value),

@@ -1,6 +1,6 @@
 //! Commands as they are read, and what stands behind a refusal.
 
-use crate::dialogue::hold;
+use crate::dialogue::{hold, hold_each};
 use crate::session::{check, session_over};
 use hc_base::NoMemory;
 use hc_session::Status;
@@ -89,4 +89,111 @@ ask /
 #[test]
 fn a_session_goes_on_after_a_refusal(rt: HostRuntime) -> Result<(), NoMemory> {
     hold(&rt, rt.alloc(), GOES_ON)
+}
+
+static FIELDS: &str = r##"main DocumentRoot /srv\nRedirect /o /n\n
+{"do":"ask","target":"/o"}
+{"outcome":{"redirect":{"location":"http://localhost/n","status":302}}}
+{"do":"ask","port":80,"target":"/o"}
+{"outcome":{"redirect":{"location":"http://localhost/n","status":302}}}
+{"do":"ask","port":443,"target":"/o"}
+{"outcome":{"redirect":{"location":"http://localhost:443/n","status":302}}}
+{"do":"ask","port":0,"target":"/o"}
+{"outcome":{"redirect":{"location":"http://localhost:0/n","status":302}}}
+{"do":"ask","port":65535,"target":"/o"}
+{"outcome":{"redirect":{"location":"http://localhost:65535/n","status":302}}}
+{"do":"ask","scheme":"https","target":"/o"}
+{"outcome":{"redirect":{"location":"https://localhost/n","status":302}}}
+{"do":"ask","scheme":"https","port":443,"target":"/o"}
+{"outcome":{"redirect":{"location":"https://localhost/n","status":302}}}
+{"do":"ask","scheme":"https","port":80,"target":"/o"}
+{"outcome":{"redirect":{"location":"https://localhost:80/n","status":302}}}
+{"do":"ask","scheme":"http","port":-1,"port":443,"target":"/o"}
+{"outcome":{"redirect":{"location":"http://localhost:443/n","status":302}}}
+{"do":"ask","host":"A.b-1","target":"/o"}
+{"outcome":{"redirect":{"location":"http://A.b-1/n","status":302}}}
+{"do":"ask","host":"","target":"/o"}
+{"outcome":{"redirect":{"location":"http://192.0.2.1/n","status":302}}}
+{"do":"ask","host":"","server":"198.51.100.7","target":"/o"}
+{"outcome":{"redirect":{"location":"http://198.51.100.7/n","status":302}}}
+{"do":"ask","host":"","server":"2001:DB8::1","client":"::","target":"/o"}
+{"outcome":{"redirect":{"location":"http://2001:db8:0:0:0:0:0:1/n","status":302}}}
+{"do":"ask","target":"/o","method":"ABCDEFGHIJKLMNOPQRSTUVWXYZABCDEF","client":"198.51.100.8","headers":{}}
+{"outcome":{"redirect":{"location":"http://localhost/n","status":302}}}
+{"do":"ask","target":"/o","headers":{"Accept":"","Hos":" ~","Host-":"a","X":"1","X_":"1",
+  "abcdefghijklmnopqrstuvwxyz_ABCDEFGHIJKLMNOPQRSTUVWXYZ-0123456789":""}}
+{"outcome":{"redirect":{"location":"http://localhost/n","status":302}}}
+{"do":"ask","target":"/o","host":"
+  abcdefghijklmnopqrstuvwxyz.ABCDEFGHIJKLMNOPQRSTUVWXYZ-0123456789
+  abcdefghijklmnopqrstuvwxyz.ABCDEFGHIJKLMNOPQRSTUVWXYZ-0123456789
+  abcdefghijklmnopqrstuvwxyz.ABCDEFGHIJKLMNOPQRSTUVWXYZ-0123456789
+  abcdefghijklmnopqrstuvwxyz.ABCDEFGHIJKLMNOPQRSTUVWXYZ-012345678"}
+{"outcome":{"redirect":{"location":"http://
+  abcdefghijklmnopqrstuvwxyz.ABCDEFGHIJKLMNOPQRSTUVWXYZ-0123456789
+  abcdefghijklmnopqrstuvwxyz.ABCDEFGHIJKLMNOPQRSTUVWXYZ-0123456789
+  abcdefghijklmnopqrstuvwxyz.ABCDEFGHIJKLMNOPQRSTUVWXYZ-0123456789
+  abcdefghijklmnopqrstuvwxyz.ABCDEFGHIJKLMNOPQRSTUVWXYZ-012345678/n",
+  "status":302}}}
+"##;
+
+static WRONG_FIELDS: &str = r##"wrong trail "target":"/","trail":false
+wrong a "z":0,"target":"","a":0
+wrong target "headers":[],"client":"","host":"_","port":"","server":"","scheme":"","method":"","target":""
+wrong target "method":""
+wrong method "headers":[],"client":"","host":"_","port":"","server":"","scheme":"","method":"","target":"/"
+wrong scheme "headers":[],"client":"","host":"_","port":"","server":"","scheme":"","target":"/"
+wrong server "headers":[],"client":"","host":"_","port":"","server":"","target":"/"
+wrong port "headers":[],"client":"","host":"_","port":"","target":"/"
+wrong host "headers":[],"client":"","host":"_","target":"/"
+wrong client "headers":[],"client":"","target":"/"
+wrong headers "headers":[],"target":"/"
+wrong method "target":"/","method":"get"
+wrong method "target":"/","method":"A1"
+wrong method "target":"/","method":7
+wrong method "target":"/","method":null
+wrong method "target":"/","method":"ABCDEFGHIJKLMNOPQRSTUVWXYZABCDEFG"
+wrong scheme "target":"/","scheme":"HTTP"
+wrong scheme "target":"/","scheme":"ftp"
+wrong scheme "target":"/","scheme":null
+wrong server "target":"/","server":"192.0.2"
+wrong server "target":"/","server":"192.0.2.256"
+wrong server "target":"/","server":"1::2::3"
+wrong server "target":"/","server":3
+wrong port "target":"/","port":80.0
+wrong port "target":"/","port":8e1
+wrong port "target":"/","port":-1
+wrong port "target":"/","port":-0
+wrong port "target":"/","port":65536
+wrong port "target":"/","port":18446744073709551616
+wrong port "target":"/","port":"80"
+wrong port "target":"/","port":null
+wrong host "target":"/","host":"a_b"
+wrong host "target":"/","host":"a b"
+wrong host "target":"/","host":"\u00e9"
+wrong host "target":"/","host":null
+wrong host "target":"/","host":"
+  abcdefghijklmnopqrstuvwxyz.ABCDEFGHIJKLMNOPQRSTUVWXYZ-0123456789
+  abcdefghijklmnopqrstuvwxyz.ABCDEFGHIJKLMNOPQRSTUVWXYZ-0123456789
+  abcdefghijklmnopqrstuvwxyz.ABCDEFGHIJKLMNOPQRSTUVWXYZ-0123456789
+  abcdefghijklmnopqrstuvwxyz.ABCDEFGHIJKLMNOPQRSTUVWXYZ-0123456789"
+wrong client "target":"/","client":"localhost"
+wrong client "target":"/","client":"1.2.3.4 "
+wrong client "target":"/","client":[]
+wrong headers "target":"/","headers":""
+wrong headers "target":"/","headers":{"":""}
+wrong headers "target":"/","headers":{"a b":""}
+wrong headers "target":"/","headers":{"a":1}
+wrong headers "target":"/","headers":{"a":"\t"}
+wrong headers "target":"/","headers":{"a":"\u00e9"}
+wrong headers "target":"/","headers":{"Host":"a"}
+wrong headers "target":"/","headers":{"hOST":""}
+wrong headers "target":"/","headers":{"Ab":"","aB":""}
+wrong headers "target":"/","headers":{"A-b":"1","B":"","a-B":"1"}
+wrong headers "target":"/","headers":{"
+  abcdefghijklmnopqrstuvwxyz_ABCDEFGHIJKLMNOPQRSTUVWXYZ-01234567899":""}
+"##;
+
+#[test]
+fn an_ask_takes_its_fields_where_they_are_of_their_form(rt: HostRuntime) -> Result<(), NoMemory> {
+    hold_each(&rt, rt.alloc(), &[FIELDS, WRONG_FIELDS])
 }

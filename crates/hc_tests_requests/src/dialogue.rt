@@ -53,17 +53,37 @@ fn ask(said: &mut Said, target: &str) -> Result<(), NoMemory> {
     )
 }
 
-// `main TEXT` and `PATH TEXT` put a file, whose text stands as in JSON, and `file PATH` lists one; a line
-// `{"do"..` is a command as it stands, and any other a reply.
-fn take_line(said: &mut Said, line: &str) -> Result<(), NoMemory> {
-    let (word, rest) = match line.split_once(' ') {
+// The field that is named first is the wrong one.
+fn ask_wrongly(said: &mut Said, line: &str) -> Result<(), NoMemory> {
+    let (field, fields) = word_and_rest(line);
+    push_all(&mut said.input, &["{\"do\":\"ask\",", fields, "}\n"])?;
+    push_all(
+        &mut said.wanted,
+        &[
+            "{\"refused\":{\"at\":0,\"code\":46,\"field\":\"",
+            field,
+            "\",\"file\":\"\",\"line\":0,\"name\":\"BadCommand\"}}\n",
+        ],
+    )
+}
+
+fn word_and_rest(line: &str) -> (&str, &str) {
+    match line.split_once(' ') {
         Some(parts) => parts,
         None => (line, ""),
-    };
+    }
+}
+
+// `main TEXT` and `PATH TEXT` put a file, whose text stands as in JSON, and `file PATH` lists one;
+// `wrong FIELD FIELDS` asks with these fields, of which that one is refused; a line `{"do"..` is a command as
+// it stands, and any other a reply.
+fn take_line(said: &mut Said, line: &str) -> Result<(), NoMemory> {
+    let (word, rest) = word_and_rest(line);
     match word {
         "main" => put(said, MAIN_FILE, rest),
         "file" => list(said, rest),
         "ask" => ask(said, rest),
+        "wrong" => ask_wrongly(said, rest),
         "check" => said.input.push_str("{\"do\":\"check\"}\n"),
         _ if word.starts_with('/') => put(said, word, rest),
         _ if word.starts_with("{\"do\"") => push_all(&mut said.input, &[line, "\n"]),

@@ -1,7 +1,7 @@
 use Rattle.std.proofs.Common.{◌≡◌, map}
 use Rattle.serde_json.specs.View.{members_view}
-use Rattle.hc_session.specs.Command.{unknown_member}
-use Rattle.hc_session.proofs.command.unknown_member.Given as goal
+use Rattle.hc_session.specs.Fields.{unknown_member}
+use Rattle.hc_session.proofs.fields.unknown_member.Given as goal
 
 -- the members that are left decide
 abbrev pub invariant-loop-key : goal.invariant-loop-key
