@@ -11,4 +11,6 @@ mod sizes;
 
 pub use addr::{Addr, parse_addr};
 pub use net::{BadAddress, Net, holds, parse_net};
+pub use numbers::number_up_to;
 pub use print::print_addr;
+pub use sizes::HIGHEST_PORT;

@@ -9,7 +9,7 @@ ghost use Rattle.hc_addr.specs.Forms.{number_in, separator_of, base_of, most_of,
 
 use crate::sizes::{
     BYTE_DIGITS, BYTE_VALUES, BYTES, DECIMAL, GROUP_DIGITS, GROUP_VALUES, GROUPS, HEXADECIMAL,
-    HIGHEST_BYTE, V6_BITS,
+    HIGHEST_BYTE, HIGHEST_PORT,
 };
 
 /// How the numbers of an address are written.
@@ -61,7 +61,7 @@ pub fn number(text: &[u8], radix: u32, most: usize) -> Option<u32>
 /// The number that a text of decimal digits, however many, writes, if it is at most `highest`.
 /// Once it passes `highest` the rest is not read, since more digits only make it larger.
 pub fn number_up_to(text: &[u8], highest: u32) -> Option<u32>
-    requires { highest ≤ V6_BITS }
+    requires { highest ≤ HIGHEST_PORT }
     ensures value { result ≡ at_most highest (decimal_of text.now) }
     ensures within { IfSome result (λ n. n ≤ highest) }
 {

@@ -35,3 +35,6 @@ pub const BYTE_DIGITS: usize = 3;
 
 /// How many digits write a group at most.
 pub const GROUP_DIGITS: usize = 4;
+
+/// The highest port of a connection.
+pub const HIGHEST_PORT: u32 = 65_535;
