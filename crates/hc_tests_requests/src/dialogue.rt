@@ -6,6 +6,9 @@ use hc_session::{MAIN_FILE, Status};
 use std::alloc::Global;
 use std::process::Abort;
 
+// The most bytes that a session writes.
+const LONGEST_REPLIES: usize = 65_536;
+
 // What goes into a session, and what it is to write.
 #[derive(Drop)]
 struct Said {
@@ -107,7 +110,7 @@ fn said_in(alloc: Global, dialogue: &str) -> Result<Said, NoMemory> {
 /// Holds a dialogue in a session of its own.
 pub fn hold(rt: &impl Abort, alloc: Global, dialogue: &str) -> Result<(), NoMemory> {
     let said = said_in(alloc, dialogue)?;
-    let end = session_over(alloc, said.input.as_bytes(), &[], &[], 4096)?;
+    let end = session_over(alloc, said.input.as_bytes(), &[], &[], LONGEST_REPLIES)?;
     check(rt, &end, Status::Done, said.wanted.as_bytes(), dialogue);
     Ok(())
 }
