@@ -8,3 +8,4 @@ mod mapping;
 mod tests;
 
 pub use mapping::{Away, Mapped, directory_redirect, map_url};
+pub use tests::is_below;

@@ -56,7 +56,7 @@ fn piece_of<'p>(path: &'p [u8], span: Option<Span>) -> &'p [u8]
 
 /// A path that ends in a slash takes what begins with it; another takes itself, and what begins
 /// with it and a slash.
-fn is_below(from: &[u8], path: &[u8]) -> bool
+pub fn is_below(from: &[u8], path: &[u8]) -> bool
     ensures { result ≡ is_below from.now path.now }
 {
     path.starts_with(from)

@@ -1,24 +1,34 @@
 -- The directives and sections that are built so far: what words each takes, and what it gives.
 -- Apache manual: core; mod_alias, Alias; mod_so, LoadModule; mod_userdir, UserDir. What is not built
 -- is refused as if it had no name; our own choice.
-use Rattle.std.specs.Prelude.{ℕ, ◌-◌, List, [], ◌∷◌, length, take, Bool, ◌&&◌, nat_le, nat_lt, if◌then◌else◌}
+use Rattle.std.specs.Prelude.{ℕ, List, [], ◌∷◌, length, Bool, ◌&&◌, nat_le, if◌then◌else◌}
 use Rattle.std.specs.Prelude.{Option, Some, None, Result, Ok, Err, codes}
 use Rattle.std.specs.Str.{str_eq_ignore_ascii_case}
-use Rattle.hc_base.specs.Paths.{begins_with_slash, ends_with_slash}
+use Rattle.hc_base.specs.Paths.{begins_with_slash}
 use Rattle.hc_base.specs.declared.fault.AtByte.{AtByte}
 use Rattle.hc_model.specs.declared.mapping.PathTest.{PathTest}
+use Rattle.hc_model.specs.declared.section.Reach.{Reach}
+use Rattle.hc_model.specs.declared.section.Reach.TheVariants.{DirSearch, Files, LocationSearch}
 use Rattle.hc_model.specs.declared.spot.Spot.{Spot}
 use Rattle.hc_model.specs.declared.template.Piece.{Piece}
 use Rattle.hc_table.specs.declared.meaning.TheConstants.{ACCESS_FILE_NAME, ALIAS, ALIAS_MATCH, DEFINE, DOCUMENT_ROOT}
 use Rattle.hc_table.specs.declared.meaning.TheConstants.{IF_DEFINE, IF_MODULE, INCLUDE, INCLUDE_OPTIONAL, INERT, LOAD_MODULE}
 use Rattle.hc_table.specs.declared.meaning.TheConstants.{REDIRECT, REDIRECT_MATCH, REDIRECT_PERMANENT, REDIRECT_TEMP}
 use Rattle.hc_table.specs.declared.meaning.TheConstants.{SCRIPT_ALIAS, SERVER_ROOT, USER_DIR, USE_CANONICAL_NAME}
+use Rattle.hc_table.specs.declared.meaning.TheConstants.{ALLOW_OVERRIDE, OPTIONS, SERVER_ALIAS, SERVER_NAME, VIRTUAL_HOST}
+use Rattle.hc_table.specs.declared.meaning.TheConstants.{DIRECTORY, DIRECTORY_MATCH, FILES, FILES_MATCH, LOCATION, LOCATION_MATCH}
 use Rattle.hc_config.specs.Among.{Among}
+use Rattle.hc_config.specs.Hosts.{host_addrs, name_without_port}
+use Rattle.hc_config.specs.Options.{allowed_by, options_step}
 use Rattle.hc_config.specs.Rows.{by_number}
+use Rattle.hc_config.specs.Sections.{directory, location, name_glob, pattern_alone, plain_or_tilde}
 use Rattle.hc_config.specs.Statuses.{first_status, has_url}
-use Rattle.hc_config.specs.Targets.{own_target_by, target_by, test_by, wrong}
+use Rattle.hc_config.specs.Targets.{own_target_by, target_by, test_by, without_final_slash, wrong}
 use Rattle.hc_config.specs.declared.effect.Effect.{Effect}
-use Rattle.hc_config.specs.declared.effect.Effect.TheVariants.{Nothing, Root, Map, Send}
+use Rattle.hc_config.specs.declared.effect.Effect.TheVariants.{Nothing, Gives, Opens}
+use Rattle.hc_config.specs.declared.levels.Given.TheVariants as given
+use Rattle.hc_config.specs.declared.levels.Opened.{Opened}
+use Rattle.hc_config.specs.declared.levels.Opened.TheVariants.{Host, Reached}
 use Rattle.hc_config.specs.declared.status.TheConstants.{PERMANENT, TEMPORARY}
 use Rattle.hc_config.specs.declared.targets.PathForm.{PathForm}
 use Rattle.hc_config.specs.declared.targets.PathForm.TheVariants.{Plain, Match}
@@ -53,12 +63,8 @@ abbrev pub server_root : List (List ℕ) → Result Effect AtByte
 server_root (path ∷ []) = if_fits (begins_with_slash path) Nothing
 server_root words = Err wrong
 
--- A final slash is dropped, but for `/`.
-abbrev pub without_final_slash : List ℕ → List ℕ
-without_final_slash path = if nat_lt 1 (length path) && ends_with_slash path then take (length path - 1) path else path
-
 abbrev pub document_root : List (List ℕ) → Result Effect AtByte
-document_root (path ∷ []) = if_fits (begins_with_slash path) (Root (without_final_slash path))
+document_root (path ∷ []) = if_fits (begins_with_slash path) (Gives (given.Root (without_final_slash path)))
 document_root words = Err wrong
 
 -- ---- aliases and redirects
@@ -71,14 +77,14 @@ aimed (Ok to) (Ok from) gives = Ok (gives to from)
 
 -- Which paths, and where their files are.
 abbrev pub mapped : Spot → List Piece → PathTest → Effect
-mapped spot to from = Map (record { place = spot.place; span = spot.span; from = from; to = to })
+mapped spot to from = Gives (given.Map (record { place = spot.place; span = spot.span; from = from; to = to }))
 
 abbrev pub alias_by : PathForm → Giving
 alias_by form among (from ∷ to ∷ []) = aimed (own_target_by form to) (test_by form from) (mapped among.entry.spot)
 alias_by form among words = Err wrong
 
 abbrev pub sent : Spot → ℕ → List Piece → PathTest → Effect
-sent spot status to from = Send (record { place = spot.place; span = spot.span; from = from; to = to; status = status })
+sent spot status to from = Gives (given.Send (record { place = spot.place; span = spot.span; from = from; to = to; status = status }))
 
 -- Which paths, and the URL.
 abbrev pub sent_to_url : PathForm → ℕ → Giving
@@ -104,9 +110,59 @@ abbrev pub redirect_by : PathForm → Giving
 redirect_by form among [] = Err wrong
 redirect_by form among (word ∷ words) = sent_behind form (first_status word) word among words
 
+-- ---- servers and what is in force
+
+-- What is read gives this.
+abbrev pub given_by : {A : Type 0} → (A → Effect) → Result A AtByte → Result Effect AtByte
+given_by gives (Err broken) = Err broken
+given_by gives (Ok read) = Ok (gives read)
+
+abbrev pub server_name : List (List ℕ) → Result Effect AtByte
+server_name (name ∷ []) = Ok (Gives (given.Name (name_without_port name)))
+server_name words = Err wrong
+
+-- One name or more.
+abbrev pub server_alias : List (List ℕ) → Result Effect AtByte
+server_alias [] = Err wrong
+server_alias (name ∷ names) = Ok (Gives (given.Names (name ∷ names)))
+
+abbrev pub options : List (List ℕ) → Result Effect AtByte
+options words = given_by (λ step. Gives (given.Options step)) (options_step words)
+
+abbrev pub allow_override : List (List ℕ) → Result Effect AtByte
+allow_override words = given_by (λ allowed. Gives (given.Allow allowed)) (allowed_by words)
+
+-- ---- sections
+
+abbrev pub opens : Among → Opened → Effect
+opens among opened = Opens (record { spot = among.entry.spot; opened = opened })
+
+-- One address or more.
+abbrev pub virtual_host : Giving
+virtual_host among [] = Err wrong
+virtual_host among (word ∷ words) = given_by (λ addresses. opens among (Host addresses)) (host_addrs (word ∷ words))
+
+abbrev pub section : (List (List ℕ) → Result Reach AtByte) → Giving
+section reach among words = given_by (λ reach. opens among (Reached reach)) (reach words)
+
 -- ---- by meaning
 
 -- A further directive is a further row.
+abbrev pub server_givings : List (ℕ × Giving)
+server_givings =
+    (SERVER_NAME, by_words server_name) ∷
+    (SERVER_ALIAS, by_words server_alias) ∷
+    (OPTIONS, by_words options) ∷
+    (ALLOW_OVERRIDE, by_words allow_override) ∷
+    (VIRTUAL_HOST, virtual_host) ∷
+    (DIRECTORY, section (plain_or_tilde directory DirSearch)) ∷
+    (DIRECTORY_MATCH, section (pattern_alone DirSearch)) ∷
+    (FILES, section (plain_or_tilde name_glob Files)) ∷
+    (FILES_MATCH, section (pattern_alone Files)) ∷
+    (LOCATION, section (plain_or_tilde location LocationSearch)) ∷
+    (LOCATION_MATCH, section (pattern_alone LocationSearch)) ∷
+    []
+
 abbrev pub givings : List (ℕ × Giving)
 givings =
     (SERVER_ROOT, by_words server_root) ∷
@@ -128,7 +184,7 @@ givings =
     (INERT, by_words any_arguments) ∷
     (IF_DEFINE, by_words (counted 1 1)) ∷
     (IF_MODULE, by_words (counted 1 1)) ∷
-    []
+    server_givings
 
 -- What a directive or section of this meaning gives, where it is built.
 abbrev pub giving : ℕ → Option Giving

@@ -3,6 +3,12 @@ pub mod Targets
 pub mod TargetViews
 pub mod Statuses
 pub mod Among
+pub mod Hosts
+pub mod Options
+pub mod Sections
+pub mod SectionViews
+pub mod Levels
+pub mod LevelViews
 pub mod Directives
 pub mod Rules
 pub mod Configuration

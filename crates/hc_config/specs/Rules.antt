@@ -1,6 +1,7 @@
 -- The rules that an entry of the flat list may break. The refusals and their order are our own
 -- choice; docs/RULES.md says for each which page of the manual it rests on.
-use Rattle.std.specs.Prelude.{ℕ, ◌==◌, List, Bool, true, false, not, ◌&&◌, is_some, if◌then◌else◌, Option, Some, None, Result, Ok, Err, bit_and}
+use Rattle.std.specs.Prelude.{ℕ, ◌==◌, List, [], ◌∷◌, Bool, true, false, not, ◌&&◌, is_some, if◌then◌else◌, Option, Some, None, Result, Ok, Err, bit_and}
+use Rattle.std.specs.List.{list_any}
 use Rattle.hc_base.specs.Rules.{rule}
 use Rattle.hc_base.specs.declared.codes.TheConstants.{UNSUPPORTED_DIRECTIVE, WRONG_CONTEXT}
 use Rattle.hc_base.specs.declared.fault.AtByte.{AtByte}
@@ -9,13 +10,14 @@ use Rattle.hc_model.specs.declared.entry.EntryForm.{EntryForm}
 use Rattle.hc_model.specs.declared.entry.EntryForm.TheVariants.{Close, Directive, Opening}
 use Rattle.hc_table.specs.Directives.{directive_rows, is_container}
 use Rattle.hc_table.specs.Table.{find_in}
+use Rattle.hc_table.specs.declared.meaning.TheConstants.{DIRECTORY, DIRECTORY_MATCH, FILES, FILES_MATCH, LOCATION, LOCATION_MATCH, VIRTUAL_HOST}
 use Rattle.hc_table.specs.declared.table.RowKind.{RowKind}
 use Rattle.hc_table.specs.declared.table.Wording.{Wording}
 use Rattle.hc_table.specs.declared.table.Wording.TheVariants.{Configuration, Rewriting}
-use Rattle.hc_config.specs.Among.{Among, context_of}
+use Rattle.hc_config.specs.Among.{Among}
 use Rattle.hc_config.specs.Directives.{Giving, giving}
 use Rattle.hc_config.specs.declared.effect.Effect.{Effect}
-use Rattle.hc_config.specs.declared.effect.Effect.TheVariants.{Nothing}
+use Rattle.hc_config.specs.declared.effect.Effect.TheVariants.{Closes, Nothing}
 
 -- ---- what an entry is
 
@@ -56,12 +58,24 @@ if_placed false kind among = Err (rule WRONG_CONTEXT)
 if_placed true kind among = if_read (read_words (spelling_of kind.wording) among.entry.rest) (giving kind.meaning) among
 
 -- A name that is not supported.
-abbrev pub if_supported : Option RowKind → Among → Result Effect AtByte
-if_supported None among = Err (rule UNSUPPORTED_DIRECTIVE)
-if_supported (Some kind) among = if_placed (may_stand (context_of among) kind) kind among
+abbrev pub if_supported : ℕ → Option RowKind → Among → Result Effect AtByte
+if_supported context None among = Err (rule UNSUPPORTED_DIRECTIVE)
+if_supported context (Some kind) among = if_placed (may_stand context kind) kind among
 
--- A close gives nothing, and breaks no rule.
-unfoldable pub judged : Among → Result Effect AtByte
-judged among =
-    if is_closing among.entry.form then Ok Nothing
-    else if_supported (supported among.entry.form (find_in directive_rows among.entry.name)) among
+-- The sections that have settings of their own. What stands in another one stands where that does.
+abbrev pub levels : List ℕ
+levels = VIRTUAL_HOST ∷ DIRECTORY ∷ DIRECTORY_MATCH ∷ FILES ∷ FILES_MATCH ∷ LOCATION ∷ LOCATION_MATCH ∷ []
+
+abbrev pub is_level : Option RowKind → Bool
+is_level None = false
+is_level (Some kind) = list_any (λ level. kind.meaning == level) levels
+
+-- A close breaks no rule.
+abbrev pub closing : Option RowKind → Effect
+closing kind = if is_level kind then Closes else Nothing
+
+-- By the context in which the entry stands.
+unfoldable pub judged : ℕ → Among → Result Effect AtByte
+judged context among =
+    if is_closing among.entry.form then Ok (closing (find_in directive_rows among.entry.name))
+    else if_supported context (supported among.entry.form (find_in directive_rows among.entry.name)) among

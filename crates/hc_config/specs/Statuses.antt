@@ -14,7 +14,8 @@ use Rattle.hc_config.specs.declared.status.TheConstants.{BEHIND_REDIRECTS, BEHIN
 abbrev pub status_names : List (List ℕ × ℕ)
 status_names = (codes "permanent", PERMANENT) ∷ (codes "temp", TEMPORARY) ∷ (codes "seeother", SEE_OTHER) ∷ (codes "gone", GONE) ∷ []
 
-abbrev pub named_in : List ℕ → List (List ℕ × ℕ) → Option ℕ
+-- What the first row of this name has, without case.
+abbrev pub named_in : {A : Type 0} → List ℕ → List (List ℕ × A) → Option A
 named_in word [] = None
 named_in word (row ∷ rows) = if str_eq_ignore_ascii_case row.0 word then Some row.1 else named_in word rows
 

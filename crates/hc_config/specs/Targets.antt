@@ -1,11 +1,11 @@
 -- Where aliases and redirects look, and where they lead.
 -- Apache manual, mod_alias: AliasMatch, Redirect, RedirectMatch. What is kept for other signs is our
 -- own choice.
-use Rattle.std.specs.Prelude.{ℕ, ◌-◌, ◌==◌, List, [], ◌∷◌, ◌||◌, ◌&&◌, Bool, false, if◌then◌else◌, Result, Ok, Err}
+use Rattle.std.specs.Prelude.{ℕ, ◌-◌, ◌==◌, List, [], ◌∷◌, ◌||◌, ◌&&◌, Bool, false, if◌then◌else◌, Result, Ok, Err, length, take, nat_lt}
 use Rattle.std.specs.Char.{is_ascii_digit}
 use Rattle.std.specs.List.{list_any}
 use Rattle.hc_base.specs.Bytes.{ampersand, backslash, digit_zero, dollar}
-use Rattle.hc_base.specs.Paths.{begins_with_slash}
+use Rattle.hc_base.specs.Paths.{begins_with_slash, ends_with_slash}
 use Rattle.hc_base.specs.Rules.{rule}
 use Rattle.hc_base.specs.declared.codes.TheConstants.{WRONG_ARGUMENTS}
 use Rattle.hc_base.specs.declared.fault.AtByte.{AtByte}
@@ -32,6 +32,12 @@ search_test word = elim (parse_pattern word false) [ Ok pattern ↦ Ok (Search p
 abbrev pub test_by : PathForm → List ℕ → Result PathTest AtByte
 test_by Plain word = prefix_test word
 test_by Match word = search_test word
+
+-- ---- paths
+
+-- A final slash is dropped, but for `/`.
+abbrev pub without_final_slash : List ℕ → List ℕ
+without_final_slash path = if nat_lt 1 (length path) && ends_with_slash path then take (length path - 1) path else path
 
 -- ---- targets
 

@@ -1,20 +1,24 @@
-ghost use Rattle.std.specs.Prelude.{◌≡◌, [], IfOk, OnOk, Err};
+ghost use Rattle.std.specs.Prelude.{◌≡◌, ◌==◌, ◌||◌, length, IfOk, OnOk, Err, []};
+ghost use Rattle.std.specs.List.{list_any};
 ghost use Rattle.hc_base.specs.Gives.{Gives};
 ghost use Rattle.hc_base.specs.Rules.{refusal_at};
 ghost use Rattle.hc_flat.specs.EntriesView.{entry_of};
-ghost use Rattle.hc_config.specs.Configuration.{built, config_of, finished, gathered_from, main_server, no_body};
-ghost use Rattle.hc_config.specs.Configuration.{nothing_gathered, rootless, unless_rootless, unless_stopped};
-ghost use Rattle.hc_config.specs.Configuration.{with_effect};
+ghost use Rattle.hc_config.specs.Configuration.{built, config_of, gathered_from, has_no_root, is_rootless, no_place};
+ghost use Rattle.hc_config.specs.Configuration.{rootless, unless_rootless, unless_stopped, with_effect};
+ghost use Rattle.hc_config.specs.LevelViews.{gathered_view, standing_of};
+ghost use Rattle.hc_config.specs.Levels.{nothing_standing};
 
 use crate::among::{Among, place_of};
 use crate::effect::Effect;
+use crate::levels::{Gathered, Standing};
 use crate::rules::judge;
 use hc_base::codes::NO_DOCUMENT_ROOT;
 use hc_base::{AtByte, Fault, List, NoMemory, Place, Refusal, Text};
 use hc_flat::{Entries, EntryView, Flat};
-use hc_model::{Alias, Body, Config, Inherit, Merging, Redirect, Server};
+use hc_model::{Config, Server};
 use hc_table::directives;
 use std::alloc::Global;
+use std::mem::replace;
 
 /// Why a flat list gives no configuration.
 pub type BuildFault = Fault<Refusal>;
@@ -30,7 +34,7 @@ pub fn build(alloc: Global, flat: &Flat) -> Result<Config, BuildFault>
     ensures { Gives result (built flat.now) }
 {
     match gather(alloc, &flat.entries) {
-        Ok(gathered) => finish(alloc, flat, gathered),
+        Ok(standing) => finish(alloc, flat, standing.so_far),
         Err(fault) => Err(fault),
     }
 }
@@ -47,80 +51,70 @@ fn finish(alloc: Global, flat: &Flat, gathered: Gathered) -> Result<Config, Buil
 
 // Last comes that there is no document root.
 fn finish_rooted(alloc: Global, flat: &Flat, gathered: Gathered) -> Result<Config, BuildFault>
-    ensures { Gives result (unless_rootless flat.now gathered gathered.root) }
+    ensures { Gives result (unless_rootless flat.now gathered) }
 {
-    match &gathered.root {
-        Some(_) => Ok(config_of(alloc, flat, gathered)?),
-        None => Err(Fault::Refused(rootless(alloc, &flat.file)?)),
+    if is_rootless(&gathered) {
+        return Err(Fault::Refused(rootless(alloc, &flat.file)?));
     }
+    Ok(config_of(alloc, flat, gathered)?)
 }
 
-/// What entries give.
-#[derive(Drop)]
-pub(crate) struct Gathered {
-    /// The last document root so far.
-    root: Option<Text>,
-    /// The redirects so far.
-    redirects: List<Redirect>,
-    /// The aliases so far.
-    maps: List<Alias>,
+fn is_rootless(gathered: &Gathered) -> bool
+    ensures { result ≡ is_rootless gathered.now }
+{
+    gathered.root.is_none() && some_host_lacks_root(gathered.hosts.as_slice())
+}
+
+fn some_host_lacks_root(hosts: &[Server]) -> bool
+    ensures { result ≡ ((length hosts.now == 0) || list_any has_no_root hosts.now) }
+{
+    hosts.is_empty() || any_without_root(hosts)
+}
+
+fn any_without_root(hosts: &[Server]) -> bool
+    ensures { result ≡ list_any has_no_root hosts.now }
+{
+    hosts.iter().any(|host| host.root.is_none())
 }
 
 #[tactic(auto, using(crate::proofs::Places::before_more))]
-fn gather(alloc: Global, entries: &Entries) -> Result<Gathered, BuildFault>
-    ensures { Gives result (gathered_from nothing_gathered [] entries.now) }
+fn gather(alloc: Global, entries: &Entries) -> Result<Standing, BuildFault>
+    ensures { Gives (gathered_view result) (gathered_from nothing_standing [] entries.now) }
 {
     let names = directives();
-    let mut gathered = Gathered {
-        root: None,
-        redirects: List::new(alloc),
-        maps: room_for(alloc, entries.len()),
-    };
+    let mut standing = Standing::nothing(alloc, entries.len());
     for place in 0..entries.len() {
         let entry = entries.entry(place);
         let among = Among {
             alloc,
             names: names.rows,
+            context: standing.context(),
             entries,
             place,
             entry,
         };
         match judge(&among) {
-            Ok(effect) => perform(&mut gathered, effect)?,
+            Ok(effect) => perform(alloc, &mut standing, effect)?,
             Err(Fault::Refused(broken)) => return refused(alloc, entry, broken),
             Err(Fault::NoMemory) => return Err(Fault::NoMemory),
         }
     }
-    Ok(gathered)
+    Ok(standing)
 }
 
-// No aliases, with room for so many where there is memory for it: a list that grows by doubling leaves
-// holes as large as itself.
-fn room_for(alloc: Global, aliases: usize) -> List<Alias>
-    ensures { result ≡ [] }
-{
-    match Vec::with_capacity(alloc, aliases) {
-        Ok(room) => List::from(room),
-        Err(_) => List::new(alloc),
-    }
-}
-
-fn perform(gathered: &mut Gathered, effect: Effect) -> Result<(), NoMemory>
-    ensures { OnOk result (gathered.new ≡ with_effect gathered.old effect) }
+fn perform(alloc: Global, standing: &mut Standing, effect: Effect) -> Result<(), NoMemory>
+    ensures { OnOk result (standing_of standing.new ≡ with_effect (standing_of standing.old) effect) }
 {
     match effect {
         Effect::Nothing => Ok(()),
-        Effect::Root(path) => {
-            gathered.root = Some(path);
-            Ok(())
-        }
-        Effect::Map(alias) => gathered.maps.push(alias),
-        Effect::Send(redirect) => gathered.redirects.push(redirect),
+        Effect::Gives(given) => standing.take(given),
+        Effect::Opens(opening) => standing.open(alloc, opening),
+        Effect::Closes => standing.close(alloc),
     }
 }
 
-fn refused(alloc: Global, entry: EntryView, broken: AtByte) -> Result<Gathered, BuildFault>
-    ensures { Gives result (Err (refusal_at (entry_of entry.entry).spot.place broken)) }
+fn refused(alloc: Global, entry: EntryView, broken: AtByte) -> Result<Standing, BuildFault>
+    ensures { Gives (gathered_view result) (Err (refusal_at (entry_of entry.entry).spot.place broken)) }
 {
     let place = place_of(entry)?;
     Err(Fault::Refused(Refusal::at(alloc, place, broken)))
@@ -137,57 +131,27 @@ fn rootless(alloc: Global, file: &Text) -> Result<Refusal, NoMemory>
 }
 
 #[tactic(auto, unfolding(crate::specs::Configuration::config_of))]
-fn config_of(alloc: Global, flat: &Flat, gathered: Gathered) -> Result<Config, NoMemory>
+fn config_of(alloc: Global, flat: &Flat, mut gathered: Gathered) -> Result<Config, NoMemory>
     ensures { IfOk result (λ config. config ≡ config_of flat.now gathered) }
 {
     let defines = flat.defines.copy()?;
     let modules = flat.modules.copy()?;
     let reads = flat.reads.copy()?;
+    let hosts = replace(&mut gathered.hosts, List::new(alloc));
     Ok(Config {
-        main: main_server(alloc, gathered),
-        hosts: List::new(alloc),
+        main: gathered.into_server(alloc, no_place(alloc), List::new(alloc)),
+        hosts,
         defines,
         modules,
         reads,
     })
 }
 
-// A main server of which nothing else is said.
-fn main_server(alloc: Global, gathered: Gathered) -> Server
-    ensures { result ≡ main_server gathered }
+fn no_place(alloc: Global) -> Place
+    ensures { result ≡ no_place }
 {
-    Server {
-        place: Place {
-            file: Text::new(alloc),
-            line: 0,
-        },
-        addresses: List::new(alloc),
-        name: None,
-        aliases: List::new(alloc),
-        root: gathered.root,
-        redirects: gathered.redirects,
-        maps: gathered.maps,
-        body: no_body(alloc),
-        sections: List::new(alloc),
-        recursion: None,
-        maps_by_name: List::new(alloc),
-    }
-}
-
-fn no_body(alloc: Global) -> Body
-    ensures { result ≡ no_body }
-{
-    Body {
-        options: List::new(alloc),
-        allow: None,
-        merging: Merging::Off,
-        require: None,
-        engine: None,
-        base: None,
-        rules: List::new(alloc),
-        rewrites: false,
-        redirects: List::new(alloc),
-        inner: List::new(alloc),
-        inherit: Inherit::No,
+    Place {
+        file: Text::new(alloc),
+        line: 0,
     }
 }

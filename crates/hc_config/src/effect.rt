@@ -1,26 +1,29 @@
 ghost use Rattle.std.specs.Prelude.{◌≡◌, ◌&&◌, IfOk};
 ghost use Rattle.hc_base.specs.Gives.{Gives};
 ghost use Rattle.hc_config.specs.Among.{among_of};
-ghost use Rattle.hc_config.specs.Directives.{alias_by, counted, document_root};
-ghost use Rattle.hc_config.specs.Directives.{server_root, this_argument, without_final_slash};
+ghost use Rattle.hc_config.specs.Directives as definition;
+ghost use Rattle.hc_config.specs.Directives.{alias_by, allow_override, counted, document_root};
+ghost use Rattle.hc_config.specs.Directives.{server_alias, server_name, server_root, this_argument};
 
 use crate::among::{Among, place_of};
-use crate::targets::{PathForm, is_absolute, own_target_by, test_by};
+use crate::hosts::name_without_port;
+use crate::levels::{Given, Opening};
+use crate::options::{allowed_by, options_step};
+use crate::targets::{PathForm, is_absolute, own_target_by, test_by, without_final_slash};
 use hc_base::codes::WRONG_ARGUMENTS;
-use hc_base::paths::ends_with_slash;
-use hc_base::{AtByte, CowStr, Fault, Text};
-use hc_model::{Alias, Redirect};
+use hc_base::{AtByte, CowStr, Fault, List, NoMemory, Text};
+use hc_model::Alias;
+use std::alloc::Global;
 
-/// What an entry gives.
+/// What an entry does.
 #[derive(Drop)]
 pub(crate) enum Effect {
     Nothing,
-    /// The document root (Apache manual, core).
-    Root(Text),
-    /// One more alias (mod_alias).
-    Map(Alias),
-    /// One more redirect (mod_alias).
-    Send(Redirect),
+    /// It gives this to the server or section in which it stands.
+    Gives(Given),
+    Opens(Opening),
+    /// The innermost opening is closed.
+    Closes,
 }
 
 /// Why an entry gives nothing: the first rule that it breaks.
@@ -72,20 +75,9 @@ pub(crate) fn document_root(among: &Among, words: &[CowStr]) -> Result<Effect, E
     match words {
         [path] if is_absolute(path) => {
             let path = without_final_slash(path.as_str().as_bytes());
-            Ok(Effect::Root(Text::copy_of(among.alloc, path)?))
+            Ok(Effect::Gives(Given::Root(Text::copy_of(among.alloc, path)?)))
         }
         _ => Err(REFUSED),
-    }
-}
-
-// A final slash is dropped, but for `/`.
-fn without_final_slash(path: &[u8]) -> &[u8]
-    ensures { result.now ≡ without_final_slash path.now }
-{
-    if path.len() > 1 && ends_with_slash(path) {
-        path.split_at(path.len() - 1).0
-    } else {
-        path
     }
 }
 
@@ -98,13 +90,66 @@ pub(crate) fn alias(form: PathForm, among: &Among, words: &[CowStr]) -> Result<E
         [from, to] => {
             let to = own_target_by(among.alloc, form, to)?;
             let from = test_by(among.alloc, form, from)?;
-            Ok(Effect::Map(Alias {
+            Ok(Effect::Gives(Given::Map(Alias {
                 place: place_of(among.entry)?,
                 span: among.entry.span,
                 from,
                 to,
-            }))
+            })))
         }
         _ => Err(REFUSED),
+    }
+}
+
+// `ServerName name[:port]` (core).
+pub(crate) fn server_name(among: &Among, words: &[CowStr]) -> Result<Effect, EffectFault>
+    ensures { Gives result (server_name words.now) }
+{
+    match words {
+        [name] => {
+            let name = name_without_port(name.as_str().as_bytes());
+            Ok(Effect::Gives(Given::Name(Text::copy_of(among.alloc, name)?)))
+        }
+        _ => Err(REFUSED),
+    }
+}
+
+// `ServerAlias name ..` (core): one name or more.
+pub(crate) fn server_alias(among: &Among, words: &[CowStr]) -> Result<Effect, EffectFault>
+    ensures { Gives result (server_alias words.now) }
+{
+    if words.is_empty() {
+        return Err(REFUSED);
+    }
+    Ok(Effect::Gives(Given::Names(texts_of(among.alloc, words)?)))
+}
+
+fn texts_of(alloc: Global, words: &[CowStr]) -> Result<List<Text>, NoMemory>
+    ensures { IfOk result (λ texts. texts ≡ words.now) }
+{
+    let mut texts = List::new(alloc);
+    for word in words {
+        texts.push(Text::copy_of(alloc, word.as_str().as_bytes())?)?;
+    }
+    Ok(texts)
+}
+
+// `Options [+|-]option ..` (core).
+pub(crate) fn options(among: &Among, words: &[CowStr]) -> Result<Effect, EffectFault>
+    ensures { Gives result (definition.options words.now) }
+{
+    match options_step(among.alloc, words) {
+        Ok(step) => Ok(Effect::Gives(Given::Options(step))),
+        Err(fault) => Err(fault),
+    }
+}
+
+// `AllowOverride All|None|class ..` (core).
+pub(crate) fn allow_override(words: &[CowStr]) -> Result<Effect, EffectFault>
+    ensures { Gives result (allow_override words.now) }
+{
+    match allowed_by(words) {
+        Ok(allowed) => Ok(Effect::Gives(Given::Allow(allowed))),
+        Err(fault) => Err(fault),
     }
 }

@@ -4,8 +4,12 @@
 mod among;
 mod config;
 mod effect;
+mod hosts;
+mod levels;
+mod options;
 mod redirect;
 mod rules;
+mod sections;
 mod status;
 mod targets;
 

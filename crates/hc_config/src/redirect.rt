@@ -6,6 +6,7 @@ ghost use Rattle.hc_config.specs.Directives.{redirect_by, sent, sent_alone, sent
 
 use crate::among::{Among, place_of};
 use crate::effect::{Effect, EffectFault, REFUSED};
+use crate::levels::Given;
 use crate::status::{TEMPORARY, first_status, has_url};
 use crate::targets::{PathForm, target_by, test_by};
 use hc_base::{CowStr, Fault, List};
@@ -87,11 +88,11 @@ fn redirect_alone(
 fn send(entry: EntryView, status: u16, to: Template, from: PathTest) -> Result<Effect, EffectFault>
     ensures { Gives result (Ok (sent (entry_of entry.entry).spot status to from)) }
 {
-    Ok(Effect::Send(Redirect {
+    Ok(Effect::Gives(Given::Send(Redirect {
         place: place_of(entry)?,
         span: entry.span,
         from,
         to,
         status,
-    }))
+    })))
 }

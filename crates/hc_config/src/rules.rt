@@ -1,19 +1,23 @@
-ghost use Rattle.std.specs.Prelude.{◌≡◌, ◌&&◌, is_some, map, true, Some, Ok};
+ghost use Rattle.std.specs.Prelude.{◌≡◌, ◌==◌, ◌&&◌, is_some, map, true, Some, Ok};
+ghost use Rattle.std.specs.List.{list_any};
 ghost use Rattle.hc_base.specs.Gives.{Gives, GivesList};
 ghost use Rattle.hc_flat.specs.EntriesView.{entry_of};
 ghost use Rattle.hc_lines.specs.Words.{read_words};
 ghost use Rattle.hc_table.specs.Directives.{directive_rows};
 ghost use Rattle.hc_table.specs.Table.{find_in, row_of};
 ghost use Rattle.hc_config.specs.Among.{among_of};
-ghost use Rattle.hc_config.specs.Directives.{giving};
-ghost use Rattle.hc_config.specs.Rules.{if_placed, if_read, if_supported, is_closing, is_of_form, judged};
-ghost use Rattle.hc_config.specs.Rules.{may_stand, spelling_of, supported};
+ghost use Rattle.hc_config.specs.Directives.{giving, server_givings};
+ghost use Rattle.hc_config.specs.Rows.{by_number};
+ghost use Rattle.hc_config.specs.Rules.{closing, if_placed, if_read, if_supported, is_closing, is_of_form};
+ghost use Rattle.hc_config.specs.Rules.{judged, levels, may_stand, spelling_of, supported};
 
-use crate::among::{Among, context_of};
+use crate::among::Among;
 use crate::effect::{
-    Effect, EffectFault, alias, counted, document_root, server_root, this_argument,
+    Effect, EffectFault, alias, allow_override, counted, document_root, options, server_alias,
+    server_name, server_root, this_argument,
 };
 use crate::redirect::{redirect, redirect_as};
+use crate::sections::{Seen, match_section, section, virtual_host};
 use crate::status::{PERMANENT, TEMPORARY};
 use crate::targets::PathForm;
 use hc_base::codes::{UNSUPPORTED_DIRECTIVE, WRONG_CONTEXT};
@@ -28,10 +32,10 @@ use std::alloc::Global;
 #[tactic(auto, unfolding(crate::specs::Rules::judged))]
 pub(crate) fn judge(among: &Among) -> Result<Effect, EffectFault>
     requires { map row_of among.now.names.now ≡ directive_rows }
-    ensures { Gives result (judged (among_of among.now)) }
+    ensures { Gives result (judged among.now.context (among_of among.now)) }
 {
     if is_closing(among.entry.form) {
-        return Ok(Effect::Nothing);
+        return Ok(closing(find_in(among.names, among.entry.name.as_bytes())));
     }
     match kind_of(among.names, among.entry) {
         Some(kind) => judge_as(kind, among),
@@ -43,6 +47,31 @@ fn is_closing(form: EntryForm) -> bool
     ensures { result ≡ is_closing form }
 {
     matches!(form, EntryForm::Close)
+}
+
+// The end of a section that has settings of its own.
+fn closing(kind: Option<RowKind>) -> Effect
+    ensures { result ≡ closing kind }
+{
+    match kind {
+        Some(kind) if is_level(kind.meaning) => Effect::Closes,
+        _ => Effect::Nothing,
+    }
+}
+
+fn is_level(meaning: u16) -> bool
+    ensures { result ≡ list_any (λ level. meaning == level) levels }
+{
+    matches!(
+        meaning,
+        meaning::VIRTUAL_HOST
+            | meaning::DIRECTORY
+            | meaning::DIRECTORY_MATCH
+            | meaning::FILES
+            | meaning::FILES_MATCH
+            | meaning::LOCATION
+            | meaning::LOCATION_MATCH
+    )
 }
 
 fn broken(code: u8) -> EffectFault
@@ -82,9 +111,9 @@ fn is_of_form(form: EntryForm, meaning: u16) -> bool
 // An entry of this row, where it may stand.
 fn judge_as(kind: RowKind, among: &Among) -> Result<Effect, EffectFault>
     requires { map row_of among.now.names.now ≡ directive_rows }
-    ensures { Gives result (if_supported (Some kind) (among_of among.now)) }
+    ensures { Gives result (if_supported among.now.context (Some kind) (among_of among.now)) }
 {
-    if may_stand(context_of(among), kind) {
+    if may_stand(among.context, kind) {
         read_and_give(kind, among)
     } else {
         Err(broken(WRONG_CONTEXT))
@@ -143,6 +172,17 @@ fn is_built(meaning: u16) -> bool
             | meaning::ACCESS_FILE_NAME
             | meaning::LOAD_MODULE
             | meaning::INERT
+            | meaning::SERVER_NAME
+            | meaning::SERVER_ALIAS
+            | meaning::OPTIONS
+            | meaning::ALLOW_OVERRIDE
+            | meaning::VIRTUAL_HOST
+            | meaning::DIRECTORY
+            | meaning::DIRECTORY_MATCH
+            | meaning::FILES
+            | meaning::FILES_MATCH
+            | meaning::LOCATION
+            | meaning::LOCATION_MATCH
             | meaning::IF_DEFINE
             | meaning::IF_MODULE
     )
@@ -168,6 +208,26 @@ fn give(meaning: u16, among: &Among, words: &[CowStr]) -> Result<Effect, EffectF
         meaning::ACCESS_FILE_NAME => this_argument(".htaccess", words),
         meaning::LOAD_MODULE | meaning::INERT => Ok(Effect::Nothing),
         meaning::IF_DEFINE | meaning::IF_MODULE => counted(1, 1, words),
+        _ => give_to_server(meaning, among, words),
+    }
+}
+
+// What a directive or section of virtual hosts and sections gives.
+fn give_to_server(meaning: u16, among: &Among, words: &[CowStr]) -> Result<Effect, EffectFault>
+    ensures { Gives result (if_read (Ok words.now) (by_number meaning server_givings) (among_of among.now)) }
+{
+    match meaning {
+        meaning::SERVER_NAME => server_name(among, words),
+        meaning::SERVER_ALIAS => server_alias(among, words),
+        meaning::OPTIONS => options(among, words),
+        meaning::ALLOW_OVERRIDE => allow_override(words),
+        meaning::VIRTUAL_HOST => virtual_host(among, words),
+        meaning::DIRECTORY => section(Seen::Directory, among, words),
+        meaning::DIRECTORY_MATCH => match_section(Seen::Directory, among, words),
+        meaning::FILES => section(Seen::Files, among, words),
+        meaning::FILES_MATCH => match_section(Seen::Files, among, words),
+        meaning::LOCATION => section(Seen::Location, among, words),
+        meaning::LOCATION_MATCH => match_section(Seen::Location, among, words),
         _ => Err(broken(UNSUPPORTED_DIRECTIVE)),
     }
 }

@@ -4,11 +4,11 @@ ghost use Rattle.hc_base.specs.Gives.{Gives};
 ghost use Rattle.hc_base.specs.Paths.{begins_with_slash};
 ghost use Rattle.hc_model.specs.declared.template.Piece.TheVariants.{Bytes};
 ghost use Rattle.hc_config.specs.Targets.{group_target, is_other_sign, own_target_by, prefix_test, search_test};
-ghost use Rattle.hc_config.specs.Targets.{target_by, template_of, test_by};
+ghost use Rattle.hc_config.specs.Targets.{target_by, template_of, test_by, without_final_slash};
 ghost use Rattle.hc_config.specs.TargetViews.{left_by, template_by, with_run};
 
 use crate::effect::{EffectFault, REFUSED};
-use hc_base::paths::begins_with_slash;
+use hc_base::paths::{begins_with_slash, ends_with_slash};
 use hc_base::{CowStr, List, NoMemory, Text};
 use hc_model::{PathTest, Piece, Regex, Template};
 use hc_pattern::parse_pattern;
@@ -180,4 +180,15 @@ fn push_run(pieces: &mut Template, run: Vec<u8>) -> Result<(), NoMemory>
         return Ok(());
     }
     pieces.push(Piece::Bytes(Text::from(run)))
+}
+
+/// A final slash is dropped, but for `/`.
+pub(crate) fn without_final_slash(path: &[u8]) -> &[u8]
+    ensures { result.now ≡ without_final_slash path.now }
+{
+    if path.len() > 1 && ends_with_slash(path) {
+        path.split_at(path.len() - 1).0
+    } else {
+        path
+    }
 }

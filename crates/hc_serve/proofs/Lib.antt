@@ -1,3 +1,4 @@
 pub mod Common
 pub mod Answered
 pub mod Passes
+pub mod Told

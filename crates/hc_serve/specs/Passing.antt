@@ -1,17 +1,23 @@
 -- The steps of a pass, in their order. Those that are not built yet leave what they are given.
 -- Apache manual: "Mapping URLs to Filesystem Locations"; core, DocumentRoot, AcceptPathInfo; mod_alias.
 -- What is outside is our own choice.
-use Rattle.std.specs.Prelude.{ℕ, List, Bool, false, if◌then◌else◌}
+use Rattle.std.specs.Prelude.{ℕ, List, [], ◌∷◌, Bool, false, if◌then◌else◌, Option, Some, None}
 use Rattle.std.specs.List.{list_any, slice_split}
-use Rattle.hc_alias.specs.Mapping.{map_url}
+use Rattle.hc_alias.specs.Mapping.{away, map_url}
+use Rattle.hc_alias.specs.declared.mapping.Away.{Away}
 use Rattle.hc_alias.specs.declared.mapping.Mapped.{Mapped}
 use Rattle.hc_alias.specs.declared.mapping.Mapped.TheVariants as mapped
 use Rattle.hc_base.specs.Paths.{is_dots, is_slash, merge_slashes}
 use Rattle.hc_model.specs.declared.event.Authorized.TheVariants.{Unasked}
+use Rattle.hc_merge.specs.Order.{no_files}
+use Rattle.hc_merge.specs.Settings.{effective}
+use Rattle.hc_model.specs.declared.event.Event.{Event}
 use Rattle.hc_model.specs.declared.event.Event.TheVariants as event
 use Rattle.hc_model.specs.declared.outcome.Outcome.{Outcome}
 use Rattle.hc_model.specs.declared.outcome.Outcome.TheVariants.{Directory, File, NotFound, Outside}
 use Rattle.hc_model.specs.declared.outcome.Reason.TheVariants.{DotSegment, NoRoot}
+use Rattle.hc_model.specs.declared.request.View.{View}
+use Rattle.hc_model.specs.declared.section.Effective.{Effective}
 use Rattle.hc_model.specs.declared.walk.Kind.{Kind}
 use Rattle.hc_model.specs.declared.walk.Kind.TheVariants as kind
 use Rattle.hc_model.specs.declared.walk.Walk.{Walk}
@@ -19,6 +25,7 @@ use Rattle.hc_serve.specs.Site.{Site}
 use Rattle.hc_serve.specs.declared.stage.Here.{Here}
 use Rattle.hc_serve.specs.declared.stage.Named.{Named}
 use Rattle.hc_serve.specs.declared.stage.Pass.{Pass}
+use Rattle.hc_serve.specs.declared.stage.Walked.{Walked}
 use Rattle.hc_steps.specs.Step.{Step, leaves, ends, say, told, ◌>>=◌}
 use Rattle.hc_steps.specs.Walking.{walk}
 
@@ -50,15 +57,34 @@ unfoldable pub merged : Named → Step Outcome Named
 merged named = without_dots (record named { name = merge_slashes named.name })
 
 -- 4. Where the name leads.
-unfoldable pub seen_there : Named → Walk → Step Outcome Here
+unfoldable pub seen_there : Named → Walk → Step Outcome Walked
 seen_there named walk = told (event.Walk walk.name walk.info walk.kind) (record { named = named; walk = walk })
 
-unfoldable pub walked : Named → Step Outcome Here
+unfoldable pub walked : Named → Step Outcome Walked
 walked named = walk named.name >>= seen_there named
 
--- 5. Sections and `.htaccess` files, and who may pass: no Require is in force.
-abbrev pub in_force : Site → Here → Step Outcome Here
-in_force site here = leaves here
+-- 5. The sections in force, and who may pass: no `.htaccess` is read yet, and no Require.
+abbrev pub view_at : Site → Walked → View
+view_at site there = record {
+  caller = site.caller;
+  path = there.named.pass.path;
+  query = there.named.pass.query;
+  name = there.walk.name;
+}
+
+abbrev pub told_each : {A : Type 0} → List Event → A → Step Outcome A
+told_each [] left = leaves left
+told_each (event ∷ events) left = say event (told_each events left)
+
+unfoldable pub sections_told : Here → Step Outcome Here
+sections_told here = told_each here.force.sections here
+
+abbrev pub with_force : Walked → Effective → Here
+with_force there force = record { named = there.named; walk = there.walk; force = force }
+
+unfoldable pub in_force : Site → Walked → Step Outcome Here
+in_force site there =
+    sections_told (with_force there (effective site.config site.host there.walk (view_at site there) no_files))
 
 unfoldable pub admitted : Here → Step Outcome Here
 admitted here = told (event.Auth Unasked) here
@@ -67,9 +93,13 @@ admitted here = told (event.Auth Unasked) here
 abbrev pub rewritten_there : Site → Here → Step Outcome Here
 rewritten_there site here = leaves here
 
--- 7. The redirects of the sections.
-abbrev pub sent_there : Site → Here → Step Outcome Here
-sent_there site here = leaves here
+-- 7. The redirects of the sections, on the URL path.
+unfoldable pub sent_by : Here → Option Away → Step Outcome Here
+sent_by here None = leaves here
+sent_by here (Some away) = say (event.Redirect away.from) (ends away.outcome)
+
+unfoldable pub sent_there : Site → Here → Step Outcome Here
+sent_there site here = sent_by here (away here.force.redirects here.named.pass.path here.named.pass.query site.caller)
 
 -- 8. What stands there, unless another pass follows.
 abbrev pub outcome_at : Kind → List ℕ → List ℕ → Outcome
@@ -80,6 +110,15 @@ outcome_at kind.File name info = File name info
 unfoldable pub answered : Here → Step Outcome Pass
 answered here = ends (outcome_at here.walk.kind here.walk.name here.walk.info)
 
+-- The steps behind the walk.
+unfoldable pub passed_there : Site → Walked → Step Outcome Pass
+passed_there site there = do
+  here ← in_force site there
+  here ← admitted here
+  here ← rewritten_there site here
+  here ← sent_there site here
+  answered here
+
 -- A pass ends the request, or leaves the pass that follows it.
 unfoldable pub passed : Site → Pass → Step Outcome Pass
 passed site pass = do
@@ -87,9 +126,5 @@ passed site pass = do
   pass ← rewritten site pass
   named ← mapped_at site pass
   named ← merged named
-  here ← walked named
-  here ← in_force site here
-  here ← admitted here
-  here ← rewritten_there site here
-  here ← sent_there site here
-  answered here
+  there ← walked named
+  passed_there site there

@@ -1,21 +1,26 @@
-ghost use Rattle.std.specs.Prelude.{◌≡◌};
+ghost use Rattle.std.specs.Prelude.{◌≡◌, IfOk, OnOk};
 ghost use Rattle.hc_vhost.specs.Servers.{IsHostOf};
-ghost use Rattle.hc_serve.specs.Passing.{admitted, answered, begun, mapped_at, merged, named, outcome_at};
-ghost use Rattle.hc_serve.specs.Passing.{passed, seen_there, walked, without_dots};
+ghost use Rattle.hc_merge.specs.Order.{no_files};
+ghost use Rattle.hc_merge.specs.Settings.{effective};
+ghost use Rattle.hc_serve.specs.Passing.{admitted, answered, begun, in_force, mapped_at, merged, named, outcome_at};
+ghost use Rattle.hc_serve.specs.Passing.{passed, passed_there, sections_told, seen_there, sent_by, sent_there};
+ghost use Rattle.hc_serve.specs.Passing.{view_at, walked, with_force, without_dots};
 ghost use Rattle.hc_serve.specs.Site.{site_of};
-ghost use Rattle.hc_steps.specs.Ran.{Ran};
+ghost use Rattle.hc_steps.specs.Ran.{Ran, with_events};
 ghost use Rattle.hc_steps.specs.Run.{run};
 ghost use Rattle.hc_steps.specs.Shown.{shown_by};
 ghost use Rattle.hc_steps.specs.Walking.{walk};
 
 use crate::name::{has_dots, merge_slashes};
 use crate::site::Asked;
-use crate::stage::{Here, Named, Pass, Stop};
-use hc_alias::{Mapped, map_url};
-use hc_base::{Fault, copy_option};
-use hc_model::{Authorized, Event, Kind, Outcome, Reason, Walk};
+use crate::stage::{Here, Named, Pass, Stop, Walked};
+use hc_alias::{Away, Mapped, directory_redirect, map_url};
+use hc_base::{Fault, NoMemory, copy_option};
+use hc_merge::effective;
+use hc_model::{Authorized, Event, Kind, Outcome, Reason, View, Walk};
 use hc_steps::Log;
 use hc_world::{World, follow};
+use std::alloc::Global;
 
 /// A pass: it ends the request, or leaves the pass that follows it.
 #[tactic(auto, unfolding(crate::specs::Passing::passed), using(hc_steps::proofs::Going::going))]
@@ -27,8 +32,20 @@ pub(crate) fn passed(asked: &Asked<'_>, log: &mut Log, pass: Pass) -> Result<Pas
     let pass = begun(asked.world, log, pass)?;
     let named = mapped_at(asked, log, pass)?;
     let named = merged(asked.world, log, named)?;
-    let here = walked(asked.world, log, named)?;
+    let there = walked(asked.world, log, named)?;
+    passed_there(asked, log, there)
+}
+
+// The steps behind the walk.
+#[tactic(auto, unfolding(crate::specs::Passing::passed_there), using(hc_steps::proofs::Going::going))]
+fn passed_there(asked: &Asked<'_>, log: &mut Log, there: Walked) -> Result<Pass, Stop>
+    requires { IsHostOf asked.now.config.now asked.now.host }
+    ensures { Ran result log.old log.new
+        (run (passed_there (site_of asked.now) there) (shown_by asked.now.world.now.files)) }
+{
+    let here = in_force(asked, log, there)?;
     let here = admitted(asked.world, log, here)?;
+    let here = sent_there(asked, log, here)?;
     answered(asked.world, log, here)
 }
 
@@ -106,7 +123,7 @@ fn without_dots(world: &World, log: &mut Log, named: Named) -> Result<Named, Sto
 
 // Where the name leads.
 #[tactic(auto, unfolding(crate::specs::Passing::walked), using(hc_steps::proofs::Going::going))]
-fn walked(world: &World, log: &mut Log, named: Named) -> Result<Here, Stop>
+fn walked(world: &World, log: &mut Log, named: Named) -> Result<Walked, Stop>
     ensures { Ran result log.old log.new (run (walked named) (shown_by world.now.files)) }
 {
     let walk = follow(world, log, named.name.as_bytes())?;
@@ -114,7 +131,7 @@ fn walked(world: &World, log: &mut Log, named: Named) -> Result<Here, Stop>
 }
 
 #[tactic(auto, unfolding(crate::specs::Passing::seen_there), using(hc_steps::proofs::Going::telling))]
-fn seen_there(world: &World, log: &mut Log, named: Named, walk: Walk) -> Result<Here, Stop>
+fn seen_there(world: &World, log: &mut Log, named: Named, walk: Walk) -> Result<Walked, Stop>
     ensures { Ran result log.old log.new (run (seen_there named walk) (shown_by world.now.files)) }
 {
     log.say(Event::Walk {
@@ -122,7 +139,64 @@ fn seen_there(world: &World, log: &mut Log, named: Named, walk: Walk) -> Result<
         info: walk.info.clone()?,
         kind: walk.kind,
     })?;
-    Ok(Here { named, walk })
+    Ok(Walked { named, walk })
+}
+
+// The sections in force.
+#[tactic(auto, using(hc_steps::proofs::Going::ran_no_memory))]
+fn in_force(asked: &Asked<'_>, log: &mut Log, there: Walked) -> Result<Here, Stop>
+    requires { IsHostOf asked.now.config.now asked.now.host }
+    ensures { Ran result log.old log.new
+        (run (in_force (site_of asked.now) there) (shown_by asked.now.world.now.files)) }
+{
+    let here = with_force(log.allocator(), asked, there)?;
+    sections_told(asked.world, log, here)
+}
+
+fn with_force(alloc: Global, asked: &Asked<'_>, there: Walked) -> Result<Here, NoMemory>
+    requires { IsHostOf asked.now.config.now asked.now.host }
+    ensures { IfOk result (λ here. here ≡ with_force there
+        (effective asked.now.config.now asked.now.host there.walk (view_at (site_of asked.now) there) no_files)) }
+{
+    let Walked { named, walk } = there;
+    let view = view_at(asked, &named, &walk)?;
+    let force = effective(alloc, asked.config, asked.host, &walk, &view)?;
+    Ok(Here { named, walk, force })
+}
+
+fn view_at(asked: &Asked<'_>, named: &Named, walk: &Walk) -> Result<View, NoMemory>
+    ensures { IfOk result (λ view. view
+        ≡ view_at (site_of asked.now) (record { named = named.now; walk = walk.now })) }
+{
+    Ok(View {
+        caller: asked.caller.clone()?,
+        path: named.pass.path.clone()?,
+        query: named.pass.query.clone()?,
+        name: walk.name.clone()?,
+    })
+}
+
+#[tactic(auto, using(hc_steps::proofs::Going::ran_no_memory))]
+fn sections_told(world: &World, log: &mut Log, here: Here) -> Result<Here, Stop>
+    ensures { Ran result log.old log.new (run (sections_told here) (shown_by world.now.files)) }
+{
+    tell_each(log, here.force.sections.as_slice())?;
+    Ok(here)
+}
+
+fn tell_each(log: &mut Log, events: &[Event]) -> Result<(), NoMemory>
+    ensures { OnOk result (log.new ≡ with_events log.old events.now) }
+{
+    for event in events {
+        log.say(copy_of(event)?)?;
+    }
+    Ok(())
+}
+
+fn copy_of(event: &Event) -> Result<Event, NoMemory>
+    ensures { IfOk result (λ copy. copy ≡ event.now) }
+{
+    event.clone()
 }
 
 // Who may pass: no Require is in force.
@@ -134,6 +208,35 @@ fn admitted(world: &World, log: &mut Log, here: Here) -> Result<Here, Stop>
         value: Authorized::Unasked,
     })?;
     Ok(here)
+}
+
+// The redirects of the sections, on the URL path.
+#[tactic(auto, using(hc_steps::proofs::Going::ran_no_memory))]
+fn sent_there(asked: &Asked<'_>, log: &mut Log, here: Here) -> Result<Here, Stop>
+    ensures { Ran result log.old log.new
+        (run (sent_there (site_of asked.now) here) (shown_by asked.now.world.now.files)) }
+{
+    let away = directory_redirect(
+        log.allocator(),
+        here.force.redirects.as_slice(),
+        here.named.pass.path.as_bytes(),
+        here.named.pass.query.as_bytes(),
+        asked.caller,
+    )?;
+    sent_by(asked.world, log, here, away)
+}
+
+#[tactic(auto, unfolding(crate::specs::Passing::sent_by), using(hc_steps::proofs::Going::telling))]
+fn sent_by(world: &World, log: &mut Log, here: Here, away: Option<Away>) -> Result<Here, Stop>
+    ensures { Ran result log.old log.new (run (sent_by here away) (shown_by world.now.files)) }
+{
+    match away {
+        Some(away) => match log.say(Event::Redirect { spot: away.from }) {
+            Ok(()) => Err(Fault::Refused(away.outcome)),
+            Err(_) => Err(Fault::NoMemory),
+        },
+        None => Ok(here),
+    }
 }
 
 // What stands there.

@@ -1,5 +1,5 @@
 use hc_base::{Fault, List, Text};
-use hc_model::{Header, Outcome, Spot, Walk};
+use hc_model::{Effective, Header, Outcome, Spot, Walk};
 
 /// Why a step does not go on: the request is answered, or memory was refused.
 pub(crate) type Stop = Fault<Outcome>;
@@ -30,7 +30,15 @@ pub(crate) struct Named {
 
 /// A pass whose name was followed.
 #[derive(Drop)]
+pub(crate) struct Walked {
+    pub named: Named,
+    pub walk: Walk,
+}
+
+/// A pass with what is in force where it is.
+#[derive(Drop)]
 pub(crate) struct Here {
     pub named: Named,
     pub walk: Walk,
+    pub force: Effective,
 }

@@ -1,8 +1,10 @@
 use Rattle.std.proofs.Common.{◌≡◌, [], take, drop}
-use Rattle.hc_config.specs.Configuration.{gathered_from, nothing_gathered}
+use Rattle.hc_config.specs.Configuration.{gathered_from}
+use Rattle.hc_config.specs.LevelViews.{standing_of}
+use Rattle.hc_config.specs.Levels.{nothing_standing}
 use Rattle.hc_config.proofs.config.gather.Given as goal
 
 -- what the entries behind give, over what was gathered of those before
 abbrev pub invariant-loop-place : goal.invariant-loop-place
 invariant-loop-place l =
-    gathered_from nothing_gathered [] l.fn.entries ≡ gathered_from l.gathered (take l.place l.fn.entries) (drop l.place l.fn.entries)
+    gathered_from nothing_standing [] l.fn.entries ≡ gathered_from (standing_of l.standing) (take l.place l.fn.entries) (drop l.place l.fn.entries)

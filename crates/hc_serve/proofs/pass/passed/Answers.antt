@@ -15,22 +15,13 @@ returns-in_err-named-2 c =
     (ran_then _ _ _ _ _ _ _ _ c.in_ok-named.ensures
     (ran_off _ _ _ _ _ _ _ _ c.from_residual-in_err-named-2.ensures.1 c.in_err-named-2.ensures refl))
 
-pub returns-in_err-here : goal.returns-in_err-here
+pub returns-in_err-there : goal.returns-in_err-there
 unfolding passed ◌>>=◌
-returns-in_err-here c =
+returns-in_err-there c =
     ran_then _ _ _ _ _ _ _ _ c.in_ok-pass.ensures
     (ran_then _ _ _ _ _ _ _ _ c.in_ok-named.ensures
     (ran_then _ _ _ _ _ _ _ _ c.in_ok-named-2.ensures
-    (ran_off _ _ _ _ _ _ _ _ c.from_residual-in_err-here.ensures.1 c.in_err-here.ensures refl)))
-
-pub returns-in_err-here-2 : goal.returns-in_err-here-2
-unfolding passed ◌>>=◌
-returns-in_err-here-2 c =
-    ran_then _ _ _ _ _ _ _ _ c.in_ok-pass.ensures
-    (ran_then _ _ _ _ _ _ _ _ c.in_ok-named.ensures
-    (ran_then _ _ _ _ _ _ _ _ c.in_ok-named-2.ensures
-    (ran_then _ _ _ _ _ _ _ _ c.in_ok-here.ensures
-    (ran_off _ _ _ _ _ _ _ _ c.from_residual-in_err-here-2.ensures.1 c.in_err-here-2.ensures refl))))
+    (ran_off _ _ _ _ _ _ _ _ c.from_residual-in_err-there.ensures.1 c.in_err-there.ensures refl)))
 
 pub returns : goal.returns
 unfolding passed ◌>>=◌
@@ -38,5 +29,4 @@ returns c =
     ran_then _ _ _ _ _ _ _ _ c.in_ok-pass.ensures
     (ran_then _ _ _ _ _ _ _ _ c.in_ok-named.ensures
     (ran_then _ _ _ _ _ _ _ _ c.in_ok-named-2.ensures
-    (ran_then _ _ _ _ _ _ _ _ c.in_ok-here.ensures
-    (ran_then _ _ _ _ _ _ _ _ c.in_ok-here-2.ensures c.answered.ensures))))
+    (ran_then _ _ _ _ _ _ _ _ c.in_ok-there.ensures c.passed_there.ensures)))

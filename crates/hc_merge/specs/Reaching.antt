@@ -1,0 +1,61 @@
+-- Where a section applies: each is a test of one text.
+-- Apache manual, core: DirectoryMatch, Files, FilesMatch, Location, LocationMatch.
+use Rattle.std.specs.Prelude.{ℕ, List, [], ◌∷◌, ◌++◌, Bool, true, false, not, ◌&&◌, is_some, Option, Some, None, slice_get, unwrap_or, if◌then◌else◌}
+use Rattle.hc_alias.specs.Tests.{is_below}
+use Rattle.hc_base.specs.Paths.{ends_with_slash, is_slash}
+use Rattle.hc_model.specs.declared.request.View.{View}
+use Rattle.hc_model.specs.declared.section.Reach.{Reach}
+use Rattle.hc_model.specs.declared.section.Reach.TheVariants.{Dir, DirSearch, Files, Location, LocationGlob, LocationSearch, When}
+use Rattle.hc_pattern.specs.Pattern.{Pattern}
+use Rattle.hc_ways.specs.Kept.{first_match}
+use Rattle.hc_merge.specs.Order.{Candidate}
+
+abbrev pub is_found : Pattern → List ℕ → Bool
+is_found pattern text = is_some (first_match text pattern)
+
+-- What follows the last slash: each slash begins it anew.
+abbrev pub behind_slashes : List ℕ → List ℕ → List ℕ
+behind_slashes last [] = last
+behind_slashes last (b ∷ bs) = if is_slash b then behind_slashes bs bs else behind_slashes last bs
+
+abbrev pub last_component : List ℕ → List ℕ
+last_component name = behind_slashes name name
+
+-- None where the name ends with a slash.
+abbrev pub is_component_found : Pattern → List ℕ → Bool
+is_component_found pattern name = not (ends_with_slash name) && is_found pattern (last_component name)
+
+-- The file name is that without path information; the URL path is that of the pass.
+abbrev pub reaches : View → Reach → Bool
+reaches view (Dir pattern) = false
+reaches view (DirSearch pattern) = is_found pattern view.name
+reaches view (Files pattern) = is_component_found pattern view.name
+reaches view (Location path) = is_below path view.path
+reaches view (LocationGlob pattern) = is_found pattern view.path
+reaches view (LocationSearch pattern) = is_found pattern view.path
+reaches view (When test) = false
+
+-- Those of the first group apply where they stand.
+abbrev pub applies : View → Option Reach → Bool
+applies view None = true
+applies view (Some reach) = reaches view reach
+
+-- ---- the sections that are kept
+
+abbrev pub holds_at : List Bool → Option ℕ → Bool
+holds_at marks None = true
+holds_at marks (Some parent) = unwrap_or (slice_get marks parent) false
+
+-- It applies by its own test, and only where the section around it does.
+abbrev pub is_kept : View → List Bool → Candidate → Bool
+is_kept view marks candidate = holds_at marks candidate.parent && applies view candidate.reach
+
+-- Those that apply, where `marks` says it of those before.
+abbrev pub kept_behind : View → List Bool → List Candidate → List Candidate
+kept_behind view marks [] = []
+kept_behind view marks (candidate ∷ candidates) =
+    (if is_kept view marks candidate then candidate ∷ [] else [])
+    ++ kept_behind view (marks ++ is_kept view marks candidate ∷ []) candidates
+
+abbrev pub kept_by : View → List Candidate → List Candidate
+kept_by view candidates = kept_behind view [] candidates

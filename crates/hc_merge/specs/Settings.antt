@@ -1,0 +1,72 @@
+-- What is in force once sections are merged: one rule a setting.
+-- Apache manual, "How the sections are merged"; core, Options; mod_alias, Redirect. That a later section's
+-- redirects come before the earlier ones' is our own choice.
+use Rattle.std.specs.Prelude.{ℕ, ◌==◌, List, [], ◌∷◌, ◌++◌, map, Bool, true, false, not, ◌&&◌, ◌||◌, None}
+use Rattle.std.specs.List.{fold, list_any}
+use Rattle.hc_model.specs.declared.config.Config.{Config}
+use Rattle.hc_model.specs.declared.config.HostId.{HostId}
+use Rattle.hc_model.specs.declared.config.Server.{Server}
+use Rattle.hc_model.specs.declared.event.Event.{Event}
+use Rattle.hc_model.specs.declared.event.Event.TheVariants as event
+use Rattle.hc_model.specs.declared.mapping.Redirect.{Redirect}
+use Rattle.hc_model.specs.declared.request.View.{View}
+use Rattle.hc_model.specs.declared.section.Body.{out-Body}
+use Rattle.hc_model.specs.declared.section.Effective.{Effective}
+use Rattle.hc_model.specs.declared.section.OptStep.{OptStep}
+use Rattle.hc_merge.specs.declared.settings.TheConstants.{FOLLOW_LINKS, LINKS_IF_OWNER_MATCH}
+use Rattle.hc_model.specs.declared.walk.Walk.{Walk}
+use Rattle.hc_merge.specs.Order.{Candidate, Files_at, ordered_sections, servers_merged}
+use Rattle.hc_merge.specs.Reaching.{kept_by}
+
+-- ---- Options
+
+abbrev pub is_among : ℕ → List ℕ → Bool
+is_among option options = list_any (λ other. option == other) options
+
+-- A line adds an option; else it stays where it is neither replaced nor taken away.
+abbrev pub still_on : ℕ → Bool → OptStep → Bool
+still_on option on step = is_among option step.add || (on && not step.replace && not (is_among option step.take))
+
+abbrev pub on_after : ℕ → Bool → List OptStep → Bool
+on_after option on steps = fold (still_on option) on steps
+
+-- The lines of the servers, and then those of the sections.
+abbrev pub on_at_servers : ℕ → Bool → List Server → Bool
+on_at_servers option on servers = fold (λ on server. on_after option on (out-Body server.body).options) on servers
+
+abbrev pub on_at_sections : ℕ → Bool → List Candidate → Bool
+on_at_sections option on kept = fold (λ on candidate. on_after option on (out-Body candidate.body).options) on kept
+
+abbrev pub is_on : ℕ → Bool → List Server → List Candidate → Bool
+is_on option on servers kept = on_at_sections option (on_at_servers option on servers) kept
+
+-- FollowSymLinks is on at the start.
+abbrev pub follows : List Server → List Candidate → Bool
+follows servers kept = is_on FOLLOW_LINKS true servers kept || is_on LINKS_IF_OWNER_MATCH false servers kept
+
+-- ---- redirects
+
+-- A later section's come first.
+abbrev pub redirects_of : List Candidate → List Redirect
+redirects_of [] = []
+redirects_of (candidate ∷ candidates) = redirects_of candidates ++ (out-Body candidate.body).redirects
+
+-- ---- what is in force
+
+abbrev pub event_of : Candidate → Event
+event_of candidate = event.Section candidate.spot
+
+abbrev pub merged : Config → HostId → List Candidate → Effective
+merged config host kept = record {
+  follow = follows (servers_merged config host) kept;
+  require = None;
+  engine = false;
+  dir = None;
+  base = None;
+  rules = [];
+  redirects = redirects_of kept;
+  sections = map event_of kept;
+}
+
+abbrev pub effective : Config → HostId → Walk → View → Files_at → Effective
+effective config host walk view files = merged config host (kept_by view (ordered_sections config host files walk.dirs))

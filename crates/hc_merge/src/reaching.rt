@@ -1,0 +1,110 @@
+ghost use Rattle.std.specs.Prelude.{◌≡◌, ◌∷◌, ◌++◌, [], IfOk, map};
+ghost use Rattle.std.specs.Option.{option_map};
+ghost use Rattle.hc_merge.specs.CandidateView.{candidate_of, candidates_of};
+ghost use Rattle.hc_merge.specs.Reaching.{applies, holds_at, is_component_found, is_found, is_kept, kept_by};
+ghost use Rattle.hc_merge.specs.Reaching.{last_component, reaches};
+
+use crate::order::Candidate;
+use hc_alias::is_below;
+use hc_base::NoMemory;
+use hc_base::paths::ends_with_slash;
+use hc_match::first_match;
+use hc_model::{Reach, Regex, View};
+use std::alloc::Global;
+
+/// The sections that apply: each by its own test, and only where the section around it does.
+pub(crate) fn kept_by<'c>(
+    alloc: Global,
+    view: &View,
+    candidates: &[Candidate<'c>],
+) -> Result<Vec<Candidate<'c>>, NoMemory>
+    ensures { IfOk result (λ kept. candidates_of kept ≡ kept_by view.now (map candidate_of candidates.now)) }
+{
+    let mut kept = Vec::new(alloc);
+    let mut marks = Vec::new(alloc);
+    for candidate in candidates {
+        let mark = is_kept(alloc, view, &marks, candidate)?;
+        marks.push(mark)?;
+        if !mark {
+            continue;
+        }
+        kept.push(*candidate)?;
+    }
+    Ok(kept)
+}
+
+fn is_kept(
+    alloc: Global,
+    view: &View,
+    marks: &[bool],
+    candidate: &Candidate<'_>,
+) -> Result<bool, NoMemory>
+    ensures { IfOk result (λ kept. kept ≡ is_kept view.now marks.now (candidate_of candidate.now)) }
+{
+    if !holds_at(marks, candidate.parent) {
+        return Ok(false);
+    }
+    applies(alloc, view, candidate.reach)
+}
+
+fn holds_at(marks: &[bool], parent: Option<u32>) -> bool
+    ensures { result ≡ holds_at marks.now parent }
+{
+    match parent {
+        Some(parent) => marks.get(parent as usize).copied().unwrap_or(false),
+        None => true,
+    }
+}
+
+// Those of the first group apply where they stand.
+fn applies(alloc: Global, view: &View, reach: Option<&Reach>) -> Result<bool, NoMemory>
+    ensures { IfOk result (λ is. is ≡ applies view.now (option_map (λ reach. reach.now) reach.entry)) }
+{
+    match reach {
+        Some(reach) => reaches(alloc, view, reach),
+        None => Ok(true),
+    }
+}
+
+fn reaches(alloc: Global, view: &View, reach: &Reach) -> Result<bool, NoMemory>
+    ensures { IfOk result (λ is. is ≡ reaches view.now reach.now) }
+{
+    match reach {
+        Reach::Dir(_) | Reach::When(_) => Ok(false),
+        Reach::DirSearch(pattern) => is_found(alloc, pattern, view.name.as_bytes()),
+        Reach::Files(pattern) => is_component_found(alloc, pattern, view.name.as_bytes()),
+        Reach::Location(path) => Ok(is_below(path.as_bytes(), view.path.as_bytes())),
+        Reach::LocationGlob(pattern) => is_found(alloc, pattern, view.path.as_bytes()),
+        Reach::LocationSearch(pattern) => is_found(alloc, pattern, view.path.as_bytes()),
+    }
+}
+
+fn is_found(alloc: Global, pattern: &Regex, text: &[u8]) -> Result<bool, NoMemory>
+    ensures { IfOk result (λ is. is ≡ is_found pattern.now text.now) }
+{
+    Ok(first_match(alloc, pattern.as_pat(), text)?.is_some())
+}
+
+// None where the name ends with a slash.
+fn is_component_found(alloc: Global, pattern: &Regex, name: &[u8]) -> Result<bool, NoMemory>
+    ensures { IfOk result (λ is. is ≡ is_component_found pattern.now name.now) }
+{
+    if ends_with_slash(name) {
+        return Ok(false);
+    }
+    is_found(alloc, pattern, last_component(name))
+}
+
+// What follows the last slash.
+fn last_component(name: &[u8]) -> &[u8]
+    ensures { result.now ≡ last_component name.now }
+{
+    let mut last = name;
+    for at in 0..name.len() {
+        if name[at] != b'/' {
+            continue;
+        }
+        last = name.split_at(at + 1).1;
+    }
+    last
+}

@@ -1,0 +1,167 @@
+ghost use Rattle.std.specs.Prelude.{◌≡◌, ◌++◌, map, IfOk};
+ghost use Rattle.std.specs.List.{fold, list_any};
+ghost use Rattle.hc_merge.specs.CandidateView.{candidate_of, candidates_of};
+ghost use Rattle.hc_merge.specs.Order.{no_files, servers_merged};
+ghost use Rattle.hc_merge.specs.Settings as definition;
+ghost use Rattle.hc_merge.specs.Settings.{event_of, follows, is_among, is_on, merged, on_after, on_at_sections};
+ghost use Rattle.hc_merge.specs.Settings.{on_at_servers, redirects_of, still_on};
+ghost use Rattle.hc_vhost.specs.Servers.{IsHostOf};
+
+use crate::order::{Candidate, ordered_sections};
+use crate::reaching::kept_by;
+use hc_base::{List, NoMemory};
+use hc_model::{Config, Effective, Event, HostId, OptStep, Redirect, Spot, View, Walk};
+use hc_vhost::server_at;
+use std::alloc::Global;
+
+// The options by their places in the list of their names (Apache manual, core, Options).
+const FOLLOW_LINKS: u8 = 5;
+
+const LINKS_IF_OWNER_MATCH: u8 = 6;
+
+/// What is in force for a file name: the sections that apply, merged (Apache manual, "How the sections are
+/// merged"). No `.htaccess` is read yet.
+pub fn effective(
+    alloc: Global,
+    config: &Config,
+    host: HostId,
+    walk: &Walk,
+    view: &View,
+) -> Result<Effective, NoMemory>
+    requires { IsHostOf config.now host }
+    ensures { IfOk result (λ effective.
+        effective ≡ definition.effective config.now host walk.now view.now no_files) }
+{
+    let sections = ordered_sections(alloc, config, host, walk)?;
+    let kept = kept_by(alloc, view, &sections)?;
+    merge_sections(alloc, config, host, &kept)
+}
+
+/// What these sections set, one behind another: each Options line, and redirects, of which a later
+/// section's come first.
+pub fn merge_sections(
+    alloc: Global,
+    config: &Config,
+    host: HostId,
+    kept: &[Candidate<'_>],
+) -> Result<Effective, NoMemory>
+    requires { IsHostOf config.now host }
+    ensures { IfOk result (λ effective. effective ≡ merged config.now host (map candidate_of kept.now)) }
+{
+    let redirects = redirects_of(alloc, kept)?;
+    let sections = events_of(alloc, kept)?;
+    Ok(Effective {
+        follow: follows(config, host, kept),
+        require: None,
+        engine: false,
+        dir: None,
+        base: None,
+        rules: List::new(alloc),
+        redirects,
+        sections,
+    })
+}
+
+// FollowSymLinks is on at the start.
+fn follows(config: &Config, host: HostId, kept: &[Candidate<'_>]) -> bool
+    requires { IsHostOf config.now host }
+    ensures { result ≡ follows (servers_merged config.now host) (map candidate_of kept.now) }
+{
+    is_on(FOLLOW_LINKS, true, config, host, kept)
+        || is_on(LINKS_IF_OWNER_MATCH, false, config, host, kept)
+}
+
+fn is_on(option: u8, on: bool, config: &Config, host: HostId, kept: &[Candidate<'_>]) -> bool
+    requires { IsHostOf config.now host }
+    ensures { result ≡ is_on option on (servers_merged config.now host) (map candidate_of kept.now) }
+{
+    let on = on_at_servers(option, on, config, host);
+    on_at_sections(option, on, kept)
+}
+
+fn on_at_servers(option: u8, on: bool, config: &Config, host: HostId) -> bool
+    requires { IsHostOf config.now host }
+    ensures { result ≡ on_at_servers option on (servers_merged config.now host) }
+{
+    let on = on_after(option, on, config.main.body.options.as_slice());
+    match host {
+        HostId::Main => on,
+        HostId::Nth(_) => on_after(option, on, server_at(config, host).body.options.as_slice()),
+    }
+}
+
+fn on_at_sections(option: u8, on: bool, kept: &[Candidate<'_>]) -> bool
+    ensures { result ≡ on_at_sections option on (map candidate_of kept.now) }
+{
+    let mut on = on;
+    for candidate in kept {
+        on = on_after(option, on, candidate.body.options.as_slice());
+    }
+    on
+}
+
+fn on_after(option: u8, on: bool, steps: &[OptStep]) -> bool
+    ensures { result ≡ on_after option on steps.now }
+{
+    let mut on = on;
+    for step in steps {
+        on = still_on(option, on, step);
+    }
+    on
+}
+
+fn still_on(option: u8, on: bool, step: &OptStep) -> bool
+    ensures { result ≡ still_on option on step.now }
+{
+    is_among(option, step.add.as_slice())
+        || (on && !step.replace && !is_among(option, step.take.as_slice()))
+}
+
+fn is_among(option: u8, options: &[u8]) -> bool
+    ensures { result ≡ is_among option options.now }
+{
+    options.iter().any(|other| option == *other)
+}
+
+// A later section's come first.
+fn redirects_of(alloc: Global, kept: &[Candidate<'_>]) -> Result<List<Redirect>, NoMemory>
+    ensures { IfOk result (λ redirects. redirects ≡ redirects_of (map candidate_of kept.now)) }
+{
+    let mut redirects = List::new(alloc);
+    for done in 0..kept.len() {
+        let body = kept[kept.len() - 1 - done].body;
+        redirects = behind(redirects, body.redirects.as_slice())?;
+    }
+    Ok(redirects)
+}
+
+fn behind(mut list: List<Redirect>, more: &[Redirect]) -> Result<List<Redirect>, NoMemory>
+    ensures { IfOk result (λ all. all ≡ list ++ more.now) }
+{
+    for redirect in more {
+        list.push(redirect.clone()?)?;
+    }
+    Ok(list)
+}
+
+fn events_of(alloc: Global, kept: &[Candidate<'_>]) -> Result<List<Event>, NoMemory>
+    ensures { IfOk result (λ events. events ≡ map event_of (map candidate_of kept.now)) }
+{
+    let mut events = List::new(alloc);
+    for candidate in kept {
+        events.push(event_of(candidate)?)?;
+    }
+    Ok(events)
+}
+
+fn event_of(candidate: &Candidate<'_>) -> Result<Event, NoMemory>
+    ensures { IfOk result (λ event. event ≡ event_of (candidate_of candidate.now)) }
+{
+    let place = candidate.place.clone()?;
+    Ok(Event::Section {
+        spot: Spot {
+            place,
+            span: candidate.span,
+        },
+    })
+}

@@ -1,0 +1,23 @@
+use Rattle.hc_serve.proofs.Common.{refl, passed_there, ran_then, ran_off}
+use Rattle.hc_serve.proofs.pass.passed_there.Goals as goal
+use Rattle.hc_steps.specs.Step.{◌>>=◌}
+
+pub returns-in_err-here-2 : goal.returns-in_err-here-2
+unfolding passed_there ◌>>=◌
+returns-in_err-here-2 c =
+    ran_then _ _ _ _ _ _ _ _ c.in_ok-here.ensures
+    (ran_off _ _ _ _ _ _ _ _ c.from_residual-in_err-here-2.ensures.1 c.in_err-here-2.ensures refl)
+
+pub returns-in_err-here-3 : goal.returns-in_err-here-3
+unfolding passed_there ◌>>=◌
+returns-in_err-here-3 c =
+    ran_then _ _ _ _ _ _ _ _ c.in_ok-here.ensures
+    (ran_then _ _ _ _ _ _ _ _ c.in_ok-here-2.ensures
+    (ran_off _ _ _ _ _ _ _ _ c.from_residual-in_err-here-3.ensures.1 c.in_err-here-3.ensures refl))
+
+pub returns : goal.returns
+unfolding passed_there ◌>>=◌
+returns c =
+    ran_then _ _ _ _ _ _ _ _ c.in_ok-here.ensures
+    (ran_then _ _ _ _ _ _ _ _ c.in_ok-here-2.ensures
+    (ran_then _ _ _ _ _ _ _ _ c.in_ok-here-3.ensures c.answered.ensures))
