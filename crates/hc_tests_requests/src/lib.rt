@@ -17,6 +17,8 @@ mod include;
 #[cfg(test)]
 mod main_files;
 #[cfg(test)]
+mod merging;
+#[cfg(test)]
 mod model;
 #[cfg(test)]
 mod section_files;

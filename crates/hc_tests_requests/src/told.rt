@@ -90,6 +90,7 @@ fn push_event(out: &mut Vec<u8>, alloc: Global, event: &Event) -> Result<(), NoM
             push_word(out, kind_name(*kind))?;
             end_line(out)
         }
+        Event::Section { spot } => push_spot(out, alloc, b"section", spot),
         Event::Auth {
             value: Authorized::Unasked,
         } => push_line(out, b"auth", b"none"),
