@@ -62,6 +62,14 @@ section /etc/httpd/conf/httpd.conf:26 351 363 \nsection /etc/httpd/conf/httpd.co
 auth none \ntext /etc/httpd/conf/httpd.conf \nkind /srv \n",
     ),
     (
+        TRIED,
+        "/fg",
+        "absent \n8 \nhost :0 \npass 0 /fg  \nmap /srv/fg \nwalk /srv/fg  absent \n\
+section /etc/httpd/conf/httpd.conf:26 351 363 \nsection /etc/httpd/conf/httpd.conf:28 376 389 \n\
+section /etc/httpd/conf/httpd.conf:32 428 442 \nauth none \ntext /etc/httpd/conf/httpd.conf \n\
+kind /srv \nkind /srv/fg \n",
+    ),
+    (
         SENT,
         "/f?q",
         "302 http://localhost/g?q \n7 \nhost :0 \npass 0 /f q \nmap /srv/f \nwalk /srv/f  file \n\

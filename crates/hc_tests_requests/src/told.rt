@@ -128,6 +128,7 @@ fn push_outcome(out: &mut Vec<u8>, alloc: Global, outcome: &Outcome) -> Result<(
             push_number(out, alloc, u64::from(*status))?;
             push_word(out, location.as_bytes())?;
         }
+        Outcome::NotFound => push_word(out, b"absent")?,
         Outcome::Status(status) => push_number(out, alloc, u64::from(*status))?,
         _ => push_word(out, b"outside")?,
     }
