@@ -149,7 +149,8 @@ text /etc/httpd/conf/httpd.conf \nkind /srv \n",
     ),
 ];
 
-fn check_under(
+/// What is answered to a request under a main file.
+pub fn check_under(
     rt: &impl Abort,
     alloc: Global,
     main: &str,

@@ -11,11 +11,19 @@ mod configs;
 #[cfg(test)]
 mod dialogue;
 #[cfg(test)]
+mod hosts;
+#[cfg(test)]
 mod include;
 #[cfg(test)]
 mod main_files;
 #[cfg(test)]
+mod merging;
+#[cfg(test)]
 mod model;
+#[cfg(test)]
+mod section_files;
+#[cfg(test)]
+mod sections;
 #[cfg(test)]
 mod serve;
 #[cfg(test)]

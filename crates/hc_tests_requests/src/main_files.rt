@@ -4,6 +4,7 @@ use crate::dialogue::hold;
 use hc_base::NoMemory;
 use hc_base::codes::name_of_code;
 use std::alloc::Global;
+use std::process::Abort;
 
 // Main files as they stand in JSON, under which nothing is at `/f`.
 static READ: &[&str] = &[
@@ -29,6 +30,19 @@ static READ: &[&str] = &[
     r"DocumentRoot /srv\nRedirectMatch 3x /y\n",
     r"DocumentRoot /srv\nRedirectMatch -1 /y\n",
     r"DocumentRoot /srv\nRedirect /302 /y\n",
+    // a server's usual file, and what options and sections may say
+    r#"ServerRoot \"/etc/httpd\"\nListen 80\nUser apache\n<Directory />\n  AllowOverride none\n</Directory>\n
+  DocumentRoot \"/var/www/html\"\n<Directory \"/var/www/html\">\n  Options Indexes FollowSymLinks\n</Directory>\n
+  <IfModule dir_module>\n  DirectoryIndex index.html\n</IfModule>\n<Files \".ht*\">\n</Files>\n
+  ErrorLog \"logs/error_log\"\n<IfModule alias_module>\n  ScriptAlias /cgi-bin/ \"/var/www/cgi-bin/\"\n</IfModule>\n
+  AddDefaultCharset UTF-8\n"#,
+    r"DocumentRoot /srv\nOptions None\nOptions all MULTIVIEWS\nOptions +None -None\nOptions -All +multiviews\n
+  Options Indexes Includes IncludesNOEXEC FollowSymLinks SymLinksIfOwnerMatch ExecCGI MultiViews All None\n",
+    r"DocumentRoot /srv\n<Directory ~ ^/>\nOptions +Indexes\n</Directory>\n<DirectoryMatch />\nOptions All\n
+  <Files ~ ^f>\nOptions -ExecCGI\n</Files>\n</DirectoryMatch>\n<Location /f>\nOptions None\n</Location>\n
+  <LocationMatch f>\nOptions None\n</LocationMatch>\n<Location ~ f>\n</Location>\n<FilesMatch f>\n</FilesMatch>\n",
+    r"DocumentRoot /srv\n<Directory /srv/>\nAllowOverride All\nAllowOverride NONE\nAllowOverride fileinfo\n
+  AllowOverride AuthConfig FileInfo Indexes Limit Options FileInfo\n<Files *>\n</Files>\n</Directory>\n",
 ];
 
 #[test]
@@ -57,7 +71,7 @@ static REFUSED: &[(&str, u8, u32, u32)] = &[
     (r#"\"Alias\" /a /b\n"#, 1, 1, 0),
     (r"Directory /x\n", 1, 1, 0),
     (r"<Listen 80>\n</Listen>\n", 1, 1, 0),
-    (r"<Directory />\nNonsense\n</Directory>\n", 1, 1, 0),
+    (r"<Directory />\nNonsense\n</Directory>\n", 1, 2, 0),
     (r"DocumentRoot srv\n", 3, 1, 0),
     (r"DocumentRoot /srv /x\n", 3, 1, 0),
     (r"DocumentRoot\n", 3, 1, 0),
@@ -136,10 +150,19 @@ fn refused(alloc: Global, row: (&str, u8, u32, u32)) -> Result<String, NoMemory>
     format!(in alloc; "main {text}\ncheck\n{reply}\nask /f\n{reply}\n")
 }
 
-#[test]
-fn main_files_are_refused(rt: HostRuntime) -> Result<(), NoMemory> {
-    for &row in REFUSED {
-        hold(&rt, rt.alloc(), &refused(rt.alloc(), row)?)?;
+/// That each of these main files is refused so, at a check and at a request.
+pub fn hold_refused(
+    rt: &impl Abort,
+    alloc: Global,
+    rows: &[(&str, u8, u32, u32)],
+) -> Result<(), NoMemory> {
+    for &row in rows {
+        hold(rt, alloc, &refused(alloc, row)?)?;
     }
     Ok(())
+}
+
+#[test]
+fn main_files_are_refused(rt: HostRuntime) -> Result<(), NoMemory> {
+    hold_refused(&rt, rt.alloc(), REFUSED)
 }

@@ -49,7 +49,7 @@ pub fn session_over(
     requires { 1 ≤ most }
 {
     let mut source = VecSource::new(alloc, input, reads)?;
-    let mut sink = VecSink::new(alloc, writes, most, 4096)?;
+    let mut sink = VecSink::new(alloc, writes, most, 65_536)?;
     let status = served::<_, _, Brand, Brand>(
         alloc,
         &mut source,

@@ -90,6 +90,7 @@ fn push_event(out: &mut Vec<u8>, alloc: Global, event: &Event) -> Result<(), NoM
             push_word(out, kind_name(*kind))?;
             end_line(out)
         }
+        Event::Section { spot } => push_spot(out, alloc, b"section", spot),
         Event::Auth {
             value: Authorized::Unasked,
         } => push_line(out, b"auth", b"none"),
@@ -127,6 +128,7 @@ fn push_outcome(out: &mut Vec<u8>, alloc: Global, outcome: &Outcome) -> Result<(
             push_number(out, alloc, u64::from(*status))?;
             push_word(out, location.as_bytes())?;
         }
+        Outcome::NotFound => push_word(out, b"absent")?,
         Outcome::Status(status) => push_number(out, alloc, u64::from(*status))?,
         _ => push_word(out, b"outside")?,
     }
