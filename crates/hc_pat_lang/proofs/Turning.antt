@@ -1,5 +1,5 @@
 -- Fragments of the ways with a chosen turn.
-use Rattle.hc_pat_lang.proofs.Common.{◌≡◌, ℕ, zero, suc, ◌-◌, ◌||◌, Bool, true, false, List, [], ◌∷◌, length, if◌then◌else◌, nat_lt, nat_eq, Option, Some, None, refl, sym, ◌∙◌, ap, arith, flat_map, Pattern, cat, alt, group, repeat, Way, Ways, none, behind, either, moving, preferred, any_turns, Turns, same_ways, AreTurns, IsBelow, IsFragment, IsReady, IsJoin, chosen_behind, chosen_repeated, chosen_then, chosen_up_to, chosen_ways, has_turn, part_ways, Gate, Inside, Node}
+use Rattle.hc_pat_lang.proofs.Common.{◌≡◌, ℕ, zero, suc, ◌-◌, ◌||◌, Bool, true, false, List, [], ◌∷◌, length, if◌then◌else◌, nat_lt, nat_eq, Option, Some, None, refl, sym, ◌∙◌, ap, arith, flat_map, Pattern, cat, alt, group, repeat, Way, Ways, none, behind, either, moving, preferred, any_turns, Turns, same_ways, AreTurns, IsBelow, IsFragment, IsReady, IsJoin, chosen_behind, chosen_repeated, chosen_then, chosen_up_to, chosen_ways, has_turn, part_ways, takes_a_byte, chosen_any, Gate, Inside, Node}
 use Rattle.hc_pat_lang.specs.declared.chosen.Turns.{Turns as Both}
 use Rattle.hc_pat_lang.proofs.Fragmenting.{Grows, below_more, fragment_behind, fragment_grows, fragment_joined, fragment_later, fragment_preferred, grows_on, join_grows, join_ready, ready_later}
 
@@ -28,11 +28,14 @@ none_if : (v : Bool) (ways : Ways Turns) → ways ≡ none → (if v then none e
 none_if true ways is = refl
 none_if false ways is = is
 
-none_repeated : (bytes : ℕ) (body chosen : Ways Turns) (least : ℕ) (most : Option ℕ) (greedy : Bool) → chosen ≡ none → chosen_repeated bytes body chosen least most greedy ≡ none
-none_repeated bytes body chosen least None greedy is =
-    none_then body chosen least _ _ is
-    (ap (λ (w : Ways Turns). behind (any_turns greedy body bytes) (behind (moving w) (any_turns greedy body bytes))) is ∙ behind_none (any_turns greedy body bytes))
-none_repeated bytes body chosen least (Some most) greedy is =
+none_any : (greedy : Bool) (body chosen : Ways Turns) (bytes : ℕ) → chosen ≡ none → chosen_any greedy body chosen bytes ≡ none
+none_any greedy body chosen bytes is =
+    ap (λ (w : Ways Turns). behind (any_turns greedy body bytes) (behind (moving w) (any_turns greedy body bytes))) is ∙ behind_none (any_turns greedy body bytes)
+
+none_repeated : (moves : Bool) (bytes : ℕ) (body chosen : Ways Turns) (least : ℕ) (most : Option ℕ) (greedy : Bool) → chosen ≡ none → chosen_repeated moves bytes body chosen least most greedy ≡ none
+none_repeated true bytes body chosen least None greedy is = none_then body chosen (least - 1) _ _ is (none_any greedy body chosen bytes is)
+none_repeated false bytes body chosen least None greedy is = none_then body chosen least _ _ is (none_any greedy body chosen bytes is)
+none_repeated moves bytes body chosen least (Some most) greedy is =
     none_if (nat_lt most least) _ (none_then body chosen least _ _ is (none_up_to greedy body chosen (most - least) is))
 
 neither : (p q : Bool) → (p || q) ≡ false → (p ≡ false) × (q ≡ false)
@@ -49,7 +52,7 @@ no_turn number text (alt first second) isnt =
 no_turn number text (group own body) isnt =
     let both = neither (nat_eq own number) (has_turn number body) isnt in
     ap (λ (v : Bool). if v then either (part_ways Inside text body) (chosen_ways number text body) else chosen_ways number text body) both.0 ∙ no_turn number text body both.1
-no_turn number text (repeat body least most greedy) isnt = none_repeated (length text) _ _ least most greedy (no_turn number text body isnt)
+no_turn number text (repeat body least most greedy) isnt = none_repeated (takes_a_byte body) (length text) _ _ least most greedy (no_turn number text body isnt)
 no_turn number text _ isnt = refl
 
 -- Ways are left out only where none are chosen.

@@ -1,8 +1,8 @@
 ghost use Rattle.std.specs.Prelude.{◌≡◌, ◌-◌, ◌==◌, ◌≤◌, Bool, IfOk, List, ℕ};
-ghost use Rattle.std.specs.Prelude.{if◌then◌else◌, length};
-ghost use Rattle.hc_pattern.specs.Pattern.{group, pattern_of};
+ghost use Rattle.std.specs.Prelude.{None, if◌then◌else◌, length};
+ghost use Rattle.hc_pattern.specs.Pattern.{group, pattern_of, repeat};
 ghost use Rattle.hc_pat_lang.specs.Fragments.{AreTurns, IsFragment, IsReady};
-ghost use Rattle.hc_pat_lang.specs.Turned.{any_chosen, chosen_ways, has_turn, part_ways, then_chosen, times_of};
+ghost use Rattle.hc_pat_lang.specs.Turned.{any_chosen, chosen_ways, has_turn, part_ways, takes_a_byte, then_chosen, times_of};
 ghost use Rattle.hc_pat_lang.specs.Turned.{up_to_chosen};
 ghost use Rattle.hc_pat_lang.specs.declared.gates.Gate.{Gate as G};
 ghost use Rattle.hc_pat_lang.specs.declared.nodes.Node.{Node as N};
@@ -40,6 +40,21 @@ fn has_group(pat: &Pat, number: u8) -> bool
             *own == number || inner
         }
         Pat::Repeat(body, _, _, _) => has_group(body, number),
+    }
+}
+
+/// As far as its form tells, each way of the pattern takes at least one byte.
+#[cycle(takes_a_byte)]
+fn takes_a_byte(pat: &Pat) -> bool
+    ensures { result ≡ takes_a_byte (pattern_of pat.now) }
+{
+    match pat {
+        Pat::Empty | Pat::Start | Pat::Finish => false,
+        Pat::Byte(_) | Pat::Class(_) => true,
+        Pat::Cat(first, second) => takes_a_byte(first) || takes_a_byte(second),
+        Pat::Alt(first, second) => takes_a_byte(first) && takes_a_byte(second),
+        Pat::Group(_, body) => takes_a_byte(body),
+        Pat::Repeat(body, least, _, _) => *least > 0 && takes_a_byte(body),
     }
 }
 
@@ -131,8 +146,7 @@ impl Nodes {
     {
         match times.most {
             None => {
-                let more = self.choose_any(body, times.greedy, number, exits)?;
-                let entries = self.choose_turns(body, times.least, number, more)?;
+                let entries = self.choose_endless(body, times, number, exits)?;
                 Ok(entries)
             }
             Some(most) if most < times.least => Ok(Gate::nowhere()),
@@ -148,6 +162,33 @@ impl Nodes {
                 Ok(entries)
             }
         }
+    }
+
+    /// So many turns or more. Where each takes a byte, the last that has to be is one of any number.
+    #[cycle(choose)]
+    fn choose_endless(
+        &mut self,
+        body: &Pat,
+        times: Times,
+        number: u8,
+        exits: Gate,
+    ) -> Result<Gate, NoMemory>
+        requires { IsReady self.old.list.items exits }
+        ensures { IfOk result (IsFragment (λ text. chosen_ways number text (repeat (pattern_of body.now) times.least None times.greedy))
+            exits self.old.list.items self.new.list.items) }
+    {
+        let more = self.choose_any(body, times.greedy, number, exits)?;
+        if !takes_a_byte(body) {
+            let entries = self.choose_turns(body, times.least, number, more)?;
+            return Ok(entries);
+        }
+        let all = self.build(body, GroupPart::Outside, more.all)?;
+        let some = Turns {
+            all,
+            chosen: more.chosen,
+        };
+        let entries = self.choose_turns(body, times.least.saturating_sub(1), number, some)?;
+        Ok(entries)
     }
 
     /// So many turns before others.

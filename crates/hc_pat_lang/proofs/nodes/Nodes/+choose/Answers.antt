@@ -53,7 +53,19 @@ choose_group-returns t c = elim (eqb_tells c.args.own c.args.number) [
 ]
 
 pub choose_repeat-returns-in_ok-entries-in-None : goal.choose_repeat-returns-in_ok-entries-in-None
-choose_repeat-returns-in_ok-entries-in-None t c = rw c.in-None.is (c.in_ok-entries-in-None.ensures c.args.exits _ _ _ c.in_ok-more-in-None.ensures)
+choose_repeat-returns-in_ok-entries-in-None t c = rw c.in-None.is c.in_ok-entries-in-None.ensures
+
+pub choose_endless-returns-then-not-takes_a_byte : goal.choose_endless-returns-then-not-takes_a_byte
+choose_endless-returns-then-not-takes_a_byte t c =
+    rw (sym c.takes_a_byte.ensures ∙ c.if-not-takes_a_byte.true) (c.in_ok-entries.ensures c.args.exits _ _ _ c.in_ok-more.ensures)
+
+pub choose_endless-returns : goal.choose_endless-returns
+choose_endless-returns t c =
+    let all = c.in_ok-all.ensures in
+    rw (sym c.takes_a_byte.ensures ∙ c.if-not-takes_a_byte.false, ← c.saturating_sub.ensures) (c.in_ok-entries-2.ensures c.args.exits _ _ _ (record {
+      all_ways = fragment_behind _ _ _ _ _ _ _ _ c.in_ok-more.ensures.all_ways all;
+      chosen_ways = fragment_later _ _ _ _ _ _ c.in_ok-more.ensures.chosen_ways (fragment_grows _ _ _ _ _ all);
+    }))
 
 pub choose_repeat-returns-in_ok-entries-in-Some-2 : goal.choose_repeat-returns-in_ok-entries-in-Some-2
 choose_repeat-returns-in_ok-entries-in-Some-2 t c =
