@@ -18,7 +18,7 @@ pub use Rattle.hc_pat_lang.specs.Added.{IsMore, AddsReading, AddsSilent, AddsFin
 pub use Rattle.hc_pat_lang.specs.Found.{MayHold, IsGroupText, IsFound}
 pub use Rattle.hc_pat_lang.specs.Fragments.{Exists, point_at, Serves, KnowsEnds, KeepsEnd, KeepsEnds, IsBelow, IsReady, IsFragment, IsLooped, LeadsTo, KnowsEnd, TakesRest, AreTurns}
 pub use Rattle.hc_pat_lang.specs.Gates.{alone_gate, nowhere, nowhere_gate, finish_point, finish_gate, IsStep, IsFork, IsJoin, anything}
-pub use Rattle.hc_pat_lang.specs.Led.{ends_at, HaveCommon, LedToBelow, OnwardsBelow, LeadsOnwards, IsLedTo}
+pub use Rattle.hc_pat_lang.specs.Led.{ends_at, LedToBelow, OnwardsBelow, LeadsOnwards, IsLedTo}
 pub use Rattle.hc_pat_lang.specs.Matching.{IsFull, LooksFor, first_nodes, IsRunOf, IsClassBelow, IsClass, IsByteBelow, IsForkBelow, EndBelow, ReadsNode}
 pub use Rattle.hc_pat_lang.specs.Merging.{IsOther, IsOtherBelow, IsPass, IsPassBelow, IsSlash, IsSlashBelow}
 pub use Rattle.hc_pat_lang.specs.Nodes.{Takes, AreNodes}

@@ -10,6 +10,7 @@ pub mod Consisting
 pub mod Tables
 pub mod Joining
 pub mod Rests
+pub mod Onward
 pub mod Merges
 pub mod Parts
 pub mod Serving

@@ -2,8 +2,8 @@ ghost use Rattle.std.specs.Prelude.{◌≡◌, ◌-◌, ◌==◌, ◌≤◌, Boo
 ghost use Rattle.std.specs.Prelude.{None, if◌then◌else◌, length};
 ghost use Rattle.hc_pattern.specs.Pattern.{group, pattern_of, repeat};
 ghost use Rattle.hc_pat_lang.specs.Fragments.{AreTurns, IsFragment, IsReady};
-ghost use Rattle.hc_pat_lang.specs.Turned.{any_chosen, chosen_ways, has_turn, part_ways, takes_a_byte, then_chosen, times_of};
-ghost use Rattle.hc_pat_lang.specs.Turned.{up_to_chosen};
+ghost use Rattle.hc_pat_lang.specs.Turned.{any_chosen, chosen_ways, has_turn, part_ways, takes_a_byte, then_chosen};
+ghost use Rattle.hc_pat_lang.specs.Turned.{times_of, up_to_chosen};
 ghost use Rattle.hc_pat_lang.specs.declared.gates.Gate.{Gate as G};
 ghost use Rattle.hc_pat_lang.specs.declared.nodes.Node.{Node as N};
 ghost use Rattle.hc_ways.specs.Kept.{Turns as Held};
@@ -174,7 +174,8 @@ impl Nodes {
         exits: Gate,
     ) -> Result<Gate, NoMemory>
         requires { IsReady self.old.list.items exits }
-        ensures { IfOk result (IsFragment (λ text. chosen_ways number text (repeat (pattern_of body.now) times.least None times.greedy))
+        ensures { IfOk result (IsFragment (λ text.
+            chosen_ways number text (repeat (pattern_of body.now) times.least None times.greedy))
             exits self.old.list.items self.new.list.items) }
     {
         let more = self.choose_any(body, times.greedy, number, exits)?;
