@@ -1,8 +1,7 @@
 -- The pairs of states from which texts lead to final states.
-use Rattle.hc_pat_lang.proofs.Common.{◌≡◌, ℕ, ◌+◌, ◌-◌, ◌*◌, ◌<◌, ◌≤◌, ◌⊎◌, ◌↔◌, Bool, true, false, List, [], ◌∷◌, Some, length, slice_get, slice_get-get_or, slice_index_or, slice_set, sym, ◌∙◌, ap, subst, inl, inr, arith, Automaton, states, is_final, accepts_from, accepts, IsText, IsAutomaton, next_within, LeadsOnwards}
+use Rattle.hc_pat_lang.proofs.Common.{◌≡◌, ℕ, ◌+◌, ◌-◌, ◌*◌, ◌<◌, ◌≤◌, ◌⊎◌, Bool, true, false, List, [], ◌∷◌, Some, length, slice_get, slice_get-get_or, slice_index_or, slice_set, sym, ◌∙◌, ap, subst, inl, inr, arith, Automaton, states, accepts_from, accepts, IsText, IsAutomaton, next_within, LeadsOnwards}
 use Rattle.std.specs.Prelude.{◌%◌, ◌/◌}
 use Rattle.std.proofs.Math.ListN.{length-set}
-use Rattle.std.proofs.Math.Nat.{div-lt_iff_lt-mul, mod-lt, mul_comm}
 use Rattle.std.proofs.lemmas.Nat.{div-mul-add, mod-mul-add, mul-add-lt}
 use Rattle.hc_base.proofs.Shared.{get_set_other}
 use Rattle.hc_dfa.specs.Pairs.{IsPair, pair_step}
@@ -12,25 +11,16 @@ use Rattle.hc_pat_lang.specs.Led.{AreOnward, IsMarkedPair, IsOnward, LeadsOn, Ma
 pub mark_is : (onward : List Bool) (place : ℕ) (v d : Bool) → place < length onward → slice_index_or onward place d ≡ v → slice_get onward place ≡ Some v
 mark_is onward place v d below is = slice_get-get_or onward place d below ∙ ap Some is
 
-pub not_marked : (onward : List Bool) (place : ℕ) (d : Bool) → place < length onward → slice_index_or onward place d ≡ false → slice_get onward place ≡ Some true → ⊥
-not_marked onward place d below is marked = (let f = mark_is onward place false d below is in cc)
-
 module _ (a b : Automaton) where
   -- The pair at a place.
   abbrev pub pair_at : ℕ → ℕ × ℕ
   pair_at place = (place % states a, place / states a)
-
-  pub onward_final : (pair : ℕ × ℕ) → is_final a pair.0 ≡ true → is_final b pair.1 ≡ true → IsOnward a b pair
-  onward_final pair first second = ([], record { bytes = tt; in_first = first; in_second = second })
 
   pub onward_by : (pair : ℕ × ℕ) (byte : ℕ) → byte < 256 → IsOnward a b (pair_step a b pair byte) → IsOnward a b pair
   onward_by pair byte small led = (byte ∷ led.0, record { bytes = (small, led.1.bytes); in_first = led.1.in_first; in_second = led.1.in_second })
 
   pub place_within : (pair : ℕ × ℕ) → IsPair a b pair → pair.1 * states a + pair.0 < states a * states b
   place_within pair is = mul-add-lt pair.1 (states a) pair.0 (states b) is.1 is.0
-
-  pub pair_here : (place : ℕ) → 0 < states a → place < states a * states b → IsPair a b (pair_at place)
-  pair_here place some below = (mod-lt place some, (div-lt_iff_lt-mul some).1 (rw (mul_comm (states a) (states b)) at below))
 
   pair_there : (pair : ℕ × ℕ) → IsPair a b pair → pair_at (pair.1 * states a + pair.0) ≡ pair
   pair_there pair is = λ i. (mod-mul-add pair.1 (states a) pair.0 is.0 i, div-mul-add pair.1 (states a) pair.0 is.0 i)
@@ -64,26 +54,21 @@ module _ (a b : Automaton) where
       let cases : (place ≡ count - 1 - later) ⊎ (count ≤ place + later) = grind arith in
       elim cases [ inl e ↦ rw e here | inr old ↦ before place below old ]
 
-  pub all_settled : (onward : List Bool) → Marks a b onward → IsAutomaton b → ((place : ℕ) → place < states a * states b → Settled onward place) → AreOnward a b onward
-  all_settled onward marks is_b settled = record {
+  pub all_settled : (onward : List Bool) → Marks a b onward → ((place : ℕ) → place < states a * states b → Settled onward place) → AreOnward a b onward
+  all_settled onward marks settled = record {
     marks = marks;
-    table = is_b;
     all = λ pair is leads. settled (pair.1 * states a + pair.0) (place_within pair is) (subst (LeadsOn a b onward) (sym (pair_there pair is)) leads);
   }
 
-  module _ (is_a : IsAutomaton a) (onward : List Bool) (are : AreOnward a b onward) where
-    pub state_within : (state : ℕ) → state < states a → state < length onward
-    state_within state s = (let w = place_within (state, 0) (s, are.table.some) in let l = are.marks.len in omega arith)
-
+  module _ (is_a : IsAutomaton a) (is_b : IsAutomaton b) (onward : List Bool) (are : AreOnward a b onward) where
     all_marked : (text : List ℕ) (pair : ℕ × ℕ) → IsPair a b pair → IsText text → accepts_from a pair.0 text ≡ true → accepts_from b pair.1 text ≡ true → IsMarkedPair a onward pair
     all_marked [] pair is bytes first second = are.all pair is (inl (first, second))
     all_marked (byte ∷ text) pair is bytes first second =
-        are.all pair is (inr (byte, bytes.0, all_marked text (pair_step a b pair byte) (next_within a is_a pair.0 byte is.0 bytes.0, next_within b are.table pair.1 byte is.1 bytes.0) bytes.1 first second))
+        are.all pair is (inr (byte, bytes.0, all_marked text (pair_step a b pair byte) (next_within a is_a pair.0 byte is.0 bytes.0, next_within b is_b pair.1 byte is.1 bytes.0) bytes.1 first second))
 
-    pub onward_tells : (state : ℕ) → state < states a → (slice_get onward state ≡ Some true) ↔ LeadsOnwards a b state
+    pub onward_tells : (state : ℕ) (answer : Bool) → state < states a → slice_get onward (0 * states a + state) ≡ Some answer → (answer ≡ true → LeadsOnwards a b state) × (answer ≡ false → LeadsOnwards a b state → ⊥)
     unfolding accepts
-    onward_tells state s =
-        let here : 0 * states a + state ≡ state = omega arith in (
-          (λ marked. are.marks.leads (state, 0) (s, are.table.some) (rw here marked)),
-          (λ leads. (let marked = all_marked leads.0 (state, 0) (s, are.table.some) leads.1.bytes leads.1.in_first leads.1.in_second in rw here at marked)),
-        )
+    onward_tells state answer s is = (
+      (λ e. are.marks.leads (state, 0) (s, is_b.some) (is ∙ ap Some e)),
+      (λ e leads. (let marked = all_marked leads.0 (state, 0) (s, is_b.some) leads.1.bytes leads.1.in_first leads.1.in_second in let f = is in cc)),
+    )

@@ -1,6 +1,6 @@
 -- Which states the texts of a set lead to, and from which they lead to a final state.
 use Rattle.std.specs.Prelude.{◌≡◌, ℕ, ◌+◌, ◌*◌, ◌<◌, ◌==◌, ◌⊎◌, IsTrue, List, Bool, true, false, length, slice_get, Some}
-use Rattle.hc_dfa.specs.Automata.{Automaton, IsTable, states, is_final, run, accepts_from, accepts}
+use Rattle.hc_dfa.specs.Automata.{Automaton, states, is_final, run, accepts_from, accepts}
 use Rattle.hc_dfa.specs.Explored.{Extends}
 use Rattle.hc_dfa.specs.Pairs.{IsPair, pair_step}
 use Rattle.hc_dfa.specs.Texts.{IsText, TextSet}
@@ -88,5 +88,4 @@ pub record Marks (a b : Automaton) (onward : List Bool) : Type 0 where
 -- The marked pairs are those that lead onward.
 pub record AreOnward (a b : Automaton) (onward : List Bool) : Type 0 where
   pub marks : Marks a b onward
-  pub table : IsTable b.next b.finals
   pub all : (pair : ℕ × ℕ) → IsPair a b pair → LeadsOn a b onward pair → IsMarkedPair a onward pair

@@ -1,4 +1,5 @@
-ghost use Rattle.std.specs.Prelude.{◌≡◌, ℕ, ◌<◌, ◌≤◌, false, true, IfOk, OnOk};
+ghost use Rattle.std.specs.Prelude.{◌≡◌, ℕ, ◌+◌, ◌*◌, ◌<◌, ◌≤◌, false, true, Some, slice_get, IfOk};
+ghost use Rattle.std.specs.Prelude.{OnOk};
 ghost use Rattle.hc_dfa.specs.Automata.{accepts, states};
 ghost use Rattle.hc_pat_lang.specs.Added.{AddsFinals, AddsStarts};
 ghost use Rattle.hc_pat_lang.specs.Led.{AddsNexts, AreLed, AreOnward, IsOnward, LeadsOn, LedToBelow, Marks};
@@ -33,7 +34,8 @@ pub fn suffix_quotient(alloc: Global, set: &Dfa, by: &Dfa) -> Result<Dfa, NoMemo
     let mut machine = Machine::new(alloc, set.states());
     add_table(&mut machine, set, 0)?;
     machine.add_start(0)?;
-    add_ends(alloc, &mut machine, set, by)?;
+    let onward = pairs_onward(alloc, set, by)?;
+    add_ends(&mut machine, set, by, &onward)?;
     let made = automaton_of(alloc, &machine)?;
     Ok(made)
 }
@@ -103,13 +105,13 @@ fn stands_with_final(_a: &Dfa, b: &Dfa, pairs: &IndexSet<(u32, u32)>, state: u32
 }
 
 /// Makes each state from which a text of the other set leads to a final state final.
-fn add_ends(alloc: Global, machine: &mut Machine, set: &Dfa, by: &Dfa) -> Result<(), NoMemory>
-    requires { states set.now ≤ machine.old.states }
+fn add_ends(machine: &mut Machine, set: &Dfa, by: &Dfa, onward: &[bool]) -> Result<(), NoMemory>
+    requires states { states set.now ≤ machine.old.states }
+    requires onward { AreOnward set.now by.now onward.now }
     ensures { OnOk result (AddsFinals machine.old machine.new (OnwardsBelow set.now by.now (states set.now))) }
 {
-    let onward = pairs_onward(alloc, set, by)?;
     for state in 0..set.states() {
-        if !onward[state as usize] {
+        if !is_marked(set, by, onward, (state, by.start())) {
             continue;
         }
         machine.add_final(state)?;
@@ -165,11 +167,21 @@ fn leads_on(a: &Dfa, b: &Dfa, onward: &[bool], pair: (u32, u32)) -> bool
     ensures none { result ≡ false → LeadsOn a.now b.now onward.now pair → ⊥ }
 {
     for byte in 0..BYTE_VALUES {
-        let first = a.next_state(pair.0, byte as u8) as usize;
-        let second = b.next_state(pair.1, byte as u8) as usize;
-        if onward[second * a.states() as usize + first] {
+        let first = a.next_state(pair.0, byte as u8);
+        let second = b.next_state(pair.1, byte as u8);
+        if is_marked(a, b, onward, (first, second)) {
             return true;
         }
     }
     a.is_final(pair.0) && b.is_final(pair.1)
+}
+
+/// Whether a pair is marked.
+#[tactic(auto, using(crate::proofs::Onward::mark_is, crate::proofs::Onward::place_within))]
+fn is_marked(a: &Dfa, _b: &Dfa, onward: &[bool], pair: (u32, u32)) -> bool
+    requires marks { Marks a.now _b.now onward.now }
+    requires pair { IsPair a.now _b.now pair }
+    ensures { slice_get onward.now (pair.1 * states a.now + pair.0) ≡ Some result }
+{
+    onward[pair.1 as usize * a.states() as usize + pair.0 as usize]
 }

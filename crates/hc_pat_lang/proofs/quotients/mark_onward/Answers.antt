@@ -11,5 +11,5 @@ loop-later-preserved c = record {
 
 pub returns-clause-all : goal.returns-clause-all
 returns-clause-all c is =
-    all_settled c.args.a.now c.args.b.now _ c.loop-later.invariant.marks c.states-2.ensures.table
+    all_settled c.args.a.now c.args.b.now _ c.loop-later.invariant.marks
     (λ place below. c.loop-later.invariant.settled is place below (let end = rw (c.states.ensures.value, c.states-2.ensures.value) at c.loop-later-test.false in omega arith))
