@@ -91,20 +91,19 @@ module _ (body chosen : List ℕ → Ways Turns) (old one_later two_later new : 
         let second = fragment_behind body chosen_rest exits turns.chosen other base one_later two_later later other_is in
         fragment_joined _ _ exits one other entries base two_later new (fragment_later _ _ _ base one_later two_later first (fragment_grows _ _ _ one_later two_later other_is)) second join
 
-    pub all_added : (last : List Node) (all : Gate) → IsFragment body turns.all new last all → IsFragment (λ text. behind (body text) (rest text)) exits base last all
-    all_added last all is = fragment_behind body rest exits turns.all all base new last (fragment_later _ _ _ base old new are.all_ways added_grows) is
-
     pub then_added : (last : List Node) (all : Gate) → IsFragment body turns.all new last all
         → AreTurns (λ text. behind (body text) (rest text)) (λ text. chosen_behind (body text) (chosen text) (rest text) (chosen_rest text)) exits base last (record { all = all; chosen = entries })
-    then_added last all is = record { all_ways = all_added last all is; chosen_ways = fragment_later _ _ _ base new last chosen_added (fragment_grows _ _ _ new last is) }
+    then_added last all is = record {
+      all_ways = fragment_behind body rest exits turns.all all base new last (fragment_later _ _ _ base old new are.all_ways added_grows) is;
+      chosen_ways = fragment_later _ _ _ base new last chosen_added (fragment_grows _ _ _ new last is);
+    }
 
-    pub up_to_added : (greedy : Bool) (turned last : List Node) (turn all : Gate) → IsBelow (length base) exits → Grows base new → IsFragment body turns.all new turned turn → IsJoin turned last turn exits all
-        → AreTurns (λ text. preferred greedy (behind (body text) (rest text))) (λ text. chosen_behind (body text) (chosen text) (rest text) (chosen_rest text)) exits base last (record { all = all; chosen = entries })
-    up_to_added greedy turned last turn all below grows is join_all =
-        let turn_grows = fragment_grows _ _ _ new turned is in
-        let exits_below = below_more (length base) (length turned) exits (let a = grows.longer in let b = turn_grows.longer in omega arith) below in
-        record {
-          all_ways = fragment_preferred greedy (λ text. behind (body text) (rest text)) exits turn all base turned last below (all_added turned turn is) join_all;
-          chosen_ways = fragment_later _ _ _ base new last chosen_added
-              (grows_on new turned last turn_grows (join_grows turn exits all turned last join_all is.ready.are is.ready.below exits_below));
-        }
+-- Turns that may be left out.
+pub turns_optional : (greedy : Bool) (all chosen : List ℕ → Ways Turns) (exits entries : Gate) (base mid new : List Node) (turns : Both) → IsBelow (length base) exits → AreTurns all chosen exits base mid turns
+    → IsJoin mid new turns.all exits entries → AreTurns (λ text. preferred greedy (all text)) chosen exits base new (record { all = entries; chosen = turns.chosen })
+turns_optional greedy all chosen exits entries base mid new turns below are join =
+    let one = are.all_ways in
+    record {
+      all_ways = fragment_preferred greedy all exits turns.all entries base mid new below one join;
+      chosen_ways = fragment_later _ _ _ base mid new are.chosen_ways (join_grows turns.all exits entries mid new join one.ready.are one.ready.below (below_more _ _ exits one.longer below));
+    }

@@ -7,7 +7,7 @@ ghost use Rattle.hc_pat_lang.specs.Turned.{times_of, up_to_chosen};
 ghost use Rattle.hc_pat_lang.specs.declared.gates.Gate.{Gate as G};
 ghost use Rattle.hc_pat_lang.specs.declared.nodes.Node.{Node as N};
 ghost use Rattle.hc_ways.specs.Kept.{Turns as Held};
-ghost use Rattle.hc_ways.specs.Ways.{Ways, any_turns, none, turns_up_to};
+ghost use Rattle.hc_ways.specs.Ways.{Ways, any_turns, behind, none, turns_up_to};
 ghost use Rattle.hc_pat_lang.specs.declared.gates.GroupPart.TheVariants.{Outside};
 
 use crate::build::Times;
@@ -210,13 +210,29 @@ impl Nodes {
     {
         let mut turns = more;
         for _turn in 0..count {
-            let one = self.choose(body, number, turns.all)?;
-            let other = self.build(body, GroupPart::Outside, turns.chosen)?;
-            let chosen = self.join(one, other)?;
-            let all = self.build(body, GroupPart::Outside, turns.all)?;
-            turns = Turns { all, chosen };
+            turns = self.choose_turn(body, number, turns)?;
         }
         Ok(turns.chosen)
+    }
+
+    /// A turn before others.
+    #[cycle(choose)]
+    fn choose_turn(&mut self, body: &Pat, number: u8, turns: Turns) -> Result<Turns, NoMemory>
+        requires all { IsReady self.old.list.items turns.all }
+        requires chosen { IsReady self.old.list.items turns.chosen }
+        ensures all { IfOk result (λ more. IsReady self.new.list.items more.all) }
+        ensures chosen { IfOk result (λ more. IsReady self.new.list.items more.chosen) }
+        ensures turns { IfOk result (λ more. (exits : G) (base : List N) (all chosen : List ℕ → Ways Held)
+            → AreTurns all chosen exits base self.old.list.items turns
+            → AreTurns (λ text. behind (part_ways Outside text (pattern_of body.now)) (all text))
+            (λ text. then_chosen number 1 text (pattern_of body.now) (all text) (chosen text))
+            exits base self.new.list.items more) }
+    {
+        let one = self.choose(body, number, turns.all)?;
+        let other = self.build(body, GroupPart::Outside, turns.chosen)?;
+        let chosen = self.join(one, other)?;
+        let all = self.build(body, GroupPart::Outside, turns.all)?;
+        Ok(Turns { all, chosen })
     }
 
     /// At most so many turns.
@@ -240,12 +256,9 @@ impl Nodes {
             chosen: Gate::nowhere(),
         };
         for _turn in 0..count {
-            let one = self.choose(body, number, turns.all)?;
-            let other = self.build(body, GroupPart::Outside, turns.chosen)?;
-            let chosen = self.join(one, other)?;
-            let turn = self.build(body, GroupPart::Outside, turns.all)?;
-            let all = self.join(turn, exits)?;
-            turns = Turns { all, chosen };
+            let turn = self.choose_turn(body, number, turns)?;
+            let all = self.join(turn.all, exits)?;
+            turns = Turns { all, ..turn };
         }
         Ok(turns)
     }
