@@ -1,5 +1,5 @@
-ghost use Rattle.std.specs.Prelude.{◌≡◌, ℕ, ◌+◌, ◌*◌, ◌<◌, ◌≤◌, false, true, Some, slice_get, IfOk};
-ghost use Rattle.std.specs.Prelude.{OnOk};
+ghost use Rattle.std.specs.Prelude.{◌≡◌, ℕ, ◌+◌, ◌*◌, ◌<◌, ◌≤◌, IfOk, OnOk};
+ghost use Rattle.std.specs.Prelude.{false, slice_get, Some, true};
 ghost use Rattle.hc_dfa.specs.Automata.{accepts, states};
 ghost use Rattle.hc_pat_lang.specs.Added.{AddsFinals, AddsStarts};
 ghost use Rattle.hc_pat_lang.specs.Led.{AddsNexts, AreLed, AreOnward, IsOnward, LeadsOn, LedToBelow, Marks};
