@@ -1,5 +1,5 @@
 -- The pairs of states from which texts lead to final states.
-use Rattle.hc_pat_lang.proofs.Common.{◌≡◌, ℕ, ◌+◌, ◌-◌, ◌*◌, ◌<◌, ◌≤◌, ◌⊎◌, Bool, true, false, List, [], ◌∷◌, Some, length, slice_get, slice_get-get_or, slice_index_or, slice_set, sym, ◌∙◌, ap, subst, inl, inr, arith, Automaton, states, accepts_from, accepts, IsText, IsAutomaton, next_within, LeadsOnwards}
+use Rattle.hc_pat_lang.proofs.Common.{◌≡◌, ℕ, ◌+◌, ◌*◌, ◌<◌, ◌⊎◌, Bool, true, false, List, [], ◌∷◌, Some, length, slice_get, slice_get-get_or, slice_index_or, slice_set, sym, ◌∙◌, ap, subst, inl, inr, arith, Automaton, states, accepts_from, accepts, IsText, IsAutomaton, next_within, LeadsOnwards}
 use Rattle.std.specs.Prelude.{◌%◌, ◌/◌}
 use Rattle.std.proofs.Math.ListN.{length-set}
 use Rattle.std.proofs.lemmas.Nat.{div-mul-add, mod-mul-add, mul-add-lt}
@@ -47,12 +47,6 @@ module _ (a b : Automaton) where
           | inr other ↦ marks.leads pair is (sym (get_set_other onward place here true other) ∙ marked)
         ];
   }
-
-  pub settled_more : (onward : List Bool) (count later : ℕ) → ((place : ℕ) → place < count → count ≤ place + later → Settled onward place) → Settled onward (count - 1 - later)
-      → (place : ℕ) → place < count → count ≤ place + (later + 1) → Settled onward place
-  settled_more onward count later before here place below past =
-      let cases : (place ≡ count - 1 - later) ⊎ (count ≤ place + later) = grind arith in
-      elim cases [ inl e ↦ rw e here | inr old ↦ before place below old ]
 
   pub all_settled : (onward : List Bool) → Marks a b onward → ((place : ℕ) → place < states a * states b → Settled onward place) → AreOnward a b onward
   all_settled onward marks settled = record {

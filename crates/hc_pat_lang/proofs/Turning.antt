@@ -1,5 +1,5 @@
 -- Fragments of the ways with a chosen turn.
-use Rattle.hc_pat_lang.proofs.Common.{◌≡◌, ℕ, zero, suc, ◌-◌, ◌||◌, Bool, true, false, List, [], ◌∷◌, length, if◌then◌else◌, nat_lt, nat_eq, Option, Some, None, refl, sym, ◌∙◌, ap, arith, flat_map, Pattern, cat, alt, group, repeat, Way, Ways, none, behind, either, moving, preferred, any_turns, Turns, same_ways, AreTurns, IsBelow, IsFragment, IsReady, IsJoin, chosen_behind, chosen_repeated, chosen_then, chosen_up_to, chosen_ways, has_turn, part_ways, takes_a_byte, chosen_any, Gate, Inside, Node}
+use Rattle.hc_pat_lang.proofs.Common.{◌≡◌, ℕ, zero, suc, ◌-◌, ◌||◌, Bool, true, false, List, [], ◌∷◌, length, if◌then◌else◌, nat_lt, nat_eq, Option, Some, None, refl, sym, ◌∙◌, ap, flat_map, Pattern, cat, alt, group, repeat, Way, Ways, none, behind, either, moving, preferred, any_turns, Turns, same_ways, AreTurns, IsBelow, IsFragment, IsReady, IsJoin, chosen_behind, chosen_repeated, chosen_then, chosen_up_to, chosen_ways, has_turn, part_ways, takes_a_byte, chosen_any, Gate, Inside, Node}
 use Rattle.hc_pat_lang.specs.declared.chosen.Turns.{Turns as Both}
 use Rattle.hc_pat_lang.proofs.Fragmenting.{Grows, below_more, fragment_behind, fragment_grows, fragment_joined, fragment_later, fragment_preferred, grows_on, join_grows, join_ready, ready_later}
 

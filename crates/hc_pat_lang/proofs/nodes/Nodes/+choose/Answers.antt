@@ -1,4 +1,4 @@
-use Rattle.hc_pat_lang.proofs.Common.{rules, ◌≡◌, ◌∙◌, List, [], ℕ, Some, ap, sym, inl, inr, arith, add-one, le-ltb, eqb_tells, alt, cat, pattern_of, chosen_ways, has_turn, part_ways, Gate, Outside}
+use Rattle.hc_pat_lang.proofs.Common.{◌≡◌, ◌∙◌, [], Some, ap, sym, inl, inr, arith, add-one, le-ltb, eqb_tells, alt, cat, pattern_of, chosen_ways, has_turn, part_ways, Gate, Outside}
 use Rattle.hc_pat_lang.proofs.Fragmenting.{fragment_as, fragment_behind, fragment_earlier, fragment_either, fragment_grows, fragment_joined, fragment_later, fragment_moving, fragment_none, fragment_stop, grows_on, ready_later}
 use Rattle.hc_pat_lang.proofs.Serving.{behind_turn}
 use Rattle.hc_pat_lang.proofs.Turning.{added_grows, added_ready, chosen_added, needed_behind, no_turn, then_added, turns_optional}
