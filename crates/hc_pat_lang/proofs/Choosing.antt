@@ -1,7 +1,7 @@
 -- The ways with a chosen turn through a marked text, by those of the pattern through the text without marks.
-use Rattle.hc_pat_lang.proofs.Common.{◌≡◌, ℕ, zero, suc, ◌-◌, ◌≤◌, Bool, true, false, List, [], ◌∷◌, ◌++◌, length, if◌then◌else◌, nat_lt, nat_eq, Some, None, slice_get, refl, sym, ◌∙◌, ap, subst, inl, inr, arith, eqb-true, Contains, Contains-append_left, Contains-push, Span, Pattern, cat, alt, group, repeat, Way, Ways, none, behind, either, closed, grouped, preferred, moving, any_turns, turns_up_to, turns_then, Turns, all_ways, with_turn, behind-behind, behind-preferred, behind-stop, turn_or_next, Bounded, any_turns_is, bounded, Exists, chosen_any, chosen_behind, chosen_then, chosen_up_to, chosen_ways, part_ways, seen, GroupPart, Outside, Inside}
-use Rattle.hc_pat_lang.proofs.Parts.{some_filtered, some_mapped, exists_as, exists_with, exists_left, exists_right, exists_cases, to_flat, from_flat, some_preferred, some_turn_or_next}
-use Rattle.hc_pat_lang.proofs.Seeing.{Grown, IsSeen, seen_over, Sees, SeesOn, sees_any, sees_moving, sees_part, sees_then, sees_up_to}
+use Rattle.hc_pat_lang.proofs.Common.{◌≡◌, ℕ, zero, suc, ◌-◌, ◌≤◌, Bool, true, false, List, [], ◌∷◌, ◌++◌, length, if◌then◌else◌, nat_lt, nat_eq, Some, None, slice_get, refl, sym, ◌∙◌, ap, subst, inl, inr, arith, eqb-true, Contains, Contains-append_left, Contains-push, Span, Pattern, cat, alt, group, repeat, Way, Ways, none, behind, either, closed, grouped, preferred, moving, any_turns, turns_up_to, turns_then, Turns, all_ways, with_turn, behind-behind, behind-preferred, behind-stop, turn_or_next, Bounded, any_turns_is, bounded, Exists, chosen_any, chosen_behind, chosen_then, chosen_up_to, chosen_ways, part_ways, takes_a_byte, seen, GroupPart, Outside, Inside}
+use Rattle.hc_pat_lang.proofs.Parts.{some_filtered, some_mapped, exists_as, exists_with, exists_left, exists_right, exists_cases, to_flat, from_flat, some_preferred, some_turn_or_next, then_one}
+use Rattle.hc_pat_lang.proofs.Seeing.{Grown, IsSeen, seen_over, Sees, SeesOn, sees_any, sees_behind, sees_moving, sees_part, sees_then, sees_up_to}
 
 module _ (marked text : List ℕ) (same : length marked ≡ length text) (reads : (part : GroupPart) (k b : ℕ) → seen part marked k ≡ Some b → slice_get text k ≡ Some b) (number : ℕ) where
   abbrev pub SeenOutside : ℕ → ℕ → Type 0
@@ -121,13 +121,13 @@ module _ (marked text : List ℕ) (same : length marked ≡ length text) (reads 
     sees_moved : SeesAll (moving l) (moving b)
     sees_moved = sees_moving Outside marked text same (reads Outside) l b all_first
 
-    to_others : (P : Way Turns → Type 0) (at : ℕ) (held : Turns) → Exists P (behind (moving b) others at held) → Exists P (others at held)
+    pub to_others : (P : Way Turns → Type 0) (at : ℕ) (held : Turns) → Exists P (behind (moving b) others at held) → Exists P (others at held)
     to_others P at held some = subst (λ (w : Ways Turns). Exists P (w at held)) (sym others_is) ((some_preferred P greedy (behind (moving b) others) at held).1 (inl some))
 
-    to_any_here : ToChosen a b → ToChosen (behind (moving a) rest) others
-    to_any_here chosen at one other P within some = to_others _ at other (to_first (moving l) (moving a) rest rest (moving b) others sees_moved (to_moving a b chosen) sees_rest at one other P within some)
+    to_any_here : ToChosen a b → ToChosen (behind (moving a) rest) (behind (moving b) others)
+    to_any_here chosen = to_first (moving l) (moving a) rest rest (moving b) others sees_moved (to_moving a b chosen) sees_rest
 
-    to_any_from : (k : ℕ) → ToChosen a b → ToChosen (behind (any_turns greedy l k) (behind (moving a) rest)) others
+    to_any_from : (k : ℕ) → ToChosen a b → ToChosen (behind (any_turns greedy l k) (behind (moving a) rest)) (behind (moving b) others)
     to_any_from zero chosen at one other P within some =
         to_any_here chosen at one other P within (subst (λ (w : Ways Turns). Exists (λ (way : Way Turns). P way.end) (w at one)) (behind-stop (behind (moving a) rest)) some)
     to_any_from (suc k) chosen at one other P within some =
@@ -135,12 +135,26 @@ module _ (marked text : List ℕ) (same : length marked ≡ length text) (reads 
         let more = behind (any_turns greedy l k) next in
         let same_ways = behind-preferred greedy (behind (moving l) (any_turns greedy l k)) next ∙ ap (λ (w : Ways Turns). turn_or_next greedy w next) (behind-behind (moving l) (any_turns greedy l k) next) in
         elim ((some_turn_or_next _ greedy (behind (moving l) more) next at one).0 (subst (λ (w : Ways Turns). Exists (λ (way : Way Turns). P way.end) (w at one)) same_ways some)) [
-          | inl turned ↦ to_others _ at other (to_second (moving l) (moving a) rest more (moving b) others sees_moved (to_any_from k chosen) at one other P within turned)
+          | inl turned ↦ to_second (moving l) (moving a) rest more (moving b) others sees_moved
+              (λ from one other P inside later. to_others _ from other (to_any_from k chosen from one other P inside later)) at one other P within turned
           | inr own ↦ to_any_here chosen at one other P within own
         ]
 
-    to_any : ToChosen a b → ToChosen (chosen_any greedy l a (length marked)) others
-    to_any chosen = to_any_from (length marked) chosen
+    -- The chosen turn is one of those that have to be.
+    to_some : ToChosen a b → ToChosen (chosen_any greedy l a (length marked)) (behind b others)
+    to_some chosen at one other P within some =
+        to_flat _ (λ (w : Way Turns). others w.end w.held) (b at other)
+        (exists_as _ _ (b at other) (λ way here. here.0)
+        ((some_filtered _ (λ way. nat_lt at way.end) (b at other)).0 (from_flat _ _ (moving b at other) (to_any_from (length marked) chosen at one other P within some))))
+
+    to_endless : (moves : Bool) (least : ℕ) → ToChosen a b
+        → ToChosen (if moves then chosen_then l a (least - 1) (behind l rest) (chosen_any greedy l a (length marked)) else chosen_then l a least rest (chosen_any greedy l a (length marked))) (turns_then b least others)
+    to_endless true (suc least) chosen =
+        let less : suc least - 1 ≡ least = omega arith in
+        rw less (subst (ToChosen (chosen_then l a least (behind l rest) (chosen_any greedy l a (length marked)))) (then_one b least others)
+        (to_then l a b least _ _ _ all_first chosen (sees_behind Outside marked text same (reads Outside) l rest b others all_first sees_rest) (to_some chosen)))
+    to_endless _ least chosen =
+        to_then l a b least _ _ _ all_first chosen sees_rest (λ at one other P within some. to_others _ at other (to_any_from (length marked) chosen at one other P within some))
 
   to_if : (v : Bool) (a b : Ways Turns) → ToChosen a b → ToChosen (if v then none else a) (if v then none else b)
   to_if true a b chosen = λ at one other P within some. absurd some
@@ -191,10 +205,7 @@ module _ (marked text : List ℕ) (same : length marked ≡ length text) (reads 
     | inr here ↦ exists_right _ (all_ways text first at other) (all_ways text second at other) (to_chosen second at one other P within here)
   ]
   to_chosen (group own body) = to_group own (nat_eq own number) body refl (to_chosen body)
-  to_chosen (repeat body least None greedy) =
-      to_then _ _ _ least _ _ _ (sees_all body) (to_chosen body)
-      (subst (λ (n : ℕ). SeesAll (any_turns greedy (part_ways Outside marked body) (length marked)) (any_turns greedy (all_ways text body) n)) same (sees_any Outside marked text same (reads Outside) greedy _ _ (length marked) (sees_all body)))
-      (to_any greedy _ _ _ (sees_all body) (bounded with_turn text body) (to_chosen body))
+  to_chosen (repeat body least None greedy) = to_endless greedy _ _ _ (sees_all body) (bounded with_turn text body) (takes_a_byte body) least (to_chosen body)
   to_chosen (repeat body least (Some most) greedy) =
       to_if (nat_lt most least) _ _
       (to_then _ _ _ least _ _ _ (sees_all body) (to_chosen body) (sees_up_to Outside marked text same (reads Outside) greedy _ _ (most - least) (sees_all body))

@@ -81,8 +81,3 @@ module _ (m n : Steps) (Leads : ℕ → ℕ → ℕ → Type 0) (Passes : Silent
   with_start state pushed =
       let starts : n.starts ≡ m.starts ++ state ∷ [] = ap (λ (s : Steps). s.starts) pushed in
       with_starts (λ other. state ≡ other) (record { same = rw pushed refl; more = pushed_is m.starts n.starts state starts })
-
-  pub with_final : (state : ℕ) → n ≡ record m { finals = m.finals ++ state ∷ [] } → Consists n Leads Passes (λ other. Ends other ⊎ (state ≡ other)) Begins
-  with_final state pushed =
-      let finals : n.finals ≡ m.finals ++ state ∷ [] = ap (λ (s : Steps). s.finals) pushed in
-      with_finals (λ other. state ≡ other) (record { same = rw pushed refl; more = pushed_is m.finals n.finals state finals })

@@ -4,7 +4,7 @@ use Rattle.std.proofs.Math.ListN.{length-set}
 use Rattle.hc_pat_lang.specs.Nodes.{Takes, LeadsBelow, AreNodes, AgreesFrom}
 use Rattle.hc_pat_lang.specs.Nodes.Takes.{by_first}
 use Rattle.hc_base.proofs.Shared.{get_last, get_set_other, get_set_same}
-use Rattle.hc_pat_lang.proofs.Parts.{get_left, get_cases}
+use Rattle.hc_pat_lang.proofs.Parts.{get_left, get_cases, then_one}
 use Rattle.hc_pat_lang.proofs.Serving.{IsEither, AreEither, at_point, behind_turn, keeps_same, keeps_dead, keeps_finish, keeps_step, keeps_then, keeps_either, knows_nowhere, taken, serves_step, serves_none, serves_stop, serves_finish, serves_behind, serves_either, serves_preferred, serves_grouped, serves_moving, serves_any, serves_turns, serves_widens}
 
 -- ---- nodes that are added
@@ -361,11 +361,6 @@ looped_turns body exits turn old new greedy fits is =
 then_behind : (body : Ways Turns) (least : ℕ) (more : Ways Turns) → behind (turns_then body least stop) more ≡ turns_then body least more
 then_behind body zero more = behind-stop more
 then_behind body (suc least) more = behind-behind body (turns_then body least stop) more ∙ ap (behind body) (then_behind body least more)
-
--- A turn before others is one more.
-then_one : (body : Ways Turns) (least : ℕ) (more : Ways Turns) → turns_then body least (behind body more) ≡ behind body (turns_then body least more)
-then_one body zero more = refl
-then_one body (suc least) more = ap (behind body) (then_one body least more)
 
 -- Behind the turn is where it may begin again.
 pub inner_ready : (old new : List Node) (exits inner : Gate) (again : Point) → IsReady old exits → new ≡ old ++ Dead ∷ [] → again.state ≡ length old → inner ≡ record exits { moved = again } → IsReady new inner

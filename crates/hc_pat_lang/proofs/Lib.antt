@@ -10,6 +10,7 @@ pub mod Consisting
 pub mod Tables
 pub mod Joining
 pub mod Rests
+pub mod Onward
 pub mod Merges
 pub mod Parts
 pub mod Serving
@@ -17,6 +18,7 @@ pub mod Bounds
 pub mod Seeing
 pub mod Unmarked
 pub mod Turning
+pub mod Taking
 pub mod Choosing
 pub mod Marking
 pub mod Walking

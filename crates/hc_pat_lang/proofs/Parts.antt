@@ -1,5 +1,5 @@
 -- Lists: what holds of some element, of all, and at a place.
-use Rattle.hc_pat_lang.proofs.Common.{◌≡◌, ℕ, zero, suc, ◌+◌, ◌<◌, ◌≤◌, ◌⊎◌, Bool, true, false, List, [], ◌∷◌, ◌++◌, length, drop, map, filter, if◌then◌else◌, Some, None, slice_get, refl, sym, ◌∙◌, ap, subst, inl, inr, arith, slice_get-get_or, ◌↔◌, AllByRecursion, Contains, flat_map, Exists, Option, meets, turn_or_next, Way, Ways, preferred, stop}
+use Rattle.hc_pat_lang.proofs.Common.{◌≡◌, ℕ, zero, suc, ◌+◌, ◌<◌, ◌≤◌, ◌⊎◌, Bool, true, false, List, [], ◌∷◌, ◌++◌, length, drop, map, filter, if◌then◌else◌, Some, None, slice_get, refl, sym, ◌∙◌, ap, subst, inl, inr, arith, slice_get-get_or, ◌↔◌, AllByRecursion, Contains, flat_map, Exists, Option, meets, turn_or_next, Way, Ways, preferred, stop, behind, turns_then}
 
 -- ---- some element
 
@@ -104,6 +104,11 @@ some_turn_or_next P false a b at held = (
   (λ some. elim (exists_cases P (b at held) (a at held) some) [ inl next ↦ inr next | inr first ↦ inl first ]),
   (λ either. elim either [ inl first ↦ exists_right P (b at held) (a at held) first | inr next ↦ exists_left P (b at held) (a at held) next ]),
 )
+
+-- A turn before others is one more.
+pub then_one : {K : Type 0} (body : Ways K) (least : ℕ) (more : Ways K) → turns_then body least (behind body more) ≡ behind body (turns_then body least more)
+then_one body zero more = refl
+then_one body (suc least) more = ap (behind body) (then_one body least more)
 
 -- ---- all elements
 

@@ -1,8 +1,5 @@
 -- What is left of the texts of a set behind, or before, the texts of another one.
-use Rattle.hc_pat_lang.proofs.Common.{◌≡◌, ℕ, ◌+◌, ◌<◌, ◌⊎◌, ◌*◌, Bool, List, [], ◌∷◌, ◌++◌, Option, Some, None, slice_get, slice_get_within, slice_get-get_or, slice_index_or, subst, length, ◌≤◌, false, IsMet, IsOne, Each-append, IsLedTo, true, refl, sym, ◌∙◌, ap, inl, inr, arith, eq-eqb, eqb-true, is_some, Automaton, states, next_state, is_final, run, accepts_from, accepts, Steps, AcceptsPathsOf, IsText, TextSet, IsLeastOf, IsAutomaton, next_within, IsMore, AddsFinals, AddsStarts, IsRow, IsFinal, HaveCommon, LedToBelow, OnwardsBelow, AcceptsOnly, IsRest, IsFront}
-use Rattle.std.proofs.lemmas.Bool.{and_from, and_parts}
-use Rattle.hc_dfa.specs.Built.{Accepts, product_of}
-use Rattle.hc_dfa.specs.declared.products.Keep.TheVariants.{Both}
+use Rattle.hc_pat_lang.proofs.Common.{◌≡◌, ℕ, ◌+◌, ◌<◌, ◌⊎◌, ◌*◌, Bool, List, [], ◌∷◌, ◌++◌, Some, slice_get, slice_get_within, slice_get-get_or, slice_index_or, subst, length, ◌≤◌, false, IsMet, IsOne, Each-append, IsLedTo, true, refl, sym, ◌∙◌, ap, inl, inr, arith, eq-eqb, eqb-true, Automaton, states, next_state, is_final, run, accepts_from, accepts, Steps, AcceptsPathsOf, IsText, IsAutomaton, next_within, IsMore, AddsFinals, AddsStarts, IsRow, IsFinal, LedToBelow, OnwardsBelow, AcceptsOnly, IsRest, IsFront}
 use Rattle.hc_pat_lang.proofs.Adding.{finals_pushed, more_as, more_pushed}
 use Rattle.hc_pat_lang.proofs.Consisting.{Consists}
 use Rattle.hc_pat_lang.proofs.Tables.{table_accepts}
@@ -39,36 +36,7 @@ module _ (P : ℕ → Type 0) (count : ℕ) where
       let same = adds.same in
       record { same = cc; more = more_pushed _ _ _ count _ _ adds.more (ap (λ (m : Steps). m.starts) pushed) below_later (here is) below_cases }
 
--- ---- texts that are in two sets
-
-pub common_found : (a b both : Automaton) (found : Option (List ℕ)) → Accepts both (product_of Both a b) → IsLeastOf (accepts both) found
-    → HaveCommon (accepts a) (accepts b) (is_some found)
-common_found a b both None same least = record {
-  some = λ e. absurd (let f = e in cc);
-  none = λ e text common. absurd (
-      let n = least text common.bytes in
-      let y = same text common.bytes ∙ and_from _ _ common.in_first common.in_second in cc);
-}
-common_found a b both (Some text) same least = record {
-  some = λ e. (
-    text,
-    let t = and_parts _ _ (sym (same text least.bytes) ∙ least.member) in
-        record { bytes = least.bytes; in_first = t.0; in_second = t.1 },
-  );
-  none = λ e other common. absurd (let f = e in cc);
-}
-
--- An automaton of the first set is asked for what it has in common with another one.
-pub common_led : (set : TextSet) (automaton by : Automaton) (answer : Bool) → Accepts automaton set → HaveCommon (accepts automaton) (accepts by) answer
-    → HaveCommon set (accepts by) answer
-common_led set automaton by answer same common = record {
-  some = λ e. let found = common.some e in
-      (found.0, record { bytes = found.1.bytes; in_first = sym (same found.0 found.1.bytes) ∙ found.1.in_first; in_second = found.1.in_second });
-  none = λ e text found. common.none e text (record { bytes = found.bytes; in_first = same text found.bytes ∙ found.in_first; in_second = found.in_second });
-}
-
-bool_same : (p q : Bool) → (p ≡ true → q ≡ true) → (q ≡ true → p ≡ true) → p ≡ q
-bool_same p q to from = grind arith
+-- ---- runs
 
 run_append : (a : Automaton) (state : ℕ) (front back : List ℕ) → accepts_from a state (front ++ back) ≡ accepts_from a (run a state front) back
 run_append a state [] back = refl
@@ -202,14 +170,6 @@ module _ (a : Automaton) (is : IsAutomaton a) (m : Steps) (automaton : Automaton
 
   final_at : (place : ℕ) → is_final a place ≡ true → place < states a → IsFinal a 0 place
   final_at place final s = record { state = place; below = s; here = omega arith; final = final }
-
-  pub rests_accepted : (state : ℕ) → state < states a
-      → Consists m (λ from byte to. ⊥ ⊎ IsRow a 0 from byte to) (λ step. ⊥) (λ end. ⊥ ⊎ IsFinal a 0 end) (λ begin. ⊥ ⊎ (state ≡ begin))
-      → Accepts automaton (accepts_from a state)
-  rests_accepted state s made text bytes =
-      let through = table_accepts a is m _ _ made automaton same (λ begin begins. rw begins at s) text bytes in
-      bool_same _ _ (λ accepted. let runs = through.0 accepted in rw runs.begins (final_there _ runs.ends))
-      (λ accepted. through.1 (record { start = state; begins = refl; ends = final_at _ accepted (run_within a is state text s bytes) }))
 
   pub rest_accepted : (by : Automaton)
       → Consists m (λ from byte to. ⊥ ⊎ IsRow a 0 from byte to) (λ step. ⊥) (λ end. ⊥ ⊎ IsFinal a 0 end) (λ begin. ⊥ ⊎ LedToBelow a by (states a) begin)

@@ -81,7 +81,7 @@ module _ (part : GroupPart) (marked text : List ℕ) (same : length marked ≡ l
       Each-flat_map (Grown text at held) (Grown text at held) _ (c at held) (first at held within)
       (λ way grown. all_as (Grown text way.end way.held) _ _ (λ later on. grown_on text at held way later grown on) (second way.end way.held grown.within))
 
-  sees_behind : (a b c d : Ways Turns) → Sees a c → Sees b d → Sees (behind a b) (behind c d)
+  pub sees_behind : (a b c d : Ways Turns) → Sees a c → Sees b d → Sees (behind a b) (behind c d)
   sees_behind a b c d one two = record {
     grown = grown_behind c d one.grown two.grown;
     to = λ at first other P within fresh some.

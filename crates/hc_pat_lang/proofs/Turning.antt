@@ -1,5 +1,5 @@
 -- Fragments of the ways with a chosen turn.
-use Rattle.hc_pat_lang.proofs.Common.{◌≡◌, ℕ, zero, suc, ◌-◌, ◌||◌, Bool, true, false, List, [], ◌∷◌, length, if◌then◌else◌, nat_lt, nat_eq, Option, Some, None, refl, sym, ◌∙◌, ap, arith, flat_map, Pattern, cat, alt, group, repeat, Way, Ways, none, behind, either, moving, preferred, any_turns, Turns, same_ways, AreTurns, IsBelow, IsFragment, IsReady, IsJoin, chosen_behind, chosen_repeated, chosen_then, chosen_up_to, chosen_ways, has_turn, part_ways, Gate, Inside, Node}
+use Rattle.hc_pat_lang.proofs.Common.{◌≡◌, ℕ, zero, suc, ◌-◌, ◌||◌, Bool, true, false, List, [], ◌∷◌, length, if◌then◌else◌, nat_lt, nat_eq, Option, Some, None, refl, sym, ◌∙◌, ap, flat_map, Pattern, cat, alt, group, repeat, Way, Ways, none, behind, either, moving, preferred, any_turns, Turns, same_ways, AreTurns, IsBelow, IsFragment, IsReady, IsJoin, chosen_behind, chosen_repeated, chosen_then, chosen_up_to, chosen_ways, has_turn, part_ways, takes_a_byte, chosen_any, Gate, Inside, Node}
 use Rattle.hc_pat_lang.specs.declared.chosen.Turns.{Turns as Both}
 use Rattle.hc_pat_lang.proofs.Fragmenting.{Grows, below_more, fragment_behind, fragment_grows, fragment_joined, fragment_later, fragment_preferred, grows_on, join_grows, join_ready, ready_later}
 
@@ -28,11 +28,14 @@ none_if : (v : Bool) (ways : Ways Turns) → ways ≡ none → (if v then none e
 none_if true ways is = refl
 none_if false ways is = is
 
-none_repeated : (bytes : ℕ) (body chosen : Ways Turns) (least : ℕ) (most : Option ℕ) (greedy : Bool) → chosen ≡ none → chosen_repeated bytes body chosen least most greedy ≡ none
-none_repeated bytes body chosen least None greedy is =
-    none_then body chosen least _ _ is
-    (ap (λ (w : Ways Turns). behind (any_turns greedy body bytes) (behind (moving w) (any_turns greedy body bytes))) is ∙ behind_none (any_turns greedy body bytes))
-none_repeated bytes body chosen least (Some most) greedy is =
+none_any : (greedy : Bool) (body chosen : Ways Turns) (bytes : ℕ) → chosen ≡ none → chosen_any greedy body chosen bytes ≡ none
+none_any greedy body chosen bytes is =
+    ap (λ (w : Ways Turns). behind (any_turns greedy body bytes) (behind (moving w) (any_turns greedy body bytes))) is ∙ behind_none (any_turns greedy body bytes)
+
+none_repeated : (moves : Bool) (bytes : ℕ) (body chosen : Ways Turns) (least : ℕ) (most : Option ℕ) (greedy : Bool) → chosen ≡ none → chosen_repeated moves bytes body chosen least most greedy ≡ none
+none_repeated true bytes body chosen least None greedy is = none_then body chosen (least - 1) _ _ is (none_any greedy body chosen bytes is)
+none_repeated false bytes body chosen least None greedy is = none_then body chosen least _ _ is (none_any greedy body chosen bytes is)
+none_repeated moves bytes body chosen least (Some most) greedy is =
     none_if (nat_lt most least) _ (none_then body chosen least _ _ is (none_up_to greedy body chosen (most - least) is))
 
 neither : (p q : Bool) → (p || q) ≡ false → (p ≡ false) × (q ≡ false)
@@ -49,7 +52,7 @@ no_turn number text (alt first second) isnt =
 no_turn number text (group own body) isnt =
     let both = neither (nat_eq own number) (has_turn number body) isnt in
     ap (λ (v : Bool). if v then either (part_ways Inside text body) (chosen_ways number text body) else chosen_ways number text body) both.0 ∙ no_turn number text body both.1
-no_turn number text (repeat body least most greedy) isnt = none_repeated (length text) _ _ least most greedy (no_turn number text body isnt)
+no_turn number text (repeat body least most greedy) isnt = none_repeated (takes_a_byte body) (length text) _ _ least most greedy (no_turn number text body isnt)
 no_turn number text _ isnt = refl
 
 -- Ways are left out only where none are chosen.
@@ -88,20 +91,19 @@ module _ (body chosen : List ℕ → Ways Turns) (old one_later two_later new : 
         let second = fragment_behind body chosen_rest exits turns.chosen other base one_later two_later later other_is in
         fragment_joined _ _ exits one other entries base two_later new (fragment_later _ _ _ base one_later two_later first (fragment_grows _ _ _ one_later two_later other_is)) second join
 
-    pub all_added : (last : List Node) (all : Gate) → IsFragment body turns.all new last all → IsFragment (λ text. behind (body text) (rest text)) exits base last all
-    all_added last all is = fragment_behind body rest exits turns.all all base new last (fragment_later _ _ _ base old new are.all_ways added_grows) is
-
     pub then_added : (last : List Node) (all : Gate) → IsFragment body turns.all new last all
         → AreTurns (λ text. behind (body text) (rest text)) (λ text. chosen_behind (body text) (chosen text) (rest text) (chosen_rest text)) exits base last (record { all = all; chosen = entries })
-    then_added last all is = record { all_ways = all_added last all is; chosen_ways = fragment_later _ _ _ base new last chosen_added (fragment_grows _ _ _ new last is) }
+    then_added last all is = record {
+      all_ways = fragment_behind body rest exits turns.all all base new last (fragment_later _ _ _ base old new are.all_ways added_grows) is;
+      chosen_ways = fragment_later _ _ _ base new last chosen_added (fragment_grows _ _ _ new last is);
+    }
 
-    pub up_to_added : (greedy : Bool) (turned last : List Node) (turn all : Gate) → IsBelow (length base) exits → Grows base new → IsFragment body turns.all new turned turn → IsJoin turned last turn exits all
-        → AreTurns (λ text. preferred greedy (behind (body text) (rest text))) (λ text. chosen_behind (body text) (chosen text) (rest text) (chosen_rest text)) exits base last (record { all = all; chosen = entries })
-    up_to_added greedy turned last turn all below grows is join_all =
-        let turn_grows = fragment_grows _ _ _ new turned is in
-        let exits_below = below_more (length base) (length turned) exits (let a = grows.longer in let b = turn_grows.longer in omega arith) below in
-        record {
-          all_ways = fragment_preferred greedy (λ text. behind (body text) (rest text)) exits turn all base turned last below (all_added turned turn is) join_all;
-          chosen_ways = fragment_later _ _ _ base new last chosen_added
-              (grows_on new turned last turn_grows (join_grows turn exits all turned last join_all is.ready.are is.ready.below exits_below));
-        }
+-- Turns that may be left out.
+pub turns_optional : (greedy : Bool) (all chosen : List ℕ → Ways Turns) (exits entries : Gate) (base mid new : List Node) (turns : Both) → IsBelow (length base) exits → AreTurns all chosen exits base mid turns
+    → IsJoin mid new turns.all exits entries → AreTurns (λ text. preferred greedy (all text)) chosen exits base new (record { all = entries; chosen = turns.chosen })
+turns_optional greedy all chosen exits entries base mid new turns below are join =
+    let one = are.all_ways in
+    record {
+      all_ways = fragment_preferred greedy all exits turns.all entries base mid new below one join;
+      chosen_ways = fragment_later _ _ _ base mid new are.chosen_ways (join_grows turns.all exits entries mid new join one.ready.are one.ready.below (below_more _ _ exits one.longer below));
+    }

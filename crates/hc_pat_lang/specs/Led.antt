@@ -1,6 +1,6 @@
 -- Which states the texts of a set lead to, and from which they lead to a final state.
-use Rattle.std.specs.Prelude.{◌≡◌, ℕ, ◌<◌, ◌==◌, ◌⊎◌, IsTrue, List, Bool, true, false, slice_get, Some}
-use Rattle.hc_dfa.specs.Automata.{Automaton, is_final, run, accepts_from, accepts}
+use Rattle.std.specs.Prelude.{◌≡◌, ℕ, ◌+◌, ◌*◌, ◌<◌, ◌==◌, ◌⊎◌, IsTrue, List, Bool, true, false, length, slice_get, Some}
+use Rattle.hc_dfa.specs.Automata.{Automaton, states, is_final, run, accepts_from, accepts}
 use Rattle.hc_dfa.specs.Explored.{Extends}
 use Rattle.hc_dfa.specs.Pairs.{IsPair, pair_step}
 use Rattle.hc_dfa.specs.Texts.{IsText, TextSet}
@@ -14,11 +14,6 @@ pub record IsCommon (first second : TextSet) (text : List ℕ) : Type 0 where
   pub bytes : IsText text
   pub in_first : IsTrue (first text)
   pub in_second : IsTrue (second text)
-
--- The answer tells whether there is one.
-pub record HaveCommon (first second : TextSet) (answer : Bool) : Type 0 where
-  pub some : answer ≡ true → (text : List ℕ) × IsCommon first second text
-  pub none : answer ≡ false → (text : List ℕ) → IsCommon first second text → ⊥
 
 -- Some text of the set leads from the start to the state.
 abbrev pub IsLedTo : Automaton → Automaton → ℕ → Type 0
@@ -68,3 +63,29 @@ pub record AreLed (a b : Automaton) (pairs : List (ℕ × ℕ)) : Type 0 where
 pub record StandsWithFinal (b : Automaton) (pairs : List (ℕ × ℕ)) (state : ℕ) (answer : Bool) : Type 0 where
   pub some : answer ≡ true → (second : ℕ) × IsKept pairs (state, second) × (is_final b second ≡ true)
   pub none : answer ≡ false → (i second : ℕ) → slice_get pairs i ≡ Some (state, second) → is_final b second ≡ true → ⊥
+
+-- ---- pairs from which texts lead to final states
+
+-- Some text leads from both states to final ones.
+abbrev pub IsOnward : Automaton → Automaton → (ℕ × ℕ) → Type 0
+IsOnward a b pair = (text : List ℕ) × IsCommon (accepts_from a pair.0) (accepts_from b pair.1) text
+
+-- The pair is marked at its place: the pairs of a second state stand together.
+abbrev pub IsMarkedPair : Automaton → List Bool → (ℕ × ℕ) → Type 0
+IsMarkedPair a onward pair = slice_get onward (pair.1 * states a + pair.0) ≡ Some true
+
+-- Both states are final, or a byte leads to a pair that is marked.
+abbrev pub LeadsOn : Automaton → Automaton → List Bool → (ℕ × ℕ) → Type 0
+LeadsOn a b onward pair =
+    ((is_final a pair.0 ≡ true) × (is_final b pair.1 ≡ true))
+    ⊎ ((byte : ℕ) × (byte < 256) × IsMarkedPair a onward (pair_step a b pair byte))
+
+-- Each pair has its place, and each marked one leads onward.
+pub record Marks (a b : Automaton) (onward : List Bool) : Type 0 where
+  pub len : length onward ≡ states a * states b
+  pub leads : (pair : ℕ × ℕ) → IsPair a b pair → IsMarkedPair a onward pair → IsOnward a b pair
+
+-- The marked pairs are those that lead onward.
+pub record AreOnward (a b : Automaton) (onward : List Bool) : Type 0 where
+  pub marks : Marks a b onward
+  pub all : (pair : ℕ × ℕ) → IsPair a b pair → LeadsOn a b onward pair → IsMarkedPair a onward pair

@@ -1,5 +1,5 @@
 -- The ways of a pattern through a text in which the bytes of one turn of a group are marked.
-use Rattle.std.specs.Prelude.{ℕ, zero, suc, ◌+◌, ◌-◌, ◌==◌, ◌||◌, nat_lt, Bool, false, List, [], length, Option, None, Some, if◌then◌else◌, slice_get}
+use Rattle.std.specs.Prelude.{ℕ, zero, suc, ◌+◌, ◌-◌, ◌==◌, ◌||◌, ◌&&◌, nat_lt, Bool, true, false, List, [], length, Option, None, Some, if◌then◌else◌, slice_get}
 use Rattle.hc_pattern.specs.Bits.{has_byte}
 use Rattle.hc_pattern.specs.Pattern.{Pattern, empty, byte, class, start, finish, cat, alt, group, repeat}
 use Rattle.hc_pattern.specs.declared.set.ByteSet.{ByteSet}
@@ -74,6 +74,18 @@ has_turn number (alt first second) = has_turn number first || has_turn number se
 has_turn number (group own body) = (own == number) || has_turn number body
 has_turn number (repeat body least most greedy) = has_turn number body
 
+-- As far as its form tells, each way takes at least one byte.
+abbrev pub takes_a_byte : Pattern → Bool
+takes_a_byte empty = false
+takes_a_byte (byte b) = true
+takes_a_byte (class set) = true
+takes_a_byte start = false
+takes_a_byte finish = false
+takes_a_byte (cat first second) = takes_a_byte first || takes_a_byte second
+takes_a_byte (alt first second) = takes_a_byte first && takes_a_byte second
+takes_a_byte (group own body) = takes_a_byte body
+takes_a_byte (repeat body least most greedy) = nat_lt 0 least && takes_a_byte body
+
 -- The chosen turn is in the first, or in the second behind it.
 abbrev pub chosen_behind : Ways Turns → Ways Turns → Ways Turns → Ways Turns → Ways Turns
 chosen_behind first first_chosen second second_chosen = either (behind first_chosen second) (behind first second_chosen)
@@ -94,10 +106,13 @@ abbrev pub chosen_any : Bool → Ways Turns → Ways Turns → ℕ → Ways Turn
 chosen_any greedy body chosen bytes =
     behind (any_turns greedy body bytes) (behind (moving chosen) (any_turns greedy body bytes))
 
-abbrev pub chosen_repeated : ℕ → Ways Turns → Ways Turns → ℕ → Option ℕ → Bool → Ways Turns
-chosen_repeated bytes body chosen least None greedy =
-    chosen_then body chosen least (any_turns greedy body bytes) (chosen_any greedy body chosen bytes)
-chosen_repeated bytes body chosen least (Some most) greedy =
+-- Where each turn moves, the last that has to be is one of any number.
+abbrev pub chosen_repeated : Bool → ℕ → Ways Turns → Ways Turns → ℕ → Option ℕ → Bool → Ways Turns
+chosen_repeated moves bytes body chosen least None greedy =
+    if moves
+    then chosen_then body chosen (least - 1) (behind body (any_turns greedy body bytes)) (chosen_any greedy body chosen bytes)
+    else chosen_then body chosen least (any_turns greedy body bytes) (chosen_any greedy body chosen bytes)
+chosen_repeated moves bytes body chosen least (Some most) greedy =
     if nat_lt most least
     then none
     else chosen_then body chosen least (turns_up_to greedy body (most - least)) (chosen_up_to greedy body chosen (most - least))
@@ -117,7 +132,7 @@ chosen_ways number text (group own body) =
     then either (part_ways Inside text body) (chosen_ways number text body)
     else chosen_ways number text body
 chosen_ways number text (repeat body least most greedy) =
-    chosen_repeated (length text) (part_ways Outside text body) (chosen_ways number text body) least most greedy
+    chosen_repeated (takes_a_byte body) (length text) (part_ways Outside text body) (chosen_ways number text body) least most greedy
 
 -- Turns of a body, of which one is chosen.
 abbrev pub then_chosen : ℕ → ℕ → List ℕ → Pattern → Ways Turns → Ways Turns → Ways Turns

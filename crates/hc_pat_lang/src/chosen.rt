@@ -1,13 +1,13 @@
 ghost use Rattle.std.specs.Prelude.{◌≡◌, ◌-◌, ◌==◌, ◌≤◌, Bool, IfOk, List, ℕ};
-ghost use Rattle.std.specs.Prelude.{if◌then◌else◌, length};
-ghost use Rattle.hc_pattern.specs.Pattern.{group, pattern_of};
+ghost use Rattle.std.specs.Prelude.{None, if◌then◌else◌, length};
+ghost use Rattle.hc_pattern.specs.Pattern.{group, pattern_of, repeat};
 ghost use Rattle.hc_pat_lang.specs.Fragments.{AreTurns, IsFragment, IsReady};
-ghost use Rattle.hc_pat_lang.specs.Turned.{any_chosen, chosen_ways, has_turn, part_ways, then_chosen, times_of};
-ghost use Rattle.hc_pat_lang.specs.Turned.{up_to_chosen};
+ghost use Rattle.hc_pat_lang.specs.Turned.{any_chosen, chosen_ways, has_turn, part_ways, takes_a_byte, then_chosen};
+ghost use Rattle.hc_pat_lang.specs.Turned.{times_of, up_to_chosen};
 ghost use Rattle.hc_pat_lang.specs.declared.gates.Gate.{Gate as G};
 ghost use Rattle.hc_pat_lang.specs.declared.nodes.Node.{Node as N};
 ghost use Rattle.hc_ways.specs.Kept.{Turns as Held};
-ghost use Rattle.hc_ways.specs.Ways.{Ways, any_turns, none, turns_up_to};
+ghost use Rattle.hc_ways.specs.Ways.{Ways, any_turns, behind, none, turns_up_to};
 ghost use Rattle.hc_pat_lang.specs.declared.gates.GroupPart.TheVariants.{Outside};
 
 use crate::build::Times;
@@ -40,6 +40,21 @@ fn has_group(pat: &Pat, number: u8) -> bool
             *own == number || inner
         }
         Pat::Repeat(body, _, _, _) => has_group(body, number),
+    }
+}
+
+/// As far as its form tells, each way of the pattern takes at least one byte.
+#[cycle(takes_a_byte)]
+fn takes_a_byte(pat: &Pat) -> bool
+    ensures { result ≡ takes_a_byte (pattern_of pat.now) }
+{
+    match pat {
+        Pat::Empty | Pat::Start | Pat::Finish => false,
+        Pat::Byte(_) | Pat::Class(_) => true,
+        Pat::Cat(first, second) => takes_a_byte(first) || takes_a_byte(second),
+        Pat::Alt(first, second) => takes_a_byte(first) && takes_a_byte(second),
+        Pat::Group(_, body) => takes_a_byte(body),
+        Pat::Repeat(body, least, _, _) => *least > 0 && takes_a_byte(body),
     }
 }
 
@@ -131,8 +146,7 @@ impl Nodes {
     {
         match times.most {
             None => {
-                let more = self.choose_any(body, times.greedy, number, exits)?;
-                let entries = self.choose_turns(body, times.least, number, more)?;
+                let entries = self.choose_endless(body, times, number, exits)?;
                 Ok(entries)
             }
             Some(most) if most < times.least => Ok(Gate::nowhere()),
@@ -148,6 +162,34 @@ impl Nodes {
                 Ok(entries)
             }
         }
+    }
+
+    /// So many turns or more. Where each takes a byte, the last that has to be is one of any number.
+    #[cycle(choose)]
+    fn choose_endless(
+        &mut self,
+        body: &Pat,
+        times: Times,
+        number: u8,
+        exits: Gate,
+    ) -> Result<Gate, NoMemory>
+        requires { IsReady self.old.list.items exits }
+        ensures { IfOk result (IsFragment (λ text.
+            chosen_ways number text (repeat (pattern_of body.now) times.least None times.greedy))
+            exits self.old.list.items self.new.list.items) }
+    {
+        let more = self.choose_any(body, times.greedy, number, exits)?;
+        if !takes_a_byte(body) {
+            let entries = self.choose_turns(body, times.least, number, more)?;
+            return Ok(entries);
+        }
+        let all = self.build(body, GroupPart::Outside, more.all)?;
+        let some = Turns {
+            all,
+            chosen: more.chosen,
+        };
+        let entries = self.choose_turns(body, times.least.saturating_sub(1), number, some)?;
+        Ok(entries)
     }
 
     /// So many turns before others.
@@ -168,13 +210,29 @@ impl Nodes {
     {
         let mut turns = more;
         for _turn in 0..count {
-            let one = self.choose(body, number, turns.all)?;
-            let other = self.build(body, GroupPart::Outside, turns.chosen)?;
-            let chosen = self.join(one, other)?;
-            let all = self.build(body, GroupPart::Outside, turns.all)?;
-            turns = Turns { all, chosen };
+            turns = self.choose_turn(body, number, turns)?;
         }
         Ok(turns.chosen)
+    }
+
+    /// A turn before others.
+    #[cycle(choose)]
+    fn choose_turn(&mut self, body: &Pat, number: u8, turns: Turns) -> Result<Turns, NoMemory>
+        requires all { IsReady self.old.list.items turns.all }
+        requires chosen { IsReady self.old.list.items turns.chosen }
+        ensures all { IfOk result (λ more. IsReady self.new.list.items more.all) }
+        ensures chosen { IfOk result (λ more. IsReady self.new.list.items more.chosen) }
+        ensures turns { IfOk result (λ more. (exits : G) (base : List N) (all chosen : List ℕ → Ways Held)
+            → AreTurns all chosen exits base self.old.list.items turns
+            → AreTurns (λ text. behind (part_ways Outside text (pattern_of body.now)) (all text))
+            (λ text. then_chosen number 1 text (pattern_of body.now) (all text) (chosen text))
+            exits base self.new.list.items more) }
+    {
+        let one = self.choose(body, number, turns.all)?;
+        let other = self.build(body, GroupPart::Outside, turns.chosen)?;
+        let chosen = self.join(one, other)?;
+        let all = self.build(body, GroupPart::Outside, turns.all)?;
+        Ok(Turns { all, chosen })
     }
 
     /// At most so many turns.
@@ -198,12 +256,9 @@ impl Nodes {
             chosen: Gate::nowhere(),
         };
         for _turn in 0..count {
-            let one = self.choose(body, number, turns.all)?;
-            let other = self.build(body, GroupPart::Outside, turns.chosen)?;
-            let chosen = self.join(one, other)?;
-            let turn = self.build(body, GroupPart::Outside, turns.all)?;
-            let all = self.join(turn, exits)?;
-            turns = Turns { all, chosen };
+            let turn = self.choose_turn(body, number, turns)?;
+            let all = self.join(turn.all, exits)?;
+            turns = Turns { all, ..turn };
         }
         Ok(turns)
     }

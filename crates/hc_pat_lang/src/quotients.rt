@@ -1,9 +1,9 @@
-ghost use Rattle.std.specs.Prelude.{◌≡◌, ℕ, ◌<◌, ◌≤◌, IfOk, OnOk};
-ghost use Rattle.hc_dfa.specs.Automata.{accepts, accepts_from, run, states};
-ghost use Rattle.hc_dfa.specs.Built.{Accepts};
+ghost use Rattle.std.specs.Prelude.{◌≡◌, ℕ, ◌+◌, ◌*◌, ◌<◌, ◌≤◌, IfOk, OnOk};
+ghost use Rattle.std.specs.Prelude.{false, slice_get, Some, true};
+ghost use Rattle.hc_dfa.specs.Automata.{accepts, states};
 ghost use Rattle.hc_pat_lang.specs.Added.{AddsFinals, AddsStarts};
-ghost use Rattle.hc_pat_lang.specs.Led.{AddsNexts, AreLed, HaveCommon, LedToBelow, LeadsOnwards, OnwardsBelow};
-ghost use Rattle.hc_pat_lang.specs.Led.{StandsWithFinal};
+ghost use Rattle.hc_pat_lang.specs.Led.{AddsNexts, AreLed, AreOnward, IsOnward, LeadsOn, LedToBelow, Marks};
+ghost use Rattle.hc_pat_lang.specs.Led.{OnwardsBelow, StandsWithFinal};
 ghost use Rattle.hc_dfa.specs.Pairs.{IsPair};
 ghost use Rattle.hc_pat_lang.specs.Sets.{AcceptsOnly, IsFront, IsRest};
 
@@ -11,7 +11,7 @@ use crate::steps::BYTE_VALUES;
 use crate::table::{add_finals, add_table, automaton_of};
 use crate::walk::number_of;
 use hc_base::NoMemory;
-use hc_dfa::{Dfa, Keep, Machine, least, product};
+use hc_dfa::{Dfa, Machine};
 use indexmap::IndexSet;
 use std::alloc::Global;
 
@@ -34,7 +34,8 @@ pub fn suffix_quotient(alloc: Global, set: &Dfa, by: &Dfa) -> Result<Dfa, NoMemo
     let mut machine = Machine::new(alloc, set.states());
     add_table(&mut machine, set, 0)?;
     machine.add_start(0)?;
-    add_ends(alloc, &mut machine, set, by)?;
+    let onward = pairs_onward(alloc, set, by)?;
+    add_ends(&mut machine, set, by, &onward)?;
     let made = automaton_of(alloc, &machine)?;
     Ok(made)
 }
@@ -104,14 +105,13 @@ fn stands_with_final(_a: &Dfa, b: &Dfa, pairs: &IndexSet<(u32, u32)>, state: u32
 }
 
 /// Makes each state from which a text of the other set leads to a final state final.
-fn add_ends(alloc: Global, machine: &mut Machine, set: &Dfa, by: &Dfa) -> Result<(), NoMemory>
-    requires { states set.now ≤ machine.old.states }
+fn add_ends(machine: &mut Machine, set: &Dfa, by: &Dfa, onward: &[bool]) -> Result<(), NoMemory>
+    requires states { states set.now ≤ machine.old.states }
+    requires onward { AreOnward set.now by.now onward.now }
     ensures { OnOk result (AddsFinals machine.old machine.new (OnwardsBelow set.now by.now (states set.now))) }
 {
     for state in 0..set.states() {
-        let rests = rests_from(alloc, set, state)?;
-        let leads = have_common(alloc, &rests, by)?;
-        if !leads {
+        if !is_marked(set, by, onward, (state, by.start())) {
             continue;
         }
         machine.add_final(state)?;
@@ -119,24 +119,69 @@ fn add_ends(alloc: Global, machine: &mut Machine, set: &Dfa, by: &Dfa) -> Result
     Ok(())
 }
 
-/// The automaton of the texts that lead from a state to a final one.
-fn rests_from(alloc: Global, a: &Dfa, state: u32) -> Result<Dfa, NoMemory>
-    requires { state < states a.now }
-    ensures { IfOk result (λ made. Accepts made (accepts_from a.now state)) }
+/// Whether a text leads from both states of a pair to final ones, for each pair. The pairs of a state
+/// of the second automaton stand together, and those of its start first.
+fn pairs_onward(alloc: Global, a: &Dfa, b: &Dfa) -> Result<Vec<bool>, NoMemory>
+    ensures { IfOk result (λ onward. AreOnward a.now b.now onward.items) }
 {
-    let mut machine = Machine::new(alloc, a.states());
-    add_table(&mut machine, a, 0)?;
-    add_finals(&mut machine, a, 0)?;
-    machine.add_start(state)?;
-    let made = machine.determinize(alloc)?;
-    Ok(made)
+    let count = a.states() as usize * b.states() as usize;
+    let mut onward = vec![in alloc; false; count]?;
+    for _pass in 0..u32::MAX {
+        if !mark_onward(a, b, &mut onward) {
+            return Ok(onward);
+        }
+    }
+    Err(NoMemory)
 }
 
-/// Whether some text is in both sets.
-fn have_common(alloc: Global, a: &Dfa, b: &Dfa) -> Result<bool, NoMemory>
-    ensures { IfOk result (HaveCommon (accepts a.now) (accepts b.now)) }
+/// Marks pairs that lead to a marked one or are final, in one pass from the last one on: mostly states
+/// lead on to later ones. Tells whether there was one to be marked.
+fn mark_onward(a: &Dfa, b: &Dfa, onward: &mut [bool]) -> bool
+    requires { Marks a.now b.now onward.old }
+    ensures marks { Marks a.now b.now onward.new }
+    ensures all { result ≡ false → AreOnward a.now b.now onward.new }
 {
-    let both = product(alloc, a, b, Keep::Both)?;
-    let found = least(alloc, &both)?;
-    Ok(found.is_some())
+    let count = a.states() as usize * b.states() as usize;
+    let mut some = false;
+    for later in 0..count {
+        let place = count - 1 - later;
+        let first = place % a.states() as usize;
+        let second = place / a.states() as usize;
+        if onward[place] {
+            continue;
+        }
+        if !leads_on(a, b, onward, (first as u32, second as u32)) {
+            continue;
+        }
+        onward[place] = true;
+        some = true;
+    }
+    some
+}
+
+/// Whether both states of a pair are final, or a byte leads on from them to a marked pair.
+fn leads_on(a: &Dfa, b: &Dfa, onward: &[bool], pair: (u32, u32)) -> bool
+    requires marks { Marks a.now b.now onward.now }
+    requires pair { IsPair a.now b.now pair }
+    ensures some { result ≡ true → IsOnward a.now b.now pair }
+    ensures none { result ≡ false → LeadsOn a.now b.now onward.now pair → ⊥ }
+{
+    for byte in 0..BYTE_VALUES {
+        let first = a.next_state(pair.0, byte as u8);
+        let second = b.next_state(pair.1, byte as u8);
+        if is_marked(a, b, onward, (first, second)) {
+            return true;
+        }
+    }
+    a.is_final(pair.0) && b.is_final(pair.1)
+}
+
+/// Whether a pair is marked.
+#[tactic(auto, using(crate::proofs::Onward::mark_is, crate::proofs::Onward::place_within))]
+fn is_marked(a: &Dfa, _b: &Dfa, onward: &[bool], pair: (u32, u32)) -> bool
+    requires marks { Marks a.now _b.now onward.now }
+    requires pair { IsPair a.now _b.now pair }
+    ensures { slice_get onward.now (pair.1 * states a.now + pair.0) ≡ Some result }
+{
+    onward[pair.1 as usize * a.states() as usize + pair.0 as usize]
 }

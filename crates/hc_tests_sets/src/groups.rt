@@ -34,6 +34,9 @@ fn held(
     listed(alloc, &texts, 9)
 }
 
+/// Repeats of 18 groups in each other.
+const NESTED: &str = "((((((((((((((((((a)+)+)+)+)+)+)+)+)+)+)+)+)+)+)+)+)+)+b";
+
 /// A pattern, the one text of the set, a group, and what it may hold, the shortest first.
 static HELD: &[(&str, &str, u8, &str)] = &[
     ("(a|ab)(c|bcd)?", "abcd", 1, "|a|ab"),
@@ -84,6 +87,11 @@ static HELD: &[(&str, &str, u8, &str)] = &[
     ("^(a(b|c)*)*$", "aa", 2, "|"),
     ("^(^a|b)*$", "abb", 1, "|a|b"),
     ("^(a*|b)(c|)$", "aa", 2, "|"),
+    ("^(a|bb|ccc){2,}$", "abbccc", 1, "|a|bb|ccc"),
+    ("^(a|bb|ccc){3,}?$", "abbccc", 1, "|a|bb|ccc"),
+    ("^(a|bb|ccc){4,}$", "abbccc", 1, ""),
+    (NESTED, "aab", 1, "|a|aa"),
+    (NESTED, "aab", 18, "|a"),
 ];
 
 #[test]

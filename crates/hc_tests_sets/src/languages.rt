@@ -189,6 +189,40 @@ fn sets_are_cut_and_joined(rt: HostRuntime) -> Result<(), NoMemory> {
     Ok(())
 }
 
+fn made_of_patterns(
+    rt: &impl Abort,
+    alloc: Global,
+    cut: &Cut,
+    first: &str,
+    second: &str,
+) -> Result<Dfa, NoMemory> {
+    let a = found_in(rt, alloc, first)?;
+    let b = found_in(rt, alloc, second)?;
+    made_of(alloc, cut, &a, &b)
+}
+
+// That a set has just the texts that a pattern is found in.
+fn check_same(rt: &impl Abort, alloc: Global, set: &Dfa, pattern: &str) -> Result<(), NoMemory> {
+    let wanted = found_in(rt, alloc, pattern)?;
+    assert!(rt; is_within(alloc, set, &wanted)?, "more than {pattern}");
+    assert!(rt; is_within(alloc, &wanted, set)?, "less than {pattern}");
+    Ok(())
+}
+
+#[test]
+fn sets_of_many_states_are_cut_in_a_moment(rt: HostRuntime) -> Result<(), NoMemory> {
+    static ROWS: &[(Cut, &str, &str, &str)] = &[
+        (Cut::Front, "^.*a.{10}$", "^a$", "^(.*a)?.{10}$"),
+        (Cut::Back, "^.*a.{10}$", "^a$", "^.*a.{9}$"),
+        (Cut::Back, "^.{250}$", "^(ab)*$", "^(..){0,125}$"),
+    ];
+    for (cut, first, second, wanted) in ROWS {
+        let made = made_of_patterns(&rt, rt.alloc(), cut, first, second)?;
+        check_same(&rt, rt.alloc(), &made, wanted)?;
+    }
+    Ok(())
+}
+
 #[test]
 fn slashes_are_merged(rt: HostRuntime) -> Result<(), NoMemory> {
     static ROWS: &[(&str, &str)] = &[("/a//b", "/a/b"), ("///a////", "/a/")];

@@ -1,7 +1,7 @@
-use Rattle.hc_pat_lang.proofs.Common.{rules, ◌≡◌, ◌∙◌, List, [], ℕ, Some, ap, sym, inl, inr, arith, add-one, le-ltb, eqb_tells, alt, cat, pattern_of, chosen_ways, has_turn, part_ways, Gate, Outside}
+use Rattle.hc_pat_lang.proofs.Common.{◌≡◌, ◌∙◌, [], Some, ap, sym, inl, inr, arith, add-one, le-ltb, eqb_tells, alt, cat, pattern_of, chosen_ways, has_turn, part_ways, Gate, Outside}
 use Rattle.hc_pat_lang.proofs.Fragmenting.{fragment_as, fragment_behind, fragment_earlier, fragment_either, fragment_grows, fragment_joined, fragment_later, fragment_moving, fragment_none, fragment_stop, grows_on, ready_later}
 use Rattle.hc_pat_lang.proofs.Serving.{behind_turn}
-use Rattle.hc_pat_lang.proofs.Turning.{added_grows, added_ready, chosen_added, needed_behind, no_turn, then_added, up_to_added}
+use Rattle.hc_pat_lang.proofs.Turning.{added_grows, added_ready, chosen_added, needed_behind, no_turn, then_added, turns_optional}
 use Rattle.hc_pattern.proofs.Nodes.{is_alt, is_cat}
 use Rattle.hc_pat_lang.proofs.nodes.Nodes.+choose.Goals as goal
 
@@ -53,7 +53,19 @@ choose_group-returns t c = elim (eqb_tells c.args.own c.args.number) [
 ]
 
 pub choose_repeat-returns-in_ok-entries-in-None : goal.choose_repeat-returns-in_ok-entries-in-None
-choose_repeat-returns-in_ok-entries-in-None t c = rw c.in-None.is (c.in_ok-entries-in-None.ensures c.args.exits _ _ _ c.in_ok-more-in-None.ensures)
+choose_repeat-returns-in_ok-entries-in-None t c = rw c.in-None.is c.in_ok-entries-in-None.ensures
+
+pub choose_endless-returns-then-not-takes_a_byte : goal.choose_endless-returns-then-not-takes_a_byte
+choose_endless-returns-then-not-takes_a_byte t c =
+    rw (sym c.takes_a_byte.ensures ∙ c.if-not-takes_a_byte.true) (c.in_ok-entries.ensures c.args.exits _ _ _ c.in_ok-more.ensures)
+
+pub choose_endless-returns : goal.choose_endless-returns
+choose_endless-returns t c =
+    let all = c.in_ok-all.ensures in
+    rw (sym c.takes_a_byte.ensures ∙ c.if-not-takes_a_byte.false, ← c.saturating_sub.ensures) (c.in_ok-entries-2.ensures c.args.exits _ _ _ (record {
+      all_ways = fragment_behind _ _ _ _ _ _ _ _ c.in_ok-more.ensures.all_ways all;
+      chosen_ways = fragment_later _ _ _ _ _ _ c.in_ok-more.ensures.chosen_ways (fragment_grows _ _ _ _ _ all);
+    }))
 
 pub choose_repeat-returns-in_ok-entries-in-Some-2 : goal.choose_repeat-returns-in_ok-entries-in-Some-2
 choose_repeat-returns-in_ok-entries-in-Some-2 t c =
@@ -65,27 +77,13 @@ choose_repeat-returns-in_ok-entries-in-Some-2 t c =
 pub choose_turns-loop-turn-init : goal.choose_turns-loop-turn-init
 choose_turns-loop-turn-init t c = record { all = c.requires.all; chosen = c.requires.chosen; turns = λ exits base all chosen are. are }
 
-pub choose_turns-choose-requires : goal.choose_turns-choose-requires
-choose_turns-choose-requires t c = (search rules, c.loop-turn.invariant.all)
-
-pub choose_turns-build-requires : goal.choose_turns-build-requires
-choose_turns-build-requires t c = ready_later _ _ _ c.loop-turn.invariant.chosen (fragment_grows _ _ _ _ _ c.in_ok-one.ensures)
-
-pub choose_turns-build-requires-in-loop-turn : goal.choose_turns-build-requires-in-loop-turn
-choose_turns-build-requires-in-loop-turn t c =
-    ready_later _ _ _ c.loop-turn.invariant.all (added_grows _ _ _ _ _ _ c.loop-turn.turns _ _ _ c.in_ok-one.ensures c.in_ok-other.ensures c.in_ok-chosen.ensures)
-
 pub choose_turns-loop-turn-preserved : goal.choose_turns-loop-turn-preserved
 choose_turns-loop-turn-preserved t c =
-    let body = λ (text : List ℕ). part_ways Outside text (pattern_of c.args.body.now) in
-    let chosen = λ (text : List ℕ). chosen_ways c.args.number text (pattern_of c.args.body.now) in
+    let made = c.in_ok-turns.ensures in
     record {
-      all = c.in_ok-all.ensures.ready;
-      chosen = ready_later _ _ _ (added_ready _ _ _ _ _ _ c.loop-turn.turns _ _ _ c.in_ok-one.ensures c.in_ok-other.ensures c.in_ok-chosen.ensures) (fragment_grows _ _ _ _ _ c.in_ok-all.ensures);
-      turns = λ exits base rest chosen_rest are.
-          rw (add-one c.loop-turn._turn)
-          (then_added body chosen _ _ _ _ c.loop-turn.turns _ _ _ c.in_ok-one.ensures c.in_ok-other.ensures c.in_ok-chosen.ensures _ _ exits base (c.loop-turn.invariant.turns exits base rest chosen_rest are) _ _
-          c.in_ok-all.ensures);
+      all = made.all;
+      chosen = made.chosen;
+      turns = λ exits base rest chosen_rest are. rw (add-one c.loop-turn._turn) (made.turns exits base _ _ (c.loop-turn.invariant.turns exits base rest chosen_rest are));
     }
 
 pub choose_turns-returns : goal.choose_turns-returns
@@ -94,24 +92,24 @@ choose_turns-returns t c exits base rest chosen_rest are = (let e : c.loop-turn.
 pub choose_up_to-loop-turn-init : goal.choose_up_to-loop-turn-init
 choose_up_to-loop-turn-init t c = rw c.nowhere.ensures (record { all_ways = fragment_stop c.args.exits _ c.requires; chosen_ways = fragment_none c.args.exits _ c.requires })
 
-pub choose_up_to-choose-requires : goal.choose_up_to-choose-requires
-choose_up_to-choose-requires t c = (search rules, c.loop-turn.invariant.all_ways.ready)
-
-pub choose_up_to-build-requires : goal.choose_up_to-build-requires
-choose_up_to-build-requires t c = ready_later _ _ _ c.loop-turn.invariant.chosen_ways.ready (fragment_grows _ _ _ _ _ c.in_ok-one.ensures)
-
-pub choose_up_to-build-requires-in-loop-turn : goal.choose_up_to-build-requires-in-loop-turn
-choose_up_to-build-requires-in-loop-turn t c =
-    ready_later _ _ _ c.loop-turn.invariant.all_ways.ready (added_grows _ _ _ _ _ _ c.loop-turn.turns _ _ _ c.in_ok-one.ensures c.in_ok-other.ensures c.in_ok-chosen.ensures)
-
 pub choose_up_to-loop-turn-preserved : goal.choose_up_to-loop-turn-preserved
 choose_up_to-loop-turn-preserved t c =
-    let body = λ (text : List ℕ). part_ways Outside text (pattern_of c.args.body.now) in
-    let chosen = λ (text : List ℕ). chosen_ways c.args.number text (pattern_of c.args.body.now) in
-    let grows = grows_on _ _ _ (fragment_grows _ _ _ _ _ c.loop-turn.invariant.all_ways) (added_grows _ _ _ _ _ _ c.loop-turn.turns _ _ _ c.in_ok-one.ensures c.in_ok-other.ensures c.in_ok-chosen.ensures) in
-    rw (add-one c.loop-turn._turn)
-    (up_to_added body chosen _ _ _ _ c.loop-turn.turns _ _ _ c.in_ok-one.ensures c.in_ok-other.ensures c.in_ok-chosen.ensures _ _ c.args.exits _ c.loop-turn.invariant c.args._greedy _ _ _ _
-    c.requires.below grows c.in_ok-turn.ensures c.in_ok-all.ensures)
+    rw (add-one c.loop-turn._turn) (turns_optional c.args._greedy _ _ c.args.exits _ _ _ _ _ c.requires.below (c.in_ok-turn.ensures.turns c.args.exits _ _ _ c.loop-turn.invariant) c.in_ok-all.ensures)
 
 pub choose_up_to-returns : goal.choose_up_to-returns
 choose_up_to-returns t c = (let e : c.loop-turn._turn ≡ c.args.count = omega arith in rw e at c.loop-turn.invariant)
+
+pub choose_turn-build-requires : goal.choose_turn-build-requires
+choose_turn-build-requires t c = ready_later _ _ _ c.requires.chosen (fragment_grows _ _ _ _ _ c.in_ok-one.ensures)
+
+pub choose_turn-build-requires-2 : goal.choose_turn-build-requires-2
+choose_turn-build-requires-2 t c = ready_later _ _ _ c.requires.all (added_grows _ _ _ _ _ _ c.args.turns _ _ _ c.in_ok-one.ensures c.in_ok-other.ensures c.in_ok-chosen.ensures)
+
+pub choose_turn-returns-clause-chosen : goal.choose_turn-returns-clause-chosen
+choose_turn-returns-clause-chosen t c =
+    ready_later _ _ _ (added_ready _ _ _ _ _ _ c.args.turns _ _ _ c.in_ok-one.ensures c.in_ok-other.ensures c.in_ok-chosen.ensures) (fragment_grows _ _ _ _ _ c.in_ok-all.ensures)
+
+pub choose_turn-returns-clause-turns : goal.choose_turn-returns-clause-turns
+choose_turn-returns-clause-turns t c exits base rest chosen_rest are =
+    then_added (λ text. part_ways Outside text (pattern_of c.args.body.now)) (λ text. chosen_ways c.args.number text (pattern_of c.args.body.now)) _ _ _ _ c.args.turns _ _ _
+    c.in_ok-one.ensures c.in_ok-other.ensures c.in_ok-chosen.ensures _ _ exits base are _ _ c.in_ok-all.ensures
