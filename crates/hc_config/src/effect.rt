@@ -6,9 +6,10 @@ ghost use Rattle.hc_config.specs.Directives.{alias_by, allow_override, counted, 
 ghost use Rattle.hc_config.specs.Directives.{server_alias, server_name, server_root, this_argument};
 
 use crate::among::{Among, place_of};
+use crate::classes::allowed_by;
 use crate::hosts::name_without_port;
 use crate::levels::{Given, Opening};
-use crate::options::{allowed_by, options_step};
+use crate::options::options_step;
 use crate::targets::{PathForm, is_absolute, own_target_by, test_by, without_final_slash};
 use hc_base::codes::WRONG_ARGUMENTS;
 use hc_base::{AtByte, CowStr, Fault, List, NoMemory, Text};

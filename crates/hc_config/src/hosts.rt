@@ -2,7 +2,8 @@ ghost use Rattle.std.specs.Prelude.{◌≡◌, ◌<◌, length, IfSome, Some};
 ghost use Rattle.std.specs.List.{position};
 ghost use Rattle.hc_base.specs.Gives.{Gives};
 ghost use Rattle.hc_addr.specs.Numbers.{is_colon};
-ghost use Rattle.hc_config.specs.Hosts.{address_of, host_addr_at, host_addr_of, host_addrs, is_any, name_without_port, port_of};
+ghost use Rattle.hc_config.specs.Hosts.{address_of, host_addr_at, host_addr_of, host_addrs, is_any};
+ghost use Rattle.hc_config.specs.Hosts.{name_without_port, port_of};
 
 use crate::effect::EffectFault;
 use hc_addr::{Addr, HIGHEST_PORT, number_up_to, parse_addr};

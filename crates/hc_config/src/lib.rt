@@ -2,6 +2,7 @@
 #![tactic(auto)]
 
 mod among;
+mod classes;
 mod config;
 mod effect;
 mod hosts;

@@ -79,7 +79,8 @@ fn first_group<'c>(
     dirs: &'c [Text],
 ) -> Result<Vec<Candidate<'c>>, NoMemory>
     ensures { IfOk result (λ list.
-        candidates_of list ≡ definition.first_group (sections_view sections.entry) no_files nothing_allowed dirs.now) }
+        candidates_of list
+        ≡ definition.first_group (sections_view sections.entry) no_files nothing_allowed dirs.now) }
 {
     let mut list = Vec::new(alloc);
     for dir in dirs {
@@ -96,7 +97,8 @@ fn with_directory<'c>(
     dir: &'c Text,
 ) -> Result<Vec<Candidate<'c>>, NoMemory>
     ensures { IfOk result (λ later. candidates_of later
-        ≡ candidates_of list.entry ++ map (at_directory dir.now) (sections_at (sections_view sections.entry) dir.now)) }
+        ≡ candidates_of list.entry
+        ++ map (at_directory dir.now) (sections_at (sections_view sections.entry) dir.now)) }
 {
     let list = with_globs(alloc, sections.main, list, dir)?;
     match sections.host {
@@ -153,7 +155,8 @@ fn with_group<'c>(
     group: Group,
 ) -> Result<Vec<Candidate<'c>>, NoMemory>
     ensures { IfOk result (λ later.
-        candidates_of later ≡ definition.with_group (sections_view sections.entry) (candidates_of earlier.entry) group) }
+        candidates_of later
+        ≡ definition.with_group (sections_view sections.entry) (candidates_of earlier.entry) group) }
 {
     let inner = inside_each(alloc, group, &earlier)?;
     let list = with_tops(group, sections, earlier)?;

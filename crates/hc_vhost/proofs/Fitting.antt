@@ -81,3 +81,6 @@ front_on alias name behind rest (Stars further left) leads is = (
 
 pub star_front : (behind name : List ℕ) → any_bytes (fits (star ∷ behind)) name ≡ any_bytes (fits behind) name
 star_front behind name = any_any (fits behind) name
+
+-- These of what leads to what, under one name.
+pub ruleset leading = (leads_here, leads_on, front_on)

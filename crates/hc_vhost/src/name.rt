@@ -55,7 +55,7 @@ fn fits_some_end(alias: &[u8], name: &[u8]) -> bool
     }
 }
 
-#[tactic(auto, using(crate::proofs::Fitting::leads_on, crate::proofs::Fitting::front_on, crate::proofs::Fitting::leads_here))]
+#[tactic(auto, using(crate::proofs::Fitting::leading))]
 fn front_of<'n>(alias: &'n [u8], name: &'n [u8]) -> Front<'n>
     ensures { FrontBy alias.now name.now result }
 {
