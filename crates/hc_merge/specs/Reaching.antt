@@ -2,7 +2,7 @@
 -- Apache manual, core: DirectoryMatch, Files, FilesMatch, Location, LocationMatch.
 use Rattle.std.specs.Prelude.{ℕ, List, [], ◌∷◌, ◌++◌, Bool, true, false, not, ◌&&◌, is_some, Option, Some, None, slice_get, unwrap_or, if◌then◌else◌}
 use Rattle.hc_alias.specs.Tests.{is_below}
-use Rattle.hc_base.specs.Paths.{ends_with_slash, is_slash}
+use Rattle.hc_base.specs.Paths.{begins_with_slash, ends_with_slash, is_slash}
 use Rattle.hc_model.specs.declared.request.View.{View}
 use Rattle.hc_model.specs.declared.section.Reach.{Reach}
 use Rattle.hc_model.specs.declared.section.Reach.TheVariants.{Dir, DirSearch, Files, Location, LocationGlob, LocationSearch, When}
@@ -25,12 +25,16 @@ last_component name = behind_slashes name name
 abbrev pub is_component_found : Pattern → List ℕ → Bool
 is_component_found pattern name = not (ends_with_slash name) && is_found pattern (last_component name)
 
+-- A location that does not begin with a slash is that of no path.
+abbrev pub is_at : List ℕ → List ℕ → Bool
+is_at location path = begins_with_slash location && is_below location path
+
 -- The file name is that without path information; the URL path is that of the pass.
 abbrev pub reaches : View → Reach → Bool
 reaches view (Dir pattern) = false
 reaches view (DirSearch pattern) = is_found pattern view.name
 reaches view (Files pattern) = is_component_found pattern view.name
-reaches view (Location path) = is_below path view.path
+reaches view (Location path) = is_at path view.path
 reaches view (LocationGlob pattern) = is_found pattern view.path
 reaches view (LocationSearch pattern) = is_found pattern view.path
 reaches view (When test) = false

@@ -1,13 +1,13 @@
 ghost use Rattle.std.specs.Prelude.{◌≡◌, ◌∷◌, ◌++◌, [], IfOk, map};
 ghost use Rattle.std.specs.Option.{option_map};
 ghost use Rattle.hc_merge.specs.CandidateView.{candidate_of, candidates_of};
-ghost use Rattle.hc_merge.specs.Reaching.{applies, holds_at, is_component_found, is_found, is_kept, kept_by};
-ghost use Rattle.hc_merge.specs.Reaching.{last_component, reaches};
+ghost use Rattle.hc_merge.specs.Reaching.{applies, holds_at, is_at, is_component_found, is_found, is_kept};
+ghost use Rattle.hc_merge.specs.Reaching.{kept_by, last_component, reaches};
 
 use crate::order::Candidate;
 use hc_alias::is_below;
 use hc_base::NoMemory;
-use hc_base::paths::ends_with_slash;
+use hc_base::paths::{begins_with_slash, ends_with_slash};
 use hc_match::first_match;
 use hc_model::{Reach, Regex, View};
 use std::alloc::Global;
@@ -73,10 +73,17 @@ fn reaches(alloc: Global, view: &View, reach: &Reach) -> Result<bool, NoMemory>
         Reach::Dir(_) | Reach::When(_) => Ok(false),
         Reach::DirSearch(pattern) => is_found(alloc, pattern, view.name.as_bytes()),
         Reach::Files(pattern) => is_component_found(alloc, pattern, view.name.as_bytes()),
-        Reach::Location(path) => Ok(is_below(path.as_bytes(), view.path.as_bytes())),
+        Reach::Location(path) => Ok(is_at(path.as_bytes(), view.path.as_bytes())),
         Reach::LocationGlob(pattern) => is_found(alloc, pattern, view.path.as_bytes()),
         Reach::LocationSearch(pattern) => is_found(alloc, pattern, view.path.as_bytes()),
     }
+}
+
+// A location that does not begin with a slash is that of no path.
+fn is_at(location: &[u8], path: &[u8]) -> bool
+    ensures { result ≡ is_at location.now path.now }
+{
+    begins_with_slash(location) && is_below(location, path)
 }
 
 fn is_found(alloc: Global, pattern: &Regex, text: &[u8]) -> Result<bool, NoMemory>

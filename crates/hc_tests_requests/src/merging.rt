@@ -17,7 +17,8 @@ const TRIED: &str =
 </Files>\n</DirectoryMatch>\n<Files /srv/f>\n</Files>\n<Files [!g]>\n</Files>\n<FilesMatch ^f$>\n\
 </FilesMatch>\n<Files srv>\n</Files>\n<Location /f>\n</Location>\n<Location /f/>\n</Location>\n\
 <Location />\n</Location>\n<Location /*>\n</Location>\n<Location ?f>\n</Location>\n<Location ~ g>\n\
-</Location>\n<LocationMatch ^f>\n</LocationMatch>\n<Location /F>\n</Location>\n";
+</Location>\n<LocationMatch ^f>\n</LocationMatch>\n<Location /F>\n</Location>\n<Location \"\">\n\
+</Location>\n";
 
 const SENT: &str = "DocumentRoot /srv\n<Directory />\nRedirect /f /g\n</Directory>\n";
 
