@@ -12,30 +12,36 @@ use Rattle.hc_flat.specs.declared.flat.Flat.{Flat}
 use Rattle.hc_model.specs.declared.config.Config.{Config}
 use Rattle.hc_model.specs.declared.config.Server.{Server}
 use Rattle.hc_model.specs.declared.entry.Entry.{Entry}
-use Rattle.hc_config.specs.Levels.{Standing, context_of, innermost_closed, nothing_standing, opened, server_of, with_given}
+use Rattle.hc_config.specs.Levels.{Standing, container_of, context_of, holding_opened, innermost_closed, innermost_released, nothing_standing, opened, server_of, with_given}
 use Rattle.hc_config.specs.Rules.{judged}
 use Rattle.hc_config.specs.declared.effect.Effect.{Effect}
-use Rattle.hc_config.specs.declared.effect.Effect.TheVariants.{Closes, Gives, Nothing, Opens}
-use Rattle.hc_config.specs.declared.levels.Gathered.{Gathered}
+use Rattle.hc_config.specs.declared.effect.Effect.TheVariants.{Closes, Gives, Holds, Nothing, Opens, Releases}
+use Rattle.hc_config.specs.declared.gathered.Gathered.{Gathered}
 
 -- ---- what entries give, one behind another
 
-abbrev pub with_effect : Standing → Effect → Standing
-with_effect standing Nothing = standing
-with_effect standing (Gives given) = record standing { so_far = with_given standing.so_far given }
-with_effect standing (Opens opening) = opened standing opening
-with_effect standing Closes = innermost_closed standing
+abbrev pub with_effect : Standing → Effect → Result Standing Refusal
+with_effect standing Nothing = Ok standing
+with_effect standing (Gives given) = Ok (record standing { so_far = with_given standing.so_far given })
+with_effect standing (Opens opening) = Ok (opened standing opening)
+with_effect standing Closes = Ok (innermost_closed standing)
+with_effect standing (Holds holding) = Ok (holding_opened standing holding)
+with_effect standing Releases = innermost_released standing
+
+abbrev pub goes_on : (Standing → Result Standing Refusal) → Result Standing Refusal → Result Standing Refusal
+goes_on more (Err refusal) = Err refusal
+goes_on more (Ok standing) = more standing
 
 abbrev pub gathered_next : Standing → Entry → (Standing → Result Standing Refusal) → Result Effect AtByte → Result Standing Refusal
 gathered_next standing entry more (Err broken) = Err (refusal_at entry.spot.place broken)
-gathered_next standing entry more (Ok effect) = more (with_effect standing effect)
+gathered_next standing entry more (Ok effect) = goes_on more (with_effect standing effect)
 
 -- All that entries give behind others, or the refusal of the first that breaks a rule.
 abbrev pub gathered_from : Standing → List Entry → List Entry → Result Standing Refusal
 gathered_from standing before [] = Ok standing
 gathered_from standing before (entry ∷ behind) =
     gathered_next standing entry (λ later. gathered_from later (before ++ entry ∷ []) behind)
-    (judged (context_of standing) (record { before = before; entry = entry; behind = behind }))
+    (judged (context_of standing) (record { before = before; entry = entry; behind = behind; container = container_of standing }))
 
 -- ---- the main server
 

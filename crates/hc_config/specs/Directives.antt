@@ -6,6 +6,9 @@ use Rattle.std.specs.Prelude.{Option, Some, None, Result, Ok, Err, codes}
 use Rattle.std.specs.Str.{str_eq_ignore_ascii_case}
 use Rattle.hc_base.specs.Paths.{begins_with_slash}
 use Rattle.hc_base.specs.declared.fault.AtByte.{AtByte}
+use Rattle.hc_model.specs.declared.authorization.Merging.{Merging}
+use Rattle.hc_model.specs.declared.authorization.Need.{Need}
+use Rattle.hc_model.specs.declared.authorization.ReqTree.TheVariants.{Leaf}
 use Rattle.hc_model.specs.declared.mapping.PathTest.{PathTest}
 use Rattle.hc_model.specs.declared.section.Reach.{Reach}
 use Rattle.hc_model.specs.declared.section.Reach.TheVariants.{DirSearch, Files, LocationSearch}
@@ -17,18 +20,22 @@ use Rattle.hc_table.specs.declared.meaning.TheConstants.{REDIRECT, REDIRECT_MATC
 use Rattle.hc_table.specs.declared.meaning.TheConstants.{SCRIPT_ALIAS, SERVER_ROOT, USER_DIR, USE_CANONICAL_NAME}
 use Rattle.hc_table.specs.declared.meaning.TheConstants.{ALLOW_OVERRIDE, OPTIONS, SERVER_ALIAS, SERVER_NAME, VIRTUAL_HOST}
 use Rattle.hc_table.specs.declared.meaning.TheConstants.{DIRECTORY, DIRECTORY_MATCH, FILES, FILES_MATCH, LOCATION, LOCATION_MATCH}
+use Rattle.hc_table.specs.declared.meaning.TheConstants.{AUTH_MERGING, REQUIRE, REQUIRE_ALL, REQUIRE_ANY, REQUIRE_NONE}
 use Rattle.hc_config.specs.Among.{Among}
 use Rattle.hc_config.specs.Hosts.{host_addrs, name_without_port}
 use Rattle.hc_config.specs.Options.{allowed_by, options_step}
+use Rattle.hc_config.specs.Requires.{Line, asked_by, is_none_of, line_of, merging_named, negated_rule, unless_broken}
 use Rattle.hc_config.specs.Rows.{by_number}
 use Rattle.hc_config.specs.Sections.{directory, location, name_glob, pattern_alone, plain_or_tilde}
 use Rattle.hc_config.specs.Statuses.{first_status, has_url}
 use Rattle.hc_config.specs.Targets.{own_target_by, target_by, test_by, without_final_slash, wrong}
 use Rattle.hc_config.specs.declared.effect.Effect.{Effect}
-use Rattle.hc_config.specs.declared.effect.Effect.TheVariants.{Nothing, Gives, Opens}
-use Rattle.hc_config.specs.declared.levels.Given.TheVariants as given
-use Rattle.hc_config.specs.declared.levels.Opened.{Opened}
-use Rattle.hc_config.specs.declared.levels.Opened.TheVariants.{Host, Reached}
+use Rattle.hc_config.specs.declared.effect.Effect.TheVariants.{Nothing, Gives, Holds, Opens}
+use Rattle.hc_config.specs.declared.gathered.Given.TheVariants as given
+use Rattle.hc_config.specs.declared.gathered.Opened.{Opened}
+use Rattle.hc_config.specs.declared.gathered.Opened.TheVariants.{Host, Reached}
+use Rattle.hc_config.specs.declared.containers.Container.{Container}
+use Rattle.hc_config.specs.declared.containers.Container.TheVariants.{All, Any, NoneOf}
 use Rattle.hc_config.specs.declared.status.TheConstants.{PERMANENT, TEMPORARY}
 use Rattle.hc_config.specs.declared.targets.PathForm.{PathForm}
 use Rattle.hc_config.specs.declared.targets.PathForm.TheVariants.{Plain, Match}
@@ -132,6 +139,33 @@ options words = given_by (λ step. Gives (given.Options step)) (options_step wor
 abbrev pub allow_override : List (List ℕ) → Result Effect AtByte
 allow_override words = given_by (λ allowed. Gives (given.Allow allowed)) (allowed_by words)
 
+-- ---- authorization
+
+abbrev pub member : Spot → Bool → Need → Effect
+member spot negated need = Gives (given.Member (Leaf spot.place negated need))
+
+abbrev pub require_line : Line → Giving
+require_line line among words = given_by (member among.entry.spot line.negated) (asked_by among.container line)
+
+abbrev pub require : Giving
+require among words = require_line (line_of words) among words
+
+-- A RequireNone is negated.
+abbrev pub holds : Among → Container → Effect
+holds among container = Holds (record { place = among.entry.spot.place; container = container })
+
+abbrev pub require_container : Container → Giving
+require_container container among [] = unless_broken (negated_rule (is_none_of container) among.container) (Ok (holds among container))
+require_container container among (word ∷ words) = Err wrong
+
+abbrev pub merges : Option Merging → Result Effect AtByte
+merges None = Err wrong
+merges (Some merging) = Ok (Gives (given.Merges merging))
+
+abbrev pub auth_merging : List (List ℕ) → Result Effect AtByte
+auth_merging (word ∷ []) = merges (merging_named word)
+auth_merging words = Err wrong
+
 -- ---- sections
 
 abbrev pub opens : Among → Opened → Effect
@@ -147,6 +181,15 @@ section reach among words = given_by (λ reach. opens among (Reached reach)) (re
 
 -- ---- by meaning
 
+abbrev pub require_givings : List (ℕ × Giving)
+require_givings =
+    (REQUIRE, require) ∷
+    (AUTH_MERGING, by_words auth_merging) ∷
+    (REQUIRE_ALL, require_container All) ∷
+    (REQUIRE_ANY, require_container Any) ∷
+    (REQUIRE_NONE, require_container NoneOf) ∷
+    []
+
 -- A further directive is a further row.
 abbrev pub server_givings : List (ℕ × Giving)
 server_givings =
@@ -161,7 +204,7 @@ server_givings =
     (FILES_MATCH, section (pattern_alone Files)) ∷
     (LOCATION, section (plain_or_tilde location LocationSearch)) ∷
     (LOCATION_MATCH, section (pattern_alone LocationSearch)) ∷
-    []
+    require_givings
 
 abbrev pub givings : List (ℕ × Giving)
 givings =

@@ -1,9 +1,13 @@
 -- What is open around an entry, and what the servers and sections have so far, while the entries of a
 -- list are taken one after another.
 -- Apache manual, "Configuration Sections"; core, DocumentRoot, ServerName, Options, AllowOverride.
-use Rattle.std.specs.Prelude.{ℕ, ◌-◌, List, [], ◌∷◌, ◌++◌, length, take, slice_get, false, Option, Some, None}
+use Rattle.std.specs.Prelude.{ℕ, ◌-◌, List, [], ◌∷◌, ◌++◌, length, take, slice_get, false, Option, Some, None, option_map, Result, Ok, Err}
 use Rattle.hc_base.specs.declared.place.Place.{Place}
+use Rattle.hc_base.specs.Rules.{refusal_at, rule}
+use Rattle.hc_base.specs.declared.place.Refusal.{Refusal}
+use Rattle.hc_model.specs.declared.authorization.Merging.{Merging}
 use Rattle.hc_model.specs.declared.authorization.Merging.TheVariants.{Off}
+use Rattle.hc_model.specs.declared.authorization.ReqTree.{ReqTree}
 use Rattle.hc_model.specs.declared.config.HostAddr.{HostAddr}
 use Rattle.hc_model.specs.declared.config.Server.{Server}
 use Rattle.hc_model.specs.declared.mapping.Redirect.{Redirect}
@@ -15,13 +19,16 @@ use Rattle.hc_model.specs.declared.section.Reach.{Reach}
 use Rattle.hc_model.specs.declared.section.Reach.TheVariants.{Dir, DirSearch, Files, Location, LocationGlob, LocationSearch, When}
 use Rattle.hc_model.specs.declared.section.Section.{Section, roll-Section}
 use Rattle.hc_table.specs.declared.context.TheConstants as context
-use Rattle.hc_config.specs.declared.levels.Around.{Around}
-use Rattle.hc_config.specs.declared.levels.Gathered.{Gathered}
-use Rattle.hc_config.specs.declared.levels.Given.{Given}
-use Rattle.hc_config.specs.declared.levels.Given.TheVariants as given
-use Rattle.hc_config.specs.declared.levels.Opened.{Opened}
-use Rattle.hc_config.specs.declared.levels.Opened.TheVariants.{Host, Reached}
-use Rattle.hc_config.specs.declared.levels.Opening.{Opening}
+use Rattle.hc_config.specs.declared.gathered.Gathered.{Gathered}
+use Rattle.hc_config.specs.declared.gathered.Given.{Given}
+use Rattle.hc_config.specs.declared.gathered.Given.TheVariants as given
+use Rattle.hc_config.specs.declared.gathered.Opened.{Opened}
+use Rattle.hc_config.specs.declared.gathered.Opened.TheVariants.{Host, Reached}
+use Rattle.hc_config.specs.declared.gathered.Held.{Held}
+use Rattle.hc_config.specs.declared.gathered.Holding.{Holding}
+use Rattle.hc_config.specs.declared.gathered.Opening.{Opening}
+use Rattle.hc_config.specs.declared.containers.Container.{Container}
+use Rattle.hc_config.specs.Requires.{container_rule, section_tree, tree_of}
 
 -- ---- contexts
 
@@ -51,9 +58,11 @@ nothing_gathered = record {
   allow = None;
   sections = [];
   hosts = [];
+  merging = Off;
+  members = [];
 }
 
--- The last DocumentRoot, ServerName and AllowOverride count; of all else every line, in its order.
+-- The last DocumentRoot, ServerName, AllowOverride and AuthMerging count; of all else every line, in its order.
 abbrev pub with_given : Gathered → Given → Gathered
 with_given gathered (given.Root path) = record gathered { root = Some path }
 with_given gathered (given.Name name) = record gathered { name = Some name }
@@ -62,23 +71,42 @@ with_given gathered (given.Map alias) = record gathered { maps = gathered.maps +
 with_given gathered (given.Send redirect) = record gathered { redirects = gathered.redirects ++ redirect ∷ [] }
 with_given gathered (given.Options step) = record gathered { options = gathered.options ++ step ∷ [] }
 with_given gathered (given.Allow allowed) = record gathered { allow = Some allowed }
+with_given gathered (given.Merges merging) = record gathered { merging = merging }
+with_given gathered (given.Member member) = record gathered { members = gathered.members ++ member ∷ [] }
 
-abbrev pub body_of : List OptStep → Option Allowed → List Redirect → List Section → Body
-body_of options allow redirects inner = roll-Body (record {
+-- ---- bodies
+
+-- A server keeps its redirects and sections beside its body.
+abbrev pub server_body : List OptStep → Body
+server_body options = roll-Body (record {
   options = options;
-  allow = allow;
+  allow = None;
   merging = Off;
   require = None;
   engine = None;
   base = None;
   rules = [];
   rewrites = false;
-  redirects = redirects;
-  inner = inner;
+  redirects = [];
+  inner = [];
   inherit = No;
 })
 
--- A server keeps its redirects and sections beside its body.
+abbrev pub section_body : Gathered → Body
+section_body gathered = roll-Body (record {
+  options = gathered.options;
+  allow = gathered.allow;
+  merging = gathered.merging;
+  require = section_tree gathered.members;
+  engine = None;
+  base = None;
+  rules = [];
+  rewrites = false;
+  redirects = gathered.redirects;
+  inner = gathered.sections;
+  inherit = No;
+})
+
 abbrev pub server_of : Place → List HostAddr → Gathered → Server
 server_of place addresses gathered = record {
   place = place;
@@ -88,7 +116,7 @@ server_of place addresses gathered = record {
   root = gathered.root;
   redirects = gathered.redirects;
   maps = gathered.maps;
-  body = body_of gathered.options None [] [];
+  body = server_body gathered.options;
   sections = gathered.sections;
   recursion = None;
   maps_by_name = [];
@@ -99,7 +127,7 @@ section_of opening reach gathered = roll-Section (record {
   place = opening.spot.place;
   span = opening.spot.span;
   reach = reach;
-  body = body_of gathered.options gathered.allow gathered.redirects gathered.sections;
+  body = section_body gathered;
 })
 
 -- What was opened is put into what is around it.
@@ -111,17 +139,28 @@ with_closed opening (Reached reach) inner outer =
 
 -- ---- the levels
 
--- What the innermost has so far; and the openings around an entry, the innermost last, each with what
--- that in which it stands had before it.
+-- An opening, what that in which it stands had before it, and the containers of Require lines that were
+-- open there, the innermost last.
+pub record Around : Type 0 where
+  pub opening : Opening
+  pub gathered : Gathered
+  pub held : List Held
+
+-- What the innermost has so far, and its containers that are open; and the openings around an entry, the
+-- innermost last.
 pub record Standing : Type 0 where
   pub so_far : Gathered
+  pub held : List Held
   pub around : List Around
 
 abbrev pub nothing_standing : Standing
-nothing_standing = record { so_far = nothing_gathered; around = [] }
+nothing_standing = record { so_far = nothing_gathered; held = []; around = [] }
 
-abbrev pub innermost : List Around → Option Around
-innermost around = slice_get around (length around - 1)
+abbrev pub last_of : {A : Type 0} → List A → Option A
+last_of items = slice_get items (length items - 1)
+
+abbrev pub without_last : {A : Type 0} → List A → List A
+without_last items = take (length items - 1) items
 
 abbrev pub context_within : Option Around → ℕ
 context_within None = context.MAIN_SERVER
@@ -129,21 +168,57 @@ context_within (Some around) = context_inside around.opening.opened
 
 -- That of the innermost opening, else the main server's.
 abbrev pub context_of : Standing → ℕ
-context_of standing = context_within (innermost standing.around)
+context_of standing = context_within (last_of standing.around)
 
 abbrev pub opened : Standing → Opening → Standing
 opened standing opening = record {
   so_far = nothing_gathered;
-  around = standing.around ++ record { opening = opening; gathered = standing.so_far } ∷ [];
+  held = [];
+  around = standing.around ++ record { opening = opening; gathered = standing.so_far; held = standing.held } ∷ [];
 }
 
 abbrev pub closed_by : Standing → Option Around → Standing
 closed_by standing None = standing
 closed_by standing (Some around) = record {
   so_far = with_closed around.opening around.opening.opened standing.so_far around.gathered;
-  around = take (length standing.around - 1) standing.around;
+  held = around.held;
+  around = without_last standing.around;
 }
 
 -- The innermost opening is closed.
 abbrev pub innermost_closed : Standing → Standing
-innermost_closed standing = closed_by standing (innermost standing.around)
+innermost_closed standing = closed_by standing (last_of standing.around)
+
+-- ---- containers of Require lines
+
+abbrev pub container_of : Standing → Option Container
+container_of standing = option_map (λ held. held.holding.container) (last_of standing.held)
+
+abbrev pub with_members : Gathered → List ReqTree → Gathered
+with_members gathered members = record gathered { members = members }
+
+-- What stands around a container waits until it is closed.
+abbrev pub holding_opened : Standing → Holding → Standing
+holding_opened standing holding = record standing {
+  so_far = with_members standing.so_far [];
+  held = standing.held ++ record { holding = holding; members = standing.so_far.members } ∷ [];
+}
+
+abbrev pub released : Standing → Held → Standing
+released standing held = record standing {
+  so_far = with_members standing.so_far (held.members ++ tree_of held.holding.container standing.so_far.members ∷ []);
+  held = without_last standing.held;
+}
+
+-- A rule that a container breaks is refused at its opening.
+abbrev pub unless_refused : Standing → Held → Option ℕ → Result Standing Refusal
+unless_refused standing held None = Ok (released standing held)
+unless_refused standing held (Some code) = Err (refusal_at held.holding.place (rule code))
+
+abbrev pub released_by : Standing → Option Held → Result Standing Refusal
+released_by standing None = Ok standing
+released_by standing (Some held) = unless_refused standing held (container_rule held.holding.container standing.so_far.members)
+
+-- The innermost container is closed.
+abbrev pub innermost_released : Standing → Result Standing Refusal
+innermost_released standing = released_by standing (last_of standing.held)

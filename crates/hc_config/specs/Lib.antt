@@ -2,6 +2,8 @@ pub mod Rows
 pub mod Targets
 pub mod TargetViews
 pub mod Statuses
+pub mod Requires
+pub mod RequireViews
 pub mod Among
 pub mod Hosts
 pub mod Options

@@ -11,13 +11,15 @@ use Rattle.hc_model.specs.declared.entry.EntryForm.TheVariants.{Close, Directive
 use Rattle.hc_table.specs.Directives.{directive_rows, is_container}
 use Rattle.hc_table.specs.Table.{find_in}
 use Rattle.hc_table.specs.declared.meaning.TheConstants.{DIRECTORY, DIRECTORY_MATCH, FILES, FILES_MATCH, LOCATION, LOCATION_MATCH, VIRTUAL_HOST}
+use Rattle.hc_table.specs.declared.meaning.TheConstants.{REQUIRE, REQUIRE_ALL, REQUIRE_ANY, REQUIRE_NONE}
 use Rattle.hc_table.specs.declared.table.RowKind.{RowKind}
 use Rattle.hc_table.specs.declared.table.Wording.{Wording}
 use Rattle.hc_table.specs.declared.table.Wording.TheVariants.{Configuration, Rewriting}
 use Rattle.hc_config.specs.Among.{Among}
 use Rattle.hc_config.specs.Directives.{Giving, giving}
+use Rattle.hc_config.specs.Requires.{has_unknown_kind, line_of}
 use Rattle.hc_config.specs.declared.effect.Effect.{Effect}
-use Rattle.hc_config.specs.declared.effect.Effect.TheVariants.{Closes, Nothing}
+use Rattle.hc_config.specs.declared.effect.Effect.TheVariants.{Closes, Nothing, Releases}
 
 -- ---- what an entry is
 
@@ -52,9 +54,19 @@ if_read (Err broken) gives among = Err broken
 if_read (Ok words) None among = Err (rule UNSUPPORTED_DIRECTIVE)
 if_read (Ok words) (Some gives) among = gives among words
 
+abbrev pub unknown_kind : Result (List (List ℕ)) AtByte → Bool
+unknown_kind (Err broken) = false
+unknown_kind (Ok words) = has_unknown_kind (line_of words).words
+
+-- A Require line of a kind that is not known is refused for this first.
+abbrev pub misplaced : RowKind → Among → ℕ
+misplaced kind among =
+    if (kind.meaning == REQUIRE) && unknown_kind (read_words (spelling_of kind.wording) among.entry.rest)
+    then UNSUPPORTED_DIRECTIVE else WRONG_CONTEXT
+
 -- A place where it may not stand.
 abbrev pub if_placed : Bool → RowKind → Among → Result Effect AtByte
-if_placed false kind among = Err (rule WRONG_CONTEXT)
+if_placed false kind among = Err (rule (misplaced kind among))
 if_placed true kind among = if_read (read_words (spelling_of kind.wording) among.entry.rest) (giving kind.meaning) among
 
 -- A name that is not supported.
@@ -70,9 +82,16 @@ abbrev pub is_level : Option RowKind → Bool
 is_level None = false
 is_level (Some kind) = list_any (λ level. kind.meaning == level) levels
 
--- A close breaks no rule.
+abbrev pub require_containers : List ℕ
+require_containers = REQUIRE_ALL ∷ REQUIRE_ANY ∷ REQUIRE_NONE ∷ []
+
+abbrev pub is_require_container : Option RowKind → Bool
+is_require_container None = false
+is_require_container (Some kind) = list_any (λ container. kind.meaning == container) require_containers
+
+-- A close breaks no rule of its own.
 abbrev pub closing : Option RowKind → Effect
-closing kind = if is_level kind then Closes else Nothing
+closing kind = if is_level kind then Closes else (if is_require_container kind then Releases else Nothing)
 
 -- By the context in which the entry stands.
 unfoldable pub judged : ℕ → Among → Result Effect AtByte

@@ -1,6 +1,7 @@
 ghost use Rattle.std.specs.Prelude.{◌≡◌, IfOk};
 ghost use Rattle.hc_flat.specs.EntriesView.{entry_of};
 
+use crate::containers::Container;
 use hc_base::{NoMemory, Place};
 use hc_flat::{Entries, EntryView};
 use hc_table::Row;
@@ -14,6 +15,8 @@ pub(crate) struct Among<'e> {
     pub names: &'e [Row],
     /// The context in which it stands.
     pub context: u16,
+    /// The innermost container of Require lines that it stands in.
+    pub container: Option<Container>,
     pub entries: &'e Entries,
     /// Its place among them.
     pub place: usize,

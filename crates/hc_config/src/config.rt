@@ -5,12 +5,13 @@ ghost use Rattle.hc_base.specs.Rules.{refusal_at};
 ghost use Rattle.hc_flat.specs.EntriesView.{entry_of};
 ghost use Rattle.hc_config.specs.Configuration.{built, config_of, gathered_from, has_no_root, is_rootless, no_place};
 ghost use Rattle.hc_config.specs.Configuration.{rootless, unless_rootless, unless_stopped, with_effect};
-ghost use Rattle.hc_config.specs.LevelViews.{gathered_view, standing_of};
+ghost use Rattle.hc_config.specs.LevelViews.{gathered_view, left_by, standing_of};
 ghost use Rattle.hc_config.specs.Levels.{nothing_standing};
 
 use crate::among::{Among, place_of};
 use crate::effect::Effect;
-use crate::levels::{Gathered, Standing};
+use crate::gathered::Gathered;
+use crate::levels::Standing;
 use crate::rules::judge;
 use hc_base::codes::NO_DOCUMENT_ROOT;
 use hc_base::{AtByte, Fault, List, NoMemory, Place, Refusal, Text};
@@ -89,6 +90,7 @@ fn gather(alloc: Global, entries: &Entries) -> Result<Standing, BuildFault>
             alloc,
             names: names.rows,
             context: standing.context(),
+            container: standing.container(),
             entries,
             place,
             entry,
@@ -102,15 +104,18 @@ fn gather(alloc: Global, entries: &Entries) -> Result<Standing, BuildFault>
     Ok(standing)
 }
 
-fn perform(alloc: Global, standing: &mut Standing, effect: Effect) -> Result<(), NoMemory>
-    ensures { OnOk result (standing_of standing.new ≡ with_effect (standing_of standing.old) effect) }
+fn perform(alloc: Global, standing: &mut Standing, effect: Effect) -> Result<(), BuildFault>
+    ensures { Gives (left_by result standing.new) (with_effect (standing_of standing.old) effect) }
 {
     match effect {
-        Effect::Nothing => Ok(()),
-        Effect::Gives(given) => standing.take(given),
-        Effect::Opens(opening) => standing.open(alloc, opening),
-        Effect::Closes => standing.close(alloc),
+        Effect::Nothing => {}
+        Effect::Gives(given) => standing.take(given)?,
+        Effect::Opens(opening) => standing.open(alloc, opening)?,
+        Effect::Closes => standing.close(alloc)?,
+        Effect::Holds(holding) => standing.hold(alloc, holding)?,
+        Effect::Releases => return standing.release(alloc),
     }
+    Ok(())
 }
 
 fn refused(alloc: Global, entry: EntryView, broken: AtByte) -> Result<Standing, BuildFault>

@@ -7,8 +7,8 @@ ghost use Rattle.hc_config.specs.Directives.{server_alias, server_name, server_r
 
 use crate::among::{Among, place_of};
 use crate::classes::allowed_by;
+use crate::gathered::{Given, Holding, Opening};
 use crate::hosts::name_without_port;
-use crate::levels::{Given, Opening};
 use crate::options::options_step;
 use crate::targets::{PathForm, is_absolute, own_target_by, test_by, without_final_slash};
 use hc_base::codes::WRONG_ARGUMENTS;
@@ -25,6 +25,10 @@ pub(crate) enum Effect {
     Opens(Opening),
     /// The innermost opening is closed.
     Closes,
+    /// A container of Require lines begins.
+    Holds(Holding),
+    /// The innermost of these ends.
+    Releases,
 }
 
 /// Why an entry gives nothing: the first rule that it breaks.
@@ -125,7 +129,7 @@ pub(crate) fn server_alias(among: &Among, words: &[CowStr]) -> Result<Effect, Ef
     Ok(Effect::Gives(Given::Names(texts_of(among.alloc, words)?)))
 }
 
-fn texts_of(alloc: Global, words: &[CowStr]) -> Result<List<Text>, NoMemory>
+pub(crate) fn texts_of(alloc: Global, words: &[CowStr]) -> Result<List<Text>, NoMemory>
     ensures { IfOk result (λ texts. texts ≡ words.now) }
 {
     let mut texts = List::new(alloc);

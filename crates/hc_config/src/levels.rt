@@ -1,211 +1,35 @@
-ghost use Rattle.std.specs.Prelude.{◌≡◌, ◌++◌, ◌∷◌, [], IfOk, OnOk};
-ghost use Rattle.hc_config.specs.Levels.{body_of, context_inside, context_of, context_of_reach, innermost_closed};
-ghost use Rattle.hc_config.specs.Levels.{nothing_gathered, nothing_standing, opened, section_of, server_of};
-ghost use Rattle.hc_config.specs.Levels.{with_closed, with_given};
-ghost use Rattle.hc_config.specs.LevelViews.{standing_of};
-ghost use Rattle.hc_config.specs.declared.levels.Opened.TheVariants.{Reached};
+ghost use Rattle.std.specs.Prelude.{◌≡◌, Err, OnOk};
+ghost use Rattle.hc_base.specs.Gives.{Gives};
+ghost use Rattle.hc_base.specs.Rules.{refusal_at, rule};
+ghost use Rattle.hc_config.specs.Levels.{container_of, context_inside, context_of, context_of_reach, holding_opened};
+ghost use Rattle.hc_config.specs.Levels.{innermost_closed, innermost_released, nothing_standing, opened, with_given};
+ghost use Rattle.hc_config.specs.LevelViews.{left_by, standing_of};
 
-use hc_base::{List, NoMemory, Place, Text};
-use hc_model::{
-    Alias, Allowed, Body, HostAddr, Inherit, Merging, OptStep, Reach, Redirect, Section, Server,
-    Spot,
-};
+use crate::config::BuildFault;
+use crate::containers::{Container, container_rule, tree_of};
+use crate::gathered::{Gathered, Given, Held, Holding, Opened, Opening};
+use hc_base::{AtByte, Fault, List, NoMemory, Place, Refusal};
+use hc_model::Reach;
 use hc_table::context;
 use std::alloc::Global;
 use std::mem::replace;
-
-/// What a directive gives to the server or section in which it stands (Apache manual, core and mod_alias).
-#[derive(Drop)]
-pub(crate) enum Given {
-    /// `DocumentRoot`.
-    Root(Text),
-    /// `ServerName`, without a port.
-    Name(Text),
-    /// `ServerAlias`.
-    Names(List<Text>),
-    /// An alias.
-    Map(Alias),
-    /// A redirect.
-    Send(Redirect),
-    /// An `Options` line.
-    Options(OptStep),
-    /// `AllowOverride`.
-    Allow(Allowed),
-}
-
-/// What an opening opens.
-#[derive(Drop)]
-pub(crate) enum Opened {
-    /// `<VirtualHost>`.
-    Host(List<HostAddr>),
-    /// A section that applies here.
-    Reached(Reach),
-}
-
-#[derive(Drop)]
-pub(crate) struct Opening {
-    pub spot: Spot,
-    pub opened: Opened,
-}
-
-/// What a server or a section has so far.
-#[derive(Drop)]
-pub(crate) struct Gathered {
-    pub root: Option<Text>,
-    pub name: Option<Text>,
-    pub aliases: List<Text>,
-    pub redirects: List<Redirect>,
-    pub maps: List<Alias>,
-    pub options: List<OptStep>,
-    pub allow: Option<Allowed>,
-    pub sections: List<Section>,
-    pub hosts: List<Server>,
-}
 
 /// An opening, and what that in which it stands had before it.
 #[derive(Drop)]
 pub(crate) struct Around {
     pub opening: Opening,
     pub gathered: Gathered,
+    /// The containers that were open there.
+    pub held: Vec<Held>,
 }
 
 /// What the innermost server or section has so far, and what is open around it, the innermost last.
 #[derive(Drop)]
 pub(crate) struct Standing {
     pub so_far: Gathered,
+    /// Its containers of Require lines that are open, the innermost last.
+    pub held: Vec<Held>,
     pub around: Vec<Around>,
-}
-
-impl Gathered {
-    /// Nothing, with room for so many aliases where there is memory for it: a list that grows by doubling
-    /// leaves holes as large as itself.
-    pub(crate) fn nothing(alloc: Global, aliases: usize) -> Gathered
-        ensures { result ≡ nothing_gathered }
-    {
-        Gathered {
-            root: None,
-            name: None,
-            aliases: List::new(alloc),
-            redirects: List::new(alloc),
-            maps: room_for(alloc, aliases),
-            options: List::new(alloc),
-            allow: None,
-            sections: List::new(alloc),
-            hosts: List::new(alloc),
-        }
-    }
-
-    /// The last DocumentRoot, ServerName and AllowOverride count; of all else every line.
-    fn take(&mut self, given: Given) -> Result<(), NoMemory>
-        ensures { OnOk result (self.new ≡ with_given self.old given) }
-    {
-        match given {
-            Given::Root(path) => self.root = Some(path),
-            Given::Name(name) => self.name = Some(name),
-            Given::Names(names) => {
-                let alloc = self.aliases.allocator();
-                let own = replace(&mut self.aliases, List::new(alloc));
-                self.aliases = joined(own, names.as_slice())?;
-            }
-            Given::Map(alias) => self.maps.push(alias)?,
-            Given::Send(redirect) => self.redirects.push(redirect)?,
-            Given::Options(step) => self.options.push(step)?,
-            Given::Allow(allowed) => self.allow = Some(allowed),
-        }
-        Ok(())
-    }
-
-    /// The server that this is, with nothing else said.
-    pub(crate) fn into_server(
-        self,
-        alloc: Global,
-        place: Place,
-        addresses: List<HostAddr>,
-    ) -> Server
-        ensures { result ≡ server_of place addresses self }
-    {
-        Server {
-            place,
-            addresses,
-            name: self.name,
-            aliases: self.aliases,
-            root: self.root,
-            redirects: self.redirects,
-            maps: self.maps,
-            body: body_of(self.options, None, List::new(alloc), List::new(alloc)),
-            sections: self.sections,
-            recursion: None,
-            maps_by_name: List::new(alloc),
-        }
-    }
-
-    fn into_section(self, spot: Spot, reach: Reach) -> Section
-        ensures { result ≡ section_of (record { spot = spot; opened = Reached reach }) reach self }
-    {
-        Section {
-            place: spot.place,
-            span: spot.span,
-            reach,
-            body: body_of(self.options, self.allow, self.redirects, self.sections),
-        }
-    }
-
-    /// What was opened is put into what is around it.
-    fn close(&mut self, alloc: Global, opening: Opening, inner: Gathered) -> Result<(), NoMemory>
-        ensures { OnOk result (self.new ≡ with_closed opening opening.opened inner self.old) }
-    {
-        let Opening { spot, opened } = opening;
-        match opened {
-            Opened::Host(addresses) => {
-                self.hosts
-                    .push(inner.into_server(alloc, spot.place, addresses))
-            }
-            Opened::Reached(reach) => self.sections.push(inner.into_section(spot, reach)),
-        }
-    }
-}
-
-// No aliases, with room for so many where there is memory for it.
-fn room_for(alloc: Global, aliases: usize) -> List<Alias>
-    ensures { result ≡ [] }
-{
-    match Vec::with_capacity(alloc, aliases) {
-        Ok(room) => List::from(room),
-        Err(_) => List::new(alloc),
-    }
-}
-
-fn joined(mut names: List<Text>, more: &[Text]) -> Result<List<Text>, NoMemory>
-    ensures { IfOk result (λ joined. joined ≡ names ++ more.now) }
-{
-    for name in more {
-        names.push(name.clone()?)?;
-    }
-    Ok(names)
-}
-
-fn body_of(
-    options: List<OptStep>,
-    allow: Option<Allowed>,
-    redirects: List<Redirect>,
-    inner: List<Section>,
-) -> Body
-    ensures { result ≡ body_of options allow redirects inner }
-{
-    let alloc = options.allocator();
-    Body {
-        options,
-        allow,
-        merging: Merging::Off,
-        require: None,
-        engine: None,
-        base: None,
-        rules: List::new(alloc),
-        rewrites: false,
-        redirects,
-        inner,
-        inherit: Inherit::No,
-    }
 }
 
 impl Standing {
@@ -215,6 +39,7 @@ impl Standing {
     {
         Standing {
             so_far: Gathered::nothing(alloc, aliases),
+            held: Vec::new(alloc),
             around: Vec::new(alloc),
         }
     }
@@ -237,11 +62,51 @@ impl Standing {
         self.so_far.take(given)
     }
 
+    /// The innermost container of Require lines around an entry that comes next.
+    pub(crate) fn container(&self) -> Option<Container>
+        ensures { result ≡ container_of (standing_of self.now) }
+    {
+        match self.held.last() {
+            Some(held) => Some(held.holding.container),
+            None => None,
+        }
+    }
+
+    /// What stands around a container waits until it is closed.
+    pub(crate) fn hold(&mut self, alloc: Global, holding: Holding) -> Result<(), NoMemory>
+        ensures { OnOk result (standing_of self.new ≡ holding_opened (standing_of self.old) holding) }
+    {
+        let members = replace(&mut self.so_far.members, List::new(alloc));
+        self.held.push(Held { holding, members })?;
+        Ok(())
+    }
+
+    /// The innermost container is closed, or refused at its opening.
+    pub(crate) fn release(&mut self, alloc: Global) -> Result<(), BuildFault>
+        ensures { Gives (left_by result self.new) (innermost_released (standing_of self.old)) }
+    {
+        let Some(held) = self.held.pop() else {
+            return Ok(());
+        };
+        let Held { holding, members } = held;
+        if let Some(code) = container_rule(holding.container, self.so_far.members.as_slice()) {
+            return Err(refused_at(alloc, holding.place, code));
+        }
+        let own = replace(&mut self.so_far.members, members);
+        self.so_far.members.push(tree_of(holding.container, own))?;
+        Ok(())
+    }
+
     pub(crate) fn open(&mut self, alloc: Global, opening: Opening) -> Result<(), NoMemory>
         ensures { OnOk result (standing_of self.new ≡ opened (standing_of self.old) opening) }
     {
         let gathered = replace(&mut self.so_far, Gathered::nothing(alloc, 0));
-        self.around.push(Around { opening, gathered })?;
+        let held = replace(&mut self.held, Vec::new(alloc));
+        self.around.push(Around {
+            opening,
+            gathered,
+            held,
+        })?;
         Ok(())
     }
 
@@ -252,6 +117,7 @@ impl Standing {
         let Some(around) = self.around.pop() else {
             return Ok(());
         };
+        self.held = around.held;
         let inner = replace(&mut self.so_far, around.gathered);
         self.so_far.close(alloc, around.opening, inner)
     }
@@ -276,4 +142,10 @@ fn context_of_reach(reach: &Reach) -> u16
         Reach::Location(_) | Reach::LocationGlob(_) | Reach::LocationSearch(_) => context::LOCATION,
         Reach::When(_) => context::IF_SECTION,
     }
+}
+
+fn refused_at(alloc: Global, place: Place, code: u8) -> BuildFault
+    ensures { result ≡ Fault.Refused (refusal_at place (rule code)) }
+{
+    Fault::Refused(Refusal::at(alloc, place, AtByte::rule(code)))
 }

@@ -4,11 +4,14 @@
 mod among;
 mod classes;
 mod config;
+mod containers;
 mod effect;
+mod gathered;
 mod hosts;
 mod levels;
 mod options;
 mod redirect;
+mod requiring;
 mod rules;
 mod sections;
 mod status;

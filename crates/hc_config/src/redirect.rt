@@ -6,7 +6,7 @@ ghost use Rattle.hc_config.specs.Directives.{redirect_by, sent, sent_alone, sent
 
 use crate::among::{Among, place_of};
 use crate::effect::{Effect, EffectFault, REFUSED};
-use crate::levels::Given;
+use crate::gathered::Given;
 use crate::status::{TEMPORARY, first_status, has_url};
 use crate::targets::{PathForm, target_by, test_by};
 use hc_base::{CowStr, Fault, List};

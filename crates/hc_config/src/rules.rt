@@ -1,4 +1,4 @@
-ghost use Rattle.std.specs.Prelude.{◌≡◌, ◌==◌, ◌&&◌, is_some, map, true, Some, Ok};
+ghost use Rattle.std.specs.Prelude.{◌≡◌, ◌==◌, ◌&&◌, is_some, map, true, IfOk, Some, Ok};
 ghost use Rattle.std.specs.List.{list_any};
 ghost use Rattle.hc_base.specs.Gives.{Gives, GivesList};
 ghost use Rattle.hc_flat.specs.EntriesView.{entry_of};
@@ -6,22 +6,25 @@ ghost use Rattle.hc_lines.specs.Words.{read_words};
 ghost use Rattle.hc_table.specs.Directives.{directive_rows};
 ghost use Rattle.hc_table.specs.Table.{find_in, row_of};
 ghost use Rattle.hc_config.specs.Among.{among_of};
-ghost use Rattle.hc_config.specs.Directives.{giving, server_givings};
+ghost use Rattle.hc_config.specs.Directives.{giving, require_givings, server_givings};
 ghost use Rattle.hc_config.specs.Rows.{by_number};
 ghost use Rattle.hc_config.specs.Rules.{closing, if_placed, if_read, if_supported, is_closing, is_of_form};
-ghost use Rattle.hc_config.specs.Rules.{judged, levels, may_stand, spelling_of, supported};
+ghost use Rattle.hc_config.specs.Rules.{judged, levels, may_stand, misplaced, require_containers, spelling_of};
+ghost use Rattle.hc_config.specs.Rules.{supported, unknown_kind};
 
 use crate::among::Among;
+use crate::containers::Container;
 use crate::effect::{
     Effect, EffectFault, alias, allow_override, counted, document_root, options, server_alias,
     server_name, server_root, this_argument,
 };
 use crate::redirect::{redirect, redirect_as};
+use crate::requiring::{auth_merging, has_unknown_kind, require, require_container};
 use crate::sections::{Seen, match_section, section, virtual_host};
 use crate::status::{PERMANENT, TEMPORARY};
 use crate::targets::PathForm;
 use hc_base::codes::{UNSUPPORTED_DIRECTIVE, WRONG_CONTEXT};
-use hc_base::{AtByte, CowStr, Fault};
+use hc_base::{AtByte, CowStr, Fault, NoMemory};
 use hc_flat::EntryView;
 use hc_lines::{conf_words, rewrite_words};
 use hc_model::EntryForm;
@@ -55,8 +58,18 @@ fn closing(kind: Option<RowKind>) -> Effect
 {
     match kind {
         Some(kind) if is_level(kind.meaning) => Effect::Closes,
+        Some(kind) if is_require_container(kind.meaning) => Effect::Releases,
         _ => Effect::Nothing,
     }
+}
+
+fn is_require_container(meaning: u16) -> bool
+    ensures { result ≡ list_any (λ container. meaning == container) require_containers }
+{
+    matches!(
+        meaning,
+        meaning::REQUIRE_ALL | meaning::REQUIRE_ANY | meaning::REQUIRE_NONE
+    )
 }
 
 fn is_level(meaning: u16) -> bool
@@ -114,9 +127,22 @@ fn judge_as(kind: RowKind, among: &Among) -> Result<Effect, EffectFault>
     ensures { Gives result (if_supported among.now.context (Some kind) (among_of among.now)) }
 {
     if may_stand(among.context, kind) {
-        read_and_give(kind, among)
-    } else {
-        Err(broken(WRONG_CONTEXT))
+        return read_and_give(kind, among);
+    }
+    if kind.meaning == meaning::REQUIRE && unknown_kind(kind, among)? {
+        return Err(broken(UNSUPPORTED_DIRECTIVE));
+    }
+    Err(broken(WRONG_CONTEXT))
+}
+
+// A Require line of a kind that is not known.
+fn unknown_kind(kind: RowKind, among: &Among) -> Result<bool, NoMemory>
+    ensures { IfOk result (λ is. is ≡ unknown_kind (read_words (spelling_of kind.wording) (among_of among.now).entry.rest)) }
+{
+    match read_as(among.alloc, kind.wording, among.entry.rest) {
+        Ok(words) => Ok(has_unknown_kind(&words)),
+        Err(Fault::Refused(_)) => Ok(false),
+        Err(Fault::NoMemory) => Err(NoMemory),
     }
 }
 
@@ -183,6 +209,11 @@ fn is_built(meaning: u16) -> bool
             | meaning::FILES_MATCH
             | meaning::LOCATION
             | meaning::LOCATION_MATCH
+            | meaning::REQUIRE
+            | meaning::AUTH_MERGING
+            | meaning::REQUIRE_ALL
+            | meaning::REQUIRE_ANY
+            | meaning::REQUIRE_NONE
             | meaning::IF_DEFINE
             | meaning::IF_MODULE
     )
@@ -228,6 +259,20 @@ fn give_to_server(meaning: u16, among: &Among, words: &[CowStr]) -> Result<Effec
         meaning::FILES_MATCH => match_section(Seen::Files, among, words),
         meaning::LOCATION => section(Seen::Location, among, words),
         meaning::LOCATION_MATCH => match_section(Seen::Location, among, words),
+        _ => give_to_require(meaning, among, words),
+    }
+}
+
+// What a directive or container of authorization gives.
+fn give_to_require(meaning: u16, among: &Among, words: &[CowStr]) -> Result<Effect, EffectFault>
+    ensures { Gives result (if_read (Ok words.now) (by_number meaning require_givings) (among_of among.now)) }
+{
+    match meaning {
+        meaning::REQUIRE => require(among, words),
+        meaning::AUTH_MERGING => auth_merging(words),
+        meaning::REQUIRE_ALL => require_container(Container::All, among, words),
+        meaning::REQUIRE_ANY => require_container(Container::Any, among, words),
+        meaning::REQUIRE_NONE => require_container(Container::NoneOf, among, words),
         _ => Err(broken(UNSUPPORTED_DIRECTIVE)),
     }
 }

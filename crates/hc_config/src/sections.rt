@@ -9,8 +9,8 @@ ghost use Rattle.hc_config.specs.SectionViews.{plain_of, reach_of};
 
 use crate::among::{Among, place_of};
 use crate::effect::{Effect, EffectFault, REFUSED};
+use crate::gathered::{Opened, Opening};
 use crate::hosts::host_addrs;
-use crate::levels::{Opened, Opening};
 use crate::targets::without_final_slash;
 use hc_base::{CowStr, Text};
 use hc_model::{Reach, Regex, Spot};

@@ -1,8 +1,10 @@
 -- What is in force once sections are merged: one rule a setting.
--- Apache manual, "How the sections are merged"; core, Options; mod_alias, Redirect. That a later section's
+-- Apache manual, "How the sections are merged"; core, Options; mod_alias, Redirect; mod_authz_core, AuthMerging. That a later section's
 -- redirects come before the earlier ones' is our own choice.
-use Rattle.std.specs.Prelude.{ℕ, ◌==◌, List, [], ◌∷◌, ◌++◌, map, Bool, true, false, not, ◌&&◌, ◌||◌, None}
+use Rattle.std.specs.Prelude.{ℕ, ◌==◌, List, [], ◌∷◌, ◌++◌, map, Bool, true, false, not, ◌&&◌, ◌||◌, Option, None}
 use Rattle.std.specs.List.{fold, list_any}
+use Rattle.hc_authz.specs.Joined.{joined_behind}
+use Rattle.hc_model.specs.declared.authorization.ReqTree.{ReqTree}
 use Rattle.hc_model.specs.declared.config.Config.{Config}
 use Rattle.hc_model.specs.declared.config.HostId.{HostId}
 use Rattle.hc_model.specs.declared.config.Server.{Server}
@@ -51,6 +53,14 @@ abbrev pub redirects_of : List Candidate → List Redirect
 redirects_of [] = []
 redirects_of (candidate ∷ candidates) = redirects_of candidates ++ (out-Body candidate.body).redirects
 
+-- ---- authorization
+
+abbrev pub require_behind : Option ReqTree → Candidate → Option ReqTree
+require_behind so_far candidate = joined_behind so_far (out-Body candidate.body).require (out-Body candidate.body).merging
+
+abbrev pub require_of : List Candidate → Option ReqTree
+require_of kept = fold require_behind None kept
+
 -- ---- what is in force
 
 abbrev pub event_of : Candidate → Event
@@ -59,7 +69,7 @@ event_of candidate = event.Section candidate.spot
 abbrev pub merged : Config → HostId → List Candidate → Effective
 merged config host kept = record {
   follow = follows (servers_merged config host) kept;
-  require = None;
+  require = require_of kept;
   engine = false;
   dir = None;
   base = None;

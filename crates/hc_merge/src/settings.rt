@@ -4,13 +4,18 @@ ghost use Rattle.hc_merge.specs.CandidateView.{candidate_of, candidates_of};
 ghost use Rattle.hc_merge.specs.Order.{no_files, servers_merged};
 ghost use Rattle.hc_merge.specs.Settings as definition;
 ghost use Rattle.hc_merge.specs.Settings.{event_of, follows, is_among, is_on, merged, on_after, on_at_sections};
-ghost use Rattle.hc_merge.specs.Settings.{on_at_servers, redirects_of, still_on};
+ghost use Rattle.hc_merge.specs.Settings.{on_at_servers, redirects_of, require_of, still_on};
+ghost use Rattle.hc_authz.specs.Joined.{joined_behind};
+ghost use Rattle.hc_model.specs.declared.section.Body.{out-Body};
 ghost use Rattle.hc_vhost.specs.Servers.{IsHostOf};
 
 use crate::order::{Candidate, ordered_sections};
 use crate::reaching::kept_by;
+use hc_authz::join;
 use hc_base::{List, NoMemory};
-use hc_model::{Config, Effective, Event, HostId, OptStep, Redirect, Spot, View, Walk};
+use hc_model::{
+    Body, Config, Effective, Event, HostId, OptStep, Redirect, ReqTree, Spot, View, Walk,
+};
 use hc_vhost::server_at;
 use std::alloc::Global;
 
@@ -50,9 +55,10 @@ pub fn merge_sections(
 {
     let redirects = redirects_of(alloc, kept)?;
     let sections = events_of(alloc, kept)?;
+    let require = require_of(alloc, kept)?;
     Ok(Effective {
         follow: follows(config, host, kept),
-        require: None,
+        require,
         engine: false,
         dir: None,
         base: None,
@@ -121,6 +127,34 @@ fn is_among(option: u8, options: &[u8]) -> bool
     ensures { result ≡ is_among option options.now }
 {
     options.iter().any(|other| option == *other)
+}
+
+fn require_of(alloc: Global, kept: &[Candidate<'_>]) -> Result<Option<ReqTree>, NoMemory>
+    ensures { IfOk result (λ tree. tree ≡ require_of (map candidate_of kept.now)) }
+{
+    let mut tree = None;
+    for candidate in kept {
+        tree = joined_behind(alloc, tree, candidate.body)?;
+    }
+    Ok(tree)
+}
+
+// A section without Require changes nothing.
+fn joined_behind(
+    alloc: Global,
+    so_far: Option<ReqTree>,
+    body: &Body,
+) -> Result<Option<ReqTree>, NoMemory>
+    ensures { IfOk result (λ tree. tree ≡ joined_behind so_far (out-Body body.now).require (out-Body body.now).merging) }
+{
+    let Some(own) = &body.require else {
+        return Ok(so_far);
+    };
+    let own = own.clone()?;
+    match so_far {
+        Some(before) => Ok(Some(join(alloc, before, own, body.merging)?)),
+        None => Ok(Some(own)),
+    }
 }
 
 // A later section's come first.

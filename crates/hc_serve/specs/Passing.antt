@@ -1,20 +1,26 @@
 -- The steps of a pass, in their order. Those that are not built yet leave what they are given.
 -- Apache manual: "Mapping URLs to Filesystem Locations"; core, DocumentRoot, AcceptPathInfo; mod_alias.
 -- What is outside is our own choice.
-use Rattle.std.specs.Prelude.{ℕ, List, [], ◌∷◌, Bool, false, if◌then◌else◌, Option, Some, None}
+use Rattle.std.specs.Prelude.{ℕ, List, [], ◌∷◌, Bool, true, false, if◌then◌else◌, Option, Some, None}
 use Rattle.std.specs.List.{list_any, slice_split}
 use Rattle.hc_alias.specs.Mapping.{away, map_url}
 use Rattle.hc_alias.specs.declared.mapping.Away.{Away}
 use Rattle.hc_alias.specs.declared.mapping.Mapped.{Mapped}
 use Rattle.hc_alias.specs.declared.mapping.Mapped.TheVariants as mapped
 use Rattle.hc_base.specs.Paths.{is_dots, is_slash, merge_slashes}
-use Rattle.hc_model.specs.declared.event.Authorized.TheVariants.{Unasked}
+use Rattle.hc_authz.specs.Values.{value}
+use Rattle.hc_authz.specs.declared.tree.Tri.{Tri}
+use Rattle.hc_authz.specs.declared.tree.Tri.TheVariants as tri
+use Rattle.hc_model.specs.declared.authorization.ReqTree.{ReqTree}
+use Rattle.hc_model.specs.declared.event.Authorized.{Authorized}
+use Rattle.hc_model.specs.declared.event.Authorized.TheVariants.{Denied, Granted, Neutral, Unasked}
+use Rattle.hc_model.specs.declared.request.Caller.{Caller}
 use Rattle.hc_merge.specs.Order.{no_files}
 use Rattle.hc_merge.specs.Settings.{effective}
 use Rattle.hc_model.specs.declared.event.Event.{Event}
 use Rattle.hc_model.specs.declared.event.Event.TheVariants as event
 use Rattle.hc_model.specs.declared.outcome.Outcome.{Outcome}
-use Rattle.hc_model.specs.declared.outcome.Outcome.TheVariants.{Directory, File, NotFound, Outside}
+use Rattle.hc_model.specs.declared.outcome.Outcome.TheVariants.{Directory, File, NotFound, Outside, Status}
 use Rattle.hc_model.specs.declared.outcome.Reason.TheVariants.{DotSegment, NoRoot}
 use Rattle.hc_model.specs.declared.request.View.{View}
 use Rattle.hc_model.specs.declared.section.Effective.{Effective}
@@ -22,6 +28,7 @@ use Rattle.hc_model.specs.declared.walk.Kind.{Kind}
 use Rattle.hc_model.specs.declared.walk.Kind.TheVariants as kind
 use Rattle.hc_model.specs.declared.walk.Walk.{Walk}
 use Rattle.hc_serve.specs.Site.{Site}
+use Rattle.hc_serve.specs.declared.admission.TheConstants.{FORBIDDEN}
 use Rattle.hc_serve.specs.declared.stage.Here.{Here}
 use Rattle.hc_serve.specs.declared.stage.Named.{Named}
 use Rattle.hc_serve.specs.declared.stage.Pass.{Pass}
@@ -63,7 +70,7 @@ seen_there named walk = told (event.Walk walk.name walk.info walk.kind) (record 
 unfoldable pub walked : Named → Step Outcome Walked
 walked named = walk named.name >>= seen_there named
 
--- 5. The sections in force, and who may pass: no `.htaccess` is read yet, and no Require.
+-- 5. The sections in force, and who may pass: no `.htaccess` is read yet.
 abbrev pub view_at : Site → Walked → View
 view_at site there = record {
   caller = site.caller;
@@ -86,8 +93,27 @@ unfoldable pub in_force : Site → Walked → Step Outcome Here
 in_force site there =
     sections_told (with_force there (effective site.config site.host there.walk (view_at site there) no_files))
 
-unfoldable pub admitted : Here → Step Outcome Here
-admitted here = told (event.Auth Unasked) here
+abbrev pub said : Tri → Authorized
+said tri.Granted = Granted
+said tri.Denied = Denied
+said tri.Neutral = Neutral
+
+abbrev pub authorized : Caller → Option ReqTree → Authorized
+authorized caller None = Unasked
+authorized caller (Some tree) = said (value caller tree)
+
+-- No tree lets everyone in; one that says nothing lets nobody in.
+abbrev pub lets_in : Authorized → Bool
+lets_in Granted = true
+lets_in Denied = false
+lets_in Neutral = false
+lets_in Unasked = true
+
+unfoldable pub admitted_by : Here → Authorized → Step Outcome Here
+admitted_by here value = say (event.Auth value) (if lets_in value then leaves here else ends (Status FORBIDDEN))
+
+unfoldable pub admitted : Site → Here → Step Outcome Here
+admitted site here = admitted_by here (authorized site.caller here.force.require)
 
 -- 6. The rules of the directory.
 abbrev pub rewritten_there : Site → Here → Step Outcome Here
@@ -114,7 +140,7 @@ answered here = ends (outcome_at here.walk.kind here.walk.name here.walk.info)
 unfoldable pub passed_there : Site → Walked → Step Outcome Pass
 passed_there site there = do
   here ← in_force site there
-  here ← admitted here
+  here ← admitted site here
   here ← rewritten_there site here
   here ← sent_there site here
   answered here

@@ -1,6 +1,7 @@
 //! What a request receives (Apache manual, "Mapping URLs to Filesystem Locations").
 #![tactic(auto)]
 
+mod admission;
 mod answer;
 pub mod laws;
 mod name;

@@ -2,7 +2,7 @@ ghost use Rattle.std.specs.Prelude.{◌≡◌, IfOk, OnOk};
 ghost use Rattle.hc_vhost.specs.Servers.{IsHostOf};
 ghost use Rattle.hc_merge.specs.Order.{no_files};
 ghost use Rattle.hc_merge.specs.Settings.{effective};
-ghost use Rattle.hc_serve.specs.Passing.{admitted, answered, begun, in_force, mapped_at, merged, named, outcome_at};
+ghost use Rattle.hc_serve.specs.Passing.{admitted, admitted_by, answered, begun, in_force, mapped_at, merged, named, outcome_at};
 ghost use Rattle.hc_serve.specs.Passing.{passed, passed_there, sections_told, seen_there, sent_by, sent_there};
 ghost use Rattle.hc_serve.specs.Passing.{view_at, walked, with_force, without_dots};
 ghost use Rattle.hc_serve.specs.Site.{site_of};
@@ -11,6 +11,7 @@ ghost use Rattle.hc_steps.specs.Run.{run};
 ghost use Rattle.hc_steps.specs.Shown.{shown_by};
 ghost use Rattle.hc_steps.specs.Walking.{walk};
 
+use crate::admission::{FORBIDDEN, authorized, lets_in};
 use crate::name::{has_dots, merge_slashes};
 use crate::site::Asked;
 use crate::stage::{Here, Named, Pass, Stop, Walked};
@@ -44,7 +45,7 @@ fn passed_there(asked: &Asked<'_>, log: &mut Log, there: Walked) -> Result<Pass,
         (run (passed_there (site_of asked.now) there) (shown_by asked.now.world.now.files)) }
 {
     let here = in_force(asked, log, there)?;
-    let here = admitted(asked.world, log, here)?;
+    let here = admitted(asked, log, here)?;
     let here = sent_there(asked, log, here)?;
     answered(asked.world, log, here)
 }
@@ -199,15 +200,26 @@ fn copy_of(event: &Event) -> Result<Event, NoMemory>
     event.clone()
 }
 
-// Who may pass: no Require is in force.
+// Who may pass.
 #[tactic(auto, unfolding(crate::specs::Passing::admitted), using(hc_steps::proofs::Going::telling))]
-fn admitted(world: &World, log: &mut Log, here: Here) -> Result<Here, Stop>
-    ensures { Ran result log.old log.new (run (admitted here) (shown_by world.now.files)) }
+fn admitted(asked: &Asked<'_>, log: &mut Log, here: Here) -> Result<Here, Stop>
+    ensures { Ran result log.old log.new
+        (run (admitted (site_of asked.now) here) (shown_by asked.now.world.now.files)) }
 {
-    log.say(Event::Auth {
-        value: Authorized::Unasked,
-    })?;
-    Ok(here)
+    let value = authorized(asked.caller, &here.force.require);
+    admitted_by(asked.world, log, here, value)
+}
+
+#[tactic(auto, unfolding(crate::specs::Passing::admitted_by), using(hc_steps::proofs::Going::telling))]
+fn admitted_by(world: &World, log: &mut Log, here: Here, value: Authorized) -> Result<Here, Stop>
+    ensures { Ran result log.old log.new (run (admitted_by here value) (shown_by world.now.files)) }
+{
+    log.say(Event::Auth { value })?;
+    if lets_in(value) {
+        Ok(here)
+    } else {
+        Err(Fault::Refused(Outcome::Status(FORBIDDEN)))
+    }
 }
 
 // The redirects of the sections, on the URL path.

@@ -5,6 +5,8 @@
 #[cfg(test)]
 mod answers;
 #[cfg(test)]
+mod authorization;
+#[cfg(test)]
 mod commands;
 #[cfg(test)]
 mod configs;

@@ -1,0 +1,241 @@
+//! Who may pass, as dialogues: Require lines, their containers and AuthMerging.
+
+use crate::dialogue::hold_each;
+use crate::main_files::hold_refused;
+use hc_base::NoMemory;
+
+// What the containers say, and how trees are merged.
+static ADMITTED: &[&str] = &[
+    r##"main DocumentRoot /srv\n<Directory /srv>\n<RequireAll>\nRequire all granted\n
+  Require not ip 10.1\n</RequireAll>\n</Directory>\n
+file /srv/f
+{"do":"ask","target":"/f","client":"10.1.2.3"}
+{"outcome":{"status":403}}
+{"do":"ask","target":"/f","client":"10.2.0.1"}
+{"outcome":{"file":{"info":"","path":"/srv/f"}}}
+main DocumentRoot /srv\n<Directory /srv>\n<RequireAll>\nRequire ip 10\n<RequireNone>\nRequire ip 10.1\n
+  </RequireNone>\n</RequireAll>\n</Directory>\n
+{"do":"ask","target":"/f","client":"10.2.0.1"}
+{"outcome":{"file":{"info":"","path":"/srv/f"}}}
+{"do":"ask","target":"/f","client":"10.1.0.1"}
+{"outcome":{"status":403}}
+{"do":"ask","target":"/f","client":"192.0.2.9"}
+{"outcome":{"status":403}}
+main DocumentRoot /srv\n<Directory /srv>\n<RequireAny>\n<RequireNone>\nRequire ip 10.1\n
+  </RequireNone>\n</RequireAny>\n</Directory>\n
+check
+{"refused":{"at":0,"code":21,"field":"","file":"/etc/httpd/conf/httpd.conf","line":4,"name":"NegatedInAny"}}
+"##,
+    // AuthMerging speaks of its own section alone
+    r##"main DocumentRoot /www/docs\n<Directory /www/docs>\nRequire ip 10.0.0.0/8\n</Directory>\n
+  <Directory /www/docs/ab>\nAuthMerging Or\nRequire ip 192.0.2.0/24\n</Directory>\n
+  <Directory /www/docs/ab/c>\nRequire method GET\n</Directory>\n
+file /www/docs/ab/f
+file /www/docs/ab/c/f
+{"do":"ask","target":"/ab/f","client":"192.0.2.9"}
+{"outcome":{"file":{"info":"","path":"/www/docs/ab/f"}}}
+{"do":"ask","target":"/ab/f","client":"10.1.1.1"}
+{"outcome":{"file":{"info":"","path":"/www/docs/ab/f"}}}
+{"do":"ask","target":"/ab/f","client":"203.0.113.5"}
+{"outcome":{"status":403}}
+{"do":"ask","target":"/ab/c/f","client":"10.1.1.1","method":"POST"}
+{"outcome":{"status":403}}
+{"do":"ask","target":"/ab/c/f","client":"203.0.113.5"}
+{"outcome":{"file":{"info":"","path":"/www/docs/ab/c/f"}}}
+{"do":"ask","target":"/ab/c/f","client":"203.0.113.5","method":"HEAD"}
+{"outcome":{"file":{"info":"","path":"/www/docs/ab/c/f"}}}
+"##,
+    // locations, with and without a final slash
+    r##"main DocumentRoot /srv\n<Location /private1>\nRequire all denied\n</Location>\n
+  <Location /private2/>\nRequire all denied\n</Location>\n
+ask /private1
+{"outcome":{"status":403}}
+ask /private1/
+{"outcome":{"status":403}}
+ask /private1/file.txt
+{"outcome":{"status":403}}
+ask /private1other
+{"outcome":{"not_found":true}}
+ask /private2
+{"outcome":{"not_found":true}}
+ask /private2/
+{"outcome":{"status":403}}
+ask /private2/file.txt
+{"outcome":{"status":403}}
+ask /private2other
+{"outcome":{"not_found":true}}
+"##,
+    // And, where there is something before it and where there is nothing; a neutral tree
+    r##"main DocumentRoot /srv\n<Directory /srv/a>\nAuthMerging And\nRequire method GET HEAD\n</Directory>\n
+  <Directory /srv/a/b>\nauthmerging and\nRequire ip 10 192.0.2.0/255.255.255.0\n</Directory>\n
+  <Directory /srv/n>\n<RequireAny>\n<RequireAll>\n<RequireNone>\nRequire ip 10\n</RequireNone>\n
+  Require local\n</RequireAll>\n</RequireAny>\n</Directory>\n
+file /srv/a/f
+file /srv/a/b/f
+file /srv/n/f
+{"do":"ask","target":"/a/f","client":"192.0.2.9","method":"HEAD"}
+{"outcome":{"file":{"info":"","path":"/srv/a/f"}}}
+{"do":"ask","target":"/a/f","client":"192.0.2.9","method":"PUT"}
+{"outcome":{"status":403}}
+{"do":"ask","target":"/a/b/f","client":"192.0.2.9"}
+{"outcome":{"file":{"info":"","path":"/srv/a/b/f"}}}
+{"do":"ask","target":"/a/b/f","client":"192.0.3.9"}
+{"outcome":{"status":403}}
+{"do":"ask","target":"/a/b/f","client":"192.0.2.9","method":"PUT"}
+{"outcome":{"status":403}}
+{"do":"ask","target":"/n/f","client":"::1"}
+{"outcome":{"file":{"info":"","path":"/srv/n/f"}}}
+{"do":"ask","target":"/n/f","client":"127.9.9.9"}
+{"outcome":{"file":{"info":"","path":"/srv/n/f"}}}
+{"do":"ask","target":"/n/f","client":"128.0.0.1"}
+{"outcome":{"status":403}}
+{"do":"ask","target":"/n/f","client":"198.51.100.7","server":"198.51.100.7"}
+{"outcome":{"file":{"info":"","path":"/srv/n/f"}}}
+{"do":"ask","target":"/n/f","client":"10.0.0.1","server":"10.0.0.1"}
+{"outcome":{"status":403}}
+{"do":"ask","target":"/n/f","client":"::2"}
+{"outcome":{"status":403}}
+"##,
+    // a section inside a container, and settings in one, are those of the section around it
+    r##"main DocumentRoot /srv\n<Directory /srv>\n<RequireAny>\nRequire all denied\nRedirect /r /s\n<Files f>\n
+  Require all granted\n</Files>\nRequire ip 10\n</RequireAny>\n</Directory>\n
+file /srv/f
+file /srv/g
+{"do":"ask","target":"/f","client":"192.0.2.9"}
+{"outcome":{"file":{"info":"","path":"/srv/f"}}}
+{"do":"ask","target":"/g","client":"192.0.2.9"}
+{"outcome":{"status":403}}
+{"do":"ask","target":"/g","client":"10.0.0.1"}
+{"outcome":{"file":{"info":"","path":"/srv/g"}}}
+{"do":"ask","target":"/r","client":"10.0.0.1"}
+{"outcome":{"redirect":{"location":"http://localhost/s","status":302}}}
+{"do":"ask","target":"/r","client":"192.0.2.9"}
+{"outcome":{"status":403}}
+"##,
+];
+
+// Main files as they stand in JSON, and the refusal of each: its code, its line and the byte in a pattern.
+static REFUSED: &[(&str, u8, u32, u32)] = &[
+    // the words of a line, and its kind
+    (r"<Directory /a>\nRequire\n</Directory>\n", 3, 2, 0),
+    (r"<Directory /a>\nRequire not\n</Directory>\n", 3, 2, 0),
+    (r"<Directory /a>\nRequire all\n</Directory>\n", 3, 2, 0),
+    (r"<Directory /a>\nRequire all some\n</Directory>\n", 3, 2, 0),
+    (
+        r"<Directory /a>\nRequire all granted denied\n</Directory>\n",
+        3,
+        2,
+        0,
+    ),
+    (r"<Directory /a>\nRequire ip\n</Directory>\n", 3, 2, 0),
+    (r"<Directory /a>\nRequire method\n</Directory>\n", 3, 2, 0),
+    (r"<Directory /a>\nRequire local x\n</Directory>\n", 3, 2, 0),
+    (r"<Directory /a>\nRequire ip 10 x\n</Directory>\n", 26, 2, 0),
+    (
+        r"<Directory /a>\nRequire valid-user\n</Directory>\n",
+        1,
+        2,
+        0,
+    ),
+    (
+        r"<Directory /a>\nRequire not user a\n</Directory>\n",
+        1,
+        2,
+        0,
+    ),
+    // where it may not stand
+    (r"Require all granted\n", 2, 1, 0),
+    (r"Require group a\n", 1, 1, 0),
+    (r#"Require \"all\n"#, 2, 1, 0),
+    (r#"<Directory /a>\nRequire \"all\n</Directory>\n"#, 6, 2, 0),
+    (r"<RequireAll>\n</RequireAll>\n", 2, 1, 0),
+    (
+        r"<VirtualHost *:80>\nAuthMerging And\n</VirtualHost>\n",
+        2,
+        2,
+        0,
+    ),
+    // what may be negated
+    (
+        r"<Directory /a>\nRequire not ip x\n</Directory>\n",
+        21,
+        2,
+        0,
+    ),
+    (
+        r"<Directory /a>\n<RequireNone>\nRequire ip 10\n</RequireNone>\n</Directory>\n",
+        21,
+        2,
+        0,
+    ),
+    (
+        r"<Directory /a>\n<RequireAny>\nRequire not ip 10\n</RequireAny>\n</Directory>\n",
+        21,
+        3,
+        0,
+    ),
+    (
+        r"<Files a>\n<RequireAll>\n<RequireNone>\nRequire not ip 10\n</RequireNone>\n</RequireAll>\n</Files>\n",
+        22,
+        4,
+        0,
+    ),
+    (
+        r"<Files a>\n<RequireAll>\n<RequireNone>\n<RequireNone>\n</RequireNone>\n</RequireNone>\n
+  </RequireAll>\n</Files>\n",
+        22,
+        4,
+        0,
+    ),
+    (
+        r"<RequireAll>\n<Files a>\nRequire not local\n</Files>\n</RequireAll>\n",
+        2,
+        1,
+        0,
+    ),
+    (
+        r"<Directory /a>\n<RequireAll>\n<Files a>\nRequire not local\n</Files>\n</RequireAll>\n</Directory>\n",
+        21,
+        4,
+        0,
+    ),
+    // containers, at their openings
+    (
+        r"<Location /a>\n<RequireAny>\n<RequireAll>\nRequire not ip 10\n</RequireAll>\n</RequireAny>\n</Location>\n",
+        23,
+        3,
+        0,
+    ),
+    (
+        r"<Location /a>\n<RequireAll>\n<RequireNone>\nRequire ip 10\n</RequireNone>\nRequire not local\n
+  </RequireAll>\n</Location>\n",
+        23,
+        2,
+        0,
+    ),
+    (
+        r"<Location /a>\n<RequireAny>\n<RequireAny>\n</RequireAny>\n</RequireAny>\n</Location>\n",
+        24,
+        3,
+        0,
+    ),
+    (
+        r"<Location /a>\n<RequireAny x>\n</RequireAny>\n</Location>\n",
+        3,
+        2,
+        0,
+    ),
+    (r"<Location /a>\nAuthMerging\n</Location>\n", 3, 2, 0),
+    (r"<Location /a>\nAuthMerging Xor\n</Location>\n", 3, 2, 0),
+    (r"<Location /a>\nAuthMerging And Or\n</Location>\n", 3, 2, 0),
+];
+
+#[test]
+fn requests_are_let_in_or_refused(rt: HostRuntime) -> Result<(), NoMemory> {
+    hold_each(&rt, rt.alloc(), ADMITTED)
+}
+
+#[test]
+fn what_may_not_be_required_is_refused(rt: HostRuntime) -> Result<(), NoMemory> {
+    hold_refused(&rt, rt.alloc(), REFUSED)
+}
