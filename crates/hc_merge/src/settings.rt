@@ -1,16 +1,18 @@
 ghost use Rattle.std.specs.Prelude.{◌≡◌, ◌++◌, map, IfOk};
 ghost use Rattle.std.specs.List.{fold, list_any};
 ghost use Rattle.hc_merge.specs.CandidateView.{candidate_of, candidates_of};
-ghost use Rattle.hc_merge.specs.Order.{no_files, servers_merged};
+ghost use Rattle.hc_merge.specs.Candidates.{servers_merged};
+ghost use Rattle.hc_merge.specs.Overriding.{AreLoaded, files_read, wanted_by};
 ghost use Rattle.hc_merge.specs.Settings as definition;
 ghost use Rattle.hc_merge.specs.Settings.{event_of, follows, is_among, is_on, merged, on_after, on_at_sections};
 ghost use Rattle.hc_merge.specs.Settings.{on_at_servers, redirects_of, still_on};
 ghost use Rattle.hc_vhost.specs.Servers.{IsHostOf};
 
-use crate::order::{Candidate, ordered_sections};
+use crate::candidate::Candidate;
+use crate::order::ordered_sections;
 use crate::reaching::kept_by;
 use hc_base::{List, NoMemory};
-use hc_model::{Config, Effective, Event, HostId, OptStep, Redirect, Spot, View, Walk};
+use hc_model::{Config, Effective, Event, HostId, OptStep, Overrides, Redirect, View, Walk};
 use hc_vhost::server_at;
 use std::alloc::Global;
 
@@ -20,19 +22,21 @@ const FOLLOW_LINKS: u8 = 5;
 const LINKS_IF_OWNER_MATCH: u8 = 6;
 
 /// What is in force for a file name: the sections that apply, merged (Apache manual, "How the sections are
-/// merged"). No `.htaccess` is read yet.
-pub fn effective(
+/// merged"). The `.htaccess` of each directory of the walk in which something is allowed has to be loaded.
+pub fn effective<O: Overrides>(
     alloc: Global,
     config: &Config,
     host: HostId,
     walk: &Walk,
     view: &View,
+    over: &O,
 ) -> Result<Effective, NoMemory>
-    requires { IsHostOf config.now host }
-    ensures { IfOk result (λ effective.
-        effective ≡ definition.effective config.now host walk.now view.now no_files) }
+    requires host { IsHostOf config.now host }
+    requires loaded { AreLoaded (O.loaded over.now) (wanted_by config.now host walk.now.dirs) }
+    ensures { IfOk result (λ effective. effective
+        ≡ definition.effective config.now host walk.now view.now (files_read (O.reading over.now))) }
 {
-    let sections = ordered_sections(alloc, config, host, walk)?;
+    let sections = ordered_sections(alloc, config, host, walk, over)?;
     let kept = kept_by(alloc, view, &sections)?;
     merge_sections(alloc, config, host, &kept)
 }
@@ -157,11 +161,7 @@ fn events_of(alloc: Global, kept: &[Candidate<'_>]) -> Result<List<Event>, NoMem
 fn event_of(candidate: &Candidate<'_>) -> Result<Event, NoMemory>
     ensures { IfOk result (λ event. event ≡ event_of (candidate_of candidate.now)) }
 {
-    let place = candidate.place.clone()?;
     Ok(Event::Section {
-        spot: Spot {
-            place,
-            span: candidate.span,
-        },
+        spot: candidate.origin.spot()?,
     })
 }

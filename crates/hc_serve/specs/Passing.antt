@@ -9,7 +9,7 @@ use Rattle.hc_alias.specs.declared.mapping.Mapped.{Mapped}
 use Rattle.hc_alias.specs.declared.mapping.Mapped.TheVariants as mapped
 use Rattle.hc_base.specs.Paths.{is_dots, is_slash, merge_slashes}
 use Rattle.hc_model.specs.declared.event.Authorized.TheVariants.{Unasked}
-use Rattle.hc_merge.specs.Order.{no_files}
+use Rattle.hc_merge.specs.Overriding.{no_files}
 use Rattle.hc_merge.specs.Settings.{effective}
 use Rattle.hc_model.specs.declared.event.Event.{Event}
 use Rattle.hc_model.specs.declared.event.Event.TheVariants as event
