@@ -2,7 +2,7 @@
 use Rattle.hc_pat_lang.proofs.Common.{◌≡◌, ℕ, zero, suc, ◌+◌, ◌-◌, ◌<◌, ◌≤◌, ◌⊎◌, Bool, true, false, List, [], ◌∷◌, ◌++◌, length, if◌then◌else◌, nat_lt, nat_eq, Some, None, slice_get, refl, sym, ◌∙◌, ap, subst, inl, inr, arith, eq-eqb, ltb-true, lt-ltb, Contains, Contains-push_cases, Span, has_byte, Pattern, empty, byte, class, start, finish, cat, alt, group, repeat, Way, Ways, none, stop, behind, either, meets, closed, grouped, preferred, moving, any_turns, turns_up_to, turns_then, Turns, all_ways, with_turn, behind-behind, behind-preferred, Bounded, any_turns_is, bounded, enough_turns, Exists, chosen_any, chosen_behind, chosen_then, chosen_up_to, chosen_ways, part_ways, takes_a_byte, seen, GroupPart, Outside, Inside}
 use Rattle.hc_pat_lang.proofs.Bounds.{bounded_part}
 use Rattle.hc_pat_lang.proofs.Choosing.{SeenOutside, SeesAll, fresh, sees_all, sees_rest, to_others}
-use Rattle.hc_pat_lang.proofs.Parts.{some_filtered, some_mapped, all_among, exists_as, exists_left, exists_right, exists_cases, if_exists, is_among, on_right, some_is, some_preferred, some_turn_or_next, to_flat, from_flat, exists_among, among_exists, exists_with, then_one}
+use Rattle.hc_pat_lang.proofs.Parts.{some_filtered, some_mapped, all_among, exists_as, exists_left, exists_right, exists_cases, if_exists, is_among, on_right, some_is, some_preferred, some_turn_or_next, to_flat, from_flat, exists_among, among_exists, then_one}
 use Rattle.hc_ways.proofs.Bytes.{moves}
 use Rattle.std.proofs.lemmas.List.Elements.{Contains-append_cases}
 use Rattle.hc_pat_lang.proofs.Seeing.{Grown, sees_any, sees_behind, sees_moving, sees_part, sees_then, sees_up_to}

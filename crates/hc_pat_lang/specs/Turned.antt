@@ -1,5 +1,5 @@
 -- The ways of a pattern through a text in which the bytes of one turn of a group are marked.
-use Rattle.std.specs.Prelude.{ℕ, zero, suc, ◌+◌, ◌-◌, ◌==◌, ◌||◌, Bool, true, false, List, [], length, Option, None, Some, if◌then◌else◌, nat_lt, slice_get}
+use Rattle.std.specs.Prelude.{ℕ, zero, suc, ◌+◌, ◌-◌, ◌==◌, ◌||◌, Bool, false, List, [], length, Option, None, Some, if◌then◌else◌, nat_lt, slice_get}
 use Rattle.hc_pattern.specs.Bits.{has_byte}
 use Rattle.hc_pattern.specs.Pattern.{Pattern, empty, byte, class, start, finish, cat, alt, group, repeat}
 use Rattle.hc_pattern.specs.declared.set.ByteSet.{ByteSet}

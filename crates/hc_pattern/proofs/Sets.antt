@@ -1,5 +1,5 @@
 -- The bits of a set.
-use Rattle.hc_pattern.proofs.Common.{◌≡◌, ℕ, zero, suc, ◌-◌, ◌*◌, ◌%◌, ◌^◌, ◌<◌, ◌≤◌, ◌≢◌, ◌==◌, Bool, true, false, not, ◌||◌, ◌&&◌, ◌+◌, nat_le, if◌then◌else◌, inl, inr, min, max, nat_lt, refl, sym, ap, ◌∙◌, arith, eq-eqb, eqb-true, true≢false, le-ltb, lt-ltb, or-false, or-true, nat_tests, bits_where, has_bit, has_byte, set_where}
+use Rattle.hc_pattern.proofs.Common.{◌≡◌, ℕ, zero, suc, ◌-◌, ◌*◌, ◌%◌, ◌^◌, ◌<◌, ◌≢◌, ◌==◌, Bool, true, false, not, ◌||◌, ◌&&◌, ◌+◌, nat_le, if◌then◌else◌, inl, inr, min, max, nat_lt, refl, sym, ap, ◌∙◌, arith, eq-eqb, eqb-true, true≢false, le-ltb, lt-ltb, or-false, or-true, nat_tests, bits_where, has_bit, has_byte, set_where}
 use Rattle.std.proofs.lemmas.Bool.{cases_lt}
 use Rattle.std.proofs.lemmas.Nat.Bits.{bit_at_mask_above, bit_at_mask_below, bit_at_mask_inside, bit_at_or, bit_at-lt, bit_at_not, bit_at_set_same, bit_at_set_other, bit_at_above, bit_at_cat_high, bit_at_cat_low, same_from_bits_below}
 use Rattle.std.proofs.Math.Nat.{one-le-pow, pow-suc}
