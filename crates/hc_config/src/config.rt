@@ -78,14 +78,12 @@ fn any_without_root(hosts: &[Server]) -> bool
     hosts.iter().any(|host| host.root.is_none())
 }
 
-#[tactic(auto, using(crate::proofs::Places::before_more))]
 fn gather(alloc: Global, entries: &Entries) -> Result<Standing, BuildFault>
     ensures { Gives (gathered_view result) (gathered_from nothing_standing [] entries.now) }
 {
     let names = directives();
     let mut standing = Standing::nothing(alloc, entries.len());
-    for place in 0..entries.len() {
-        let entry = entries.entry(place);
+    for (place, entry) in entries.iter().enumerate() {
         let among = Among {
             alloc,
             names: names.rows,

@@ -1,1 +1,2 @@
 pub mod EntriesView
+pub mod Lent

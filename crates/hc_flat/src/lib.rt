@@ -3,8 +3,10 @@
 
 mod entries;
 mod flat;
+mod iter;
 mod places;
 
 pub use entries::{Entries, EntryView};
 pub use flat::Flat;
+pub use iter::Iter;
 pub use places::Places;

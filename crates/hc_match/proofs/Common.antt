@@ -6,15 +6,16 @@ pub use Rattle.std.specs.List.{flat_map, fold}
 pub use Rattle.std.specs.Option.{option_or, option_eq}
 pub use Rattle.hc_match.specs.Frames.{Says, less_than, preferring, frame_ways, turns_ways}
 pub use Rattle.hc_match.specs.Pairs.{AllFail, Fails, HasEnded, Stands, kept_now, IsPair, Leads, Reached, move_ways, other_ways, past, IsSearch, kept_in}
-pub use Rattle.hc_match.specs.Program.{takes_a_byte, Compiles, Extends, HasMeaning, IsAdded, IsMeaning, Kept, Meaning, NamesBelow, closed_at, keeping_held, kept_ways, opened, step_ways, turn_step, nothing_kept, kept_past, Means}
+pub use Rattle.hc_match.specs.Program.{Compiles, Extends, HasMeaning, IsAdded, IsMeaning, Kept, Meaning, NamesBelow, closed_at, keeping_held, kept_ways, opened, step_ways, turn_step, nothing_kept, kept_past, Means}
 pub use Rattle.hc_match.specs.Runs.{ends, further_turns, run_length}
 pub use Rattle.hc_match.specs.Settings.{held_over}
 pub use Rattle.hc_match.specs.declared.paths.Passed.{Passed}
 pub use Rattle.hc_match.specs.declared.program.Step.{Step}
 pub use Rattle.hc_pattern.proofs.Nodes.{is_alt, is_byte, is_cat, is_class, is_empty, is_finish, is_group, is_repeat, is_start}
 pub use Rattle.hc_pattern.specs.Bits.{has_byte}
-pub use Rattle.hc_pattern.specs.Pattern.{Pattern, empty, byte, class, start, finish, cat, alt, group, repeat, pattern_of}
+pub use Rattle.hc_pattern.specs.Pattern.{Pattern, cat, alt, group, repeat, pattern_of}
 pub use Rattle.hc_ways.proofs.Behind.{same_ways, behind-behind, behind-either, behind-preferred, behind-stop, stop-behind, turn_or_next}
-pub use Rattle.hc_ways.proofs.Lists.{Each, Each-append, Each-filter, Each-flat_map, Each-map, flat_map-filter}
+pub use Rattle.hc_ways.proofs.Lists.{flat_map-filter}
 pub use Rattle.hc_ways.specs.Kept.{Held, first_of, held_by, match_among, match_at, with_group, last_ways, nothing_held, first_match}
-pub use Rattle.hc_ways.specs.Ways.{Keeping, Way, Ways, any_turns, behind, closed, either, grouped, meets, moving, none, preferred, repeated, stop, turns_then, turns_up_to, ways, step_where, stop_where}
+pub use Rattle.hc_ways.specs.Ways.{Way, Ways, any_turns, behind, closed, either, grouped, meets, moving, none, preferred, repeated, stop, turns_then, turns_up_to, step_where, stop_where}
+pub use Rattle.hc_ways.specs.Taking.{takes_a_byte}

@@ -12,7 +12,6 @@ pub mod Starts
 pub mod Runs
 pub mod StepLists
 pub mod Compiled
-pub mod Bytes
 pub mod PairTable
 pub mod PairSearch
 pub mod Matching

@@ -1,7 +1,7 @@
 -- What the steps of a program mean, as ways.
-use Rattle.std.specs.Prelude.{◌≡◌, ℕ, ◌<◌, ◌≤◌, ◌==◌, ◌&&◌, ◌||◌, if◌then◌else◌, nat_lt, Bool, true, false, List, [], ◌∷◌, length, Option, Some, None, slice_get, ⊤}
+use Rattle.std.specs.Prelude.{◌≡◌, ℕ, ◌<◌, ◌≤◌, ◌==◌, if◌then◌else◌, Bool, List, [], ◌∷◌, length, Option, Some, None, slice_get, ⊤}
 use Rattle.hc_pattern.specs.Bits.{has_byte}
-use Rattle.hc_pattern.specs.Pattern.{Pattern, empty, byte, class, start, finish, cat, alt, group, repeat}
+use Rattle.hc_pattern.specs.Pattern.{Pattern}
 use Rattle.hc_ways.specs.Kept.{Held, nothing_held, with_group}
 use Rattle.hc_ways.specs.Ways.{Keeping, Ways, behind, either, none, step_where, stop, stop_where, ways}
 use Rattle.hc_match.specs.declared.program.Step.{Step}
@@ -115,17 +115,3 @@ pub record HasMeaning (text : List ℕ) (steps : List Step) (place : ℕ) (ways 
   pub meaning : Meaning
   pub means : Means text steps meaning
   pub is : meaning place ≡ ways
-
--- ---- a body that takes a byte
-
--- As far as its form tells, each way takes at least one byte.
-abbrev pub takes_a_byte : Pattern → Bool
-takes_a_byte empty = false
-takes_a_byte (byte b) = true
-takes_a_byte (class set) = true
-takes_a_byte start = false
-takes_a_byte finish = false
-takes_a_byte (cat first second) = takes_a_byte first || takes_a_byte second
-takes_a_byte (alt first second) = takes_a_byte first && takes_a_byte second
-takes_a_byte (group number body) = takes_a_byte body
-takes_a_byte (repeat body least most greedy) = nat_lt 0 least && takes_a_byte body

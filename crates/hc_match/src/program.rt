@@ -2,10 +2,11 @@ ghost use Rattle.std.specs.Prelude.{◌≡◌, ℕ, ◌++◌, ◌∷◌, ◌<◌
 ghost use Rattle.std.specs.Prelude.{slice_get, IfOk, IsTrue, None};
 ghost use Rattle.hc_pattern.specs.Pattern.{pattern_of};
 ghost use Rattle.hc_ways.specs.Ways.{repeated, stop, turns_then, turns_up_to};
-ghost use Rattle.hc_match.specs.Program.{Compiles, HasMeaning, kept_ways, takes_a_byte, turn_step};
+ghost use Rattle.hc_match.specs.Program.{Compiles, HasMeaning, kept_ways, turn_step};
 
 use hc_base::NoMemory;
 use hc_pattern::{ByteSet, Pat};
+use hc_ways::takes_a_byte;
 use std::alloc::Global;
 
 /// A step of a program, by the places of the steps that come behind it.
@@ -220,20 +221,6 @@ fn turn_or_next(greedy: bool, turn: u32, next: u32) -> Step
             first: next,
             second: turn,
         }
-    }
-}
-
-// As far as its form tells, each way of the pattern takes at least one byte.
-fn takes_a_byte(pat: &Pat) -> bool
-    ensures { result ≡ takes_a_byte (pattern_of pat.now) }
-{
-    match pat {
-        Pat::Empty | Pat::Start | Pat::Finish => false,
-        Pat::Byte(_) | Pat::Class(_) => true,
-        Pat::Cat(first, second) => takes_a_byte(first) || takes_a_byte(second),
-        Pat::Alt(first, second) => takes_a_byte(first) && takes_a_byte(second),
-        Pat::Group(_, body) => takes_a_byte(body),
-        Pat::Repeat(body, least, _, _) => *least > 0 && takes_a_byte(body),
     }
 }
 

@@ -1,15 +1,16 @@
--- Redirects of sections from the last on, and directories without `.htaccess`.
+-- Redirects of sections from the last on, and the sections of two servers.
 use Rattle.std.proofs.Common.{◌≡◌, ℕ, ◌+◌, ◌-◌, ◌<◌, length, take, get_or, arith, List, [], ◌∷◌, ◌++◌, map, Bool, true, false, if◌then◌else◌, refl, sym, ap, ◌∙◌}
 use Rattle.std.proofs.lemmas.List.{append_assoc, append-nil, take_more}
-use Rattle.std.specs.List.{flat_map}
 use Rattle.hc_model.specs.declared.mapping.Redirect.{Redirect}
-use Rattle.hc_model.specs.declared.section.Allowed.{Allowed}
 use Rattle.hc_model.specs.declared.section.Body.{out-Body}
-use Rattle.hc_model.specs.declared.section.Section.{Section}
 use Rattle.hc_merge.specs.CandidateView.{candidate_of}
-use Rattle.hc_merge.specs.Order.{Candidate, Path, allowed_behind, allows_nothing, at_directory, first_group, no_files, override_at, sections_at}
+use Rattle.std.specs.List.{flat_map}
+use Rattle.hc_model.specs.declared.section.Section.{Section}
+use Rattle.hc_merge.specs.Candidates.{Candidate}
+use Rattle.hc_merge.specs.Order.{tops}
+use Rattle.hc_merge.specs.declared.group.Group.{Group}
 use Rattle.hc_merge.specs.Settings.{redirects_of}
-use Rattle.hc_merge.specs.declared.order.Candidate as code
+use Rattle.hc_merge.specs.declared.candidate.Candidate as code
 
 abbrev own : Candidate → List Redirect
 own candidate = (out-Body candidate.body).redirects
@@ -29,15 +30,10 @@ redirects_step kept d done within =
     let left : length kept - (done + 1) ≡ length kept - 1 - done = omega (arith, within) in
     rw (place, left, take_more kept (length kept - 1 - done) d (omega (arith, within))) (redirects_end (take (length kept - 1 - done) kept) (get_or kept (length kept - 1 - done) d))
 
-none_read : (dir : Path) (allowed : Allowed) → override_at no_files dir allowed ≡ []
-none_read dir allowed = by (allows_nothing allowed) where
-  by : (b : Bool) → (let none : List Candidate = [] in (if b then none else none) ≡ none)
-  by true = refl
-  by false = refl
+-- ---- the sections of two servers
 
-pub first_without_files : (lists : List (List Section)) (so_far : Allowed) (dirs : List Path)
-    → first_group lists no_files so_far dirs ≡ flat_map (λ dir. map (at_directory dir) (sections_at lists dir)) dirs
-first_without_files lists so_far [] = refl
-first_without_files lists so_far (dir ∷ dirs) =
-    rw (none_read dir (allowed_behind so_far (sections_at lists dir)), append-nil (map (at_directory dir) (sections_at lists dir)))
-    (ap (λ rest. map (at_directory dir) (sections_at lists dir) ++ rest) (first_without_files lists (allowed_behind so_far (sections_at lists dir)) dirs))
+pub two_tops : (group : Group) (before middle later : List Candidate) (main host : List Section) → middle ≡ before ++ tops group main
+    → later ≡ middle ++ tops group host → later ≡ before ++ flat_map (tops group) (main ∷ host ∷ [])
+two_tops group before middle later main host is further =
+    further ∙ ap (λ front. front ++ tops group host) is ∙ append_assoc before (tops group main) (tops group host)
+    ∙ ap (λ more. before ++ (tops group main ++ more)) (sym (append-nil (tops group host)))

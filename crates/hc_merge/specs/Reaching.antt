@@ -8,7 +8,7 @@ use Rattle.hc_model.specs.declared.section.Reach.{Reach}
 use Rattle.hc_model.specs.declared.section.Reach.TheVariants.{Dir, DirSearch, Files, Location, LocationGlob, LocationSearch, When}
 use Rattle.hc_pattern.specs.Pattern.{Pattern}
 use Rattle.hc_ways.specs.Kept.{first_match}
-use Rattle.hc_merge.specs.Order.{Candidate}
+use Rattle.hc_merge.specs.Candidates.{Candidate}
 
 abbrev pub is_found : Pattern → List ℕ → Bool
 is_found pattern text = is_some (first_match text pattern)

@@ -17,7 +17,9 @@ use Rattle.hc_model.specs.declared.section.Effective.{Effective}
 use Rattle.hc_model.specs.declared.section.OptStep.{OptStep}
 use Rattle.hc_merge.specs.declared.settings.TheConstants.{FOLLOW_LINKS, LINKS_IF_OWNER_MATCH}
 use Rattle.hc_model.specs.declared.walk.Walk.{Walk}
-use Rattle.hc_merge.specs.Order.{Candidate, Files_at, ordered_sections, servers_merged}
+use Rattle.hc_merge.specs.Candidates.{Candidate, servers_merged}
+use Rattle.hc_merge.specs.Order.{ordered_sections}
+use Rattle.hc_merge.specs.Overriding.{Files_at}
 use Rattle.hc_merge.specs.Reaching.{kept_by}
 
 -- ---- Options

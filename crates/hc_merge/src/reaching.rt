@@ -4,7 +4,7 @@ ghost use Rattle.hc_merge.specs.CandidateView.{candidate_of, candidates_of};
 ghost use Rattle.hc_merge.specs.Reaching.{applies, holds_at, is_at, is_component_found, is_found, is_kept};
 ghost use Rattle.hc_merge.specs.Reaching.{kept_by, last_component, reaches};
 
-use crate::order::Candidate;
+use crate::candidate::Candidate;
 use hc_alias::is_below;
 use hc_base::NoMemory;
 use hc_base::paths::{begins_with_slash, ends_with_slash};

@@ -1,7 +1,8 @@
 ghost use Rattle.std.specs.Prelude.{◌≡◌, ◌++◌, map, IfOk};
 ghost use Rattle.std.specs.List.{fold, list_any};
 ghost use Rattle.hc_merge.specs.CandidateView.{candidate_of, candidates_of};
-ghost use Rattle.hc_merge.specs.Order.{no_files, servers_merged};
+ghost use Rattle.hc_merge.specs.Candidates.{servers_merged};
+ghost use Rattle.hc_merge.specs.Overriding.{AreLoaded, files_read, wanted_by};
 ghost use Rattle.hc_merge.specs.Settings as definition;
 ghost use Rattle.hc_merge.specs.Settings.{event_of, follows, is_among, is_on, merged, on_after, on_at_sections};
 ghost use Rattle.hc_merge.specs.Settings.{on_at_servers, redirects_of, require_of, still_on};
@@ -9,12 +10,13 @@ ghost use Rattle.hc_authz.specs.Joined.{joined_behind};
 ghost use Rattle.hc_model.specs.declared.section.Body.{out-Body};
 ghost use Rattle.hc_vhost.specs.Servers.{IsHostOf};
 
-use crate::order::{Candidate, ordered_sections};
+use crate::candidate::Candidate;
+use crate::order::ordered_sections;
 use crate::reaching::kept_by;
 use hc_authz::join;
 use hc_base::{List, NoMemory};
 use hc_model::{
-    Body, Config, Effective, Event, HostId, OptStep, Redirect, ReqTree, Spot, View, Walk,
+    Body, Config, Effective, Event, HostId, OptStep, Overrides, Redirect, ReqTree, View, Walk,
 };
 use hc_vhost::server_at;
 use std::alloc::Global;
@@ -25,19 +27,21 @@ const FOLLOW_LINKS: u8 = 5;
 const LINKS_IF_OWNER_MATCH: u8 = 6;
 
 /// What is in force for a file name: the sections that apply, merged (Apache manual, "How the sections are
-/// merged"). No `.htaccess` is read yet.
-pub fn effective(
+/// merged"). The `.htaccess` of each directory of the walk in which something is allowed has to be loaded.
+pub fn effective<O: Overrides>(
     alloc: Global,
     config: &Config,
     host: HostId,
     walk: &Walk,
     view: &View,
+    over: &O,
 ) -> Result<Effective, NoMemory>
-    requires { IsHostOf config.now host }
-    ensures { IfOk result (λ effective.
-        effective ≡ definition.effective config.now host walk.now view.now no_files) }
+    requires host { IsHostOf config.now host }
+    requires loaded { AreLoaded (O.loaded over.now) (wanted_by config.now host walk.now.dirs) }
+    ensures { IfOk result (λ effective. effective
+        ≡ definition.effective config.now host walk.now view.now (files_read (O.reading over.now))) }
 {
-    let sections = ordered_sections(alloc, config, host, walk)?;
+    let sections = ordered_sections(alloc, config, host, walk, over)?;
     let kept = kept_by(alloc, view, &sections)?;
     merge_sections(alloc, config, host, &kept)
 }
@@ -191,11 +195,7 @@ fn events_of(alloc: Global, kept: &[Candidate<'_>]) -> Result<List<Event>, NoMem
 fn event_of(candidate: &Candidate<'_>) -> Result<Event, NoMemory>
     ensures { IfOk result (λ event. event ≡ event_of (candidate_of candidate.now)) }
 {
-    let place = candidate.place.clone()?;
     Ok(Event::Section {
-        spot: Spot {
-            place,
-            span: candidate.span,
-        },
+        spot: candidate.origin.spot()?,
     })
 }

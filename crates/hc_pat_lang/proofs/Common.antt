@@ -23,7 +23,7 @@ pub use Rattle.hc_pat_lang.specs.Matching.{IsFull, LooksFor, first_nodes, IsRunO
 pub use Rattle.hc_pat_lang.specs.Merging.{IsOther, IsOtherBelow, IsPass, IsPassBelow, IsSlash, IsSlashBelow}
 pub use Rattle.hc_pat_lang.specs.Nodes.{Takes, AreNodes}
 pub use Rattle.hc_pat_lang.specs.Sets.{AcceptsOnly, IsJoined, IsMerged, IsRest, IsFront}
-pub use Rattle.hc_pat_lang.specs.Turned.{leaves_out, part_ways, seen, step_by, chosen_any, chosen_behind, chosen_then, chosen_up_to, chosen_ways, step_node, group_ways, seen_in, marked_byte, plain_byte, chosen_repeated, has_turn, takes_a_byte}
+pub use Rattle.hc_pat_lang.specs.Turned.{leaves_out, part_ways, seen, step_by, chosen_any, chosen_behind, chosen_then, chosen_up_to, chosen_ways, step_node, group_ways, seen_in, marked_byte, plain_byte, chosen_repeated, has_turn}
 pub use Rattle.hc_pat_lang.specs.Walked.{IsMarked, byte_of, marks, unmarked, IsDone, Passes, PassesMarked, Place, ReadsMarked, Sound, AddsPass, AddsRead, Grew, IsAlike, IsLast, IsPlace, Reaches, Tied, Walks}
 pub use Rattle.hc_pat_lang.specs.Walked.Passes.{to_first, to_second, past_byte}
 pub use Rattle.hc_pat_lang.specs.Walked.PassesMarked.{past_marked}
@@ -38,6 +38,7 @@ pub use Rattle.hc_pattern.specs.Pattern.{Pattern, empty, byte, class, start, fin
 pub use Rattle.hc_pattern.specs.declared.set.ByteSet.{ByteSet}
 pub use Rattle.hc_ways.proofs.Lists.{Each-append, Each-filter, Each-flat_map, Each-map}
 pub use Rattle.hc_ways.proofs.Behind.{behind-behind, behind-preferred, behind-stop, turn_or_next, same_ways}
-pub use Rattle.hc_ways.proofs.Turns.{Below, Bounded, any_turns_is, bounded, bounded_behind, bounded_either, bounded_if, bounded_repeated, bounded_stop, enough_turns, first_turn, first_turn_of_any}
+pub use Rattle.hc_ways.proofs.Turns.{Below, Bounded, any_turns_is, bounded, bounded_behind, bounded_either, bounded_if, bounded_repeated, bounded_stop, enough_turns}
 pub use Rattle.hc_ways.specs.Kept.{Turns, with_turn, all_ways, Held, first_match, first_of, held_after, held_by, last_of_turns, match_among, match_at, nothing_held, with_group}
 pub use Rattle.hc_ways.specs.Ways.{Ways, none, stop, behind, either, meets, closed, preferred, moving, any_turns, turns_up_to, turns_then, repeated, Way, grouped, stop_where, step_where}
+pub use Rattle.hc_ways.specs.Taking.{takes_a_byte}

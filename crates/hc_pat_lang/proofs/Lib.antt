@@ -18,7 +18,6 @@ pub mod Bounds
 pub mod Seeing
 pub mod Unmarked
 pub mod Turning
-pub mod Taking
 pub mod Choosing
 pub mod Marking
 pub mod Walking

@@ -2,8 +2,8 @@
 use Rattle.hc_pat_lang.proofs.Common.{◌≡◌, ℕ, zero, suc, ◌+◌, ◌-◌, ◌<◌, ◌≤◌, ◌⊎◌, Bool, true, false, List, [], ◌∷◌, ◌++◌, length, if◌then◌else◌, nat_lt, nat_eq, Some, None, slice_get, refl, sym, ◌∙◌, ap, subst, inl, inr, arith, eq-eqb, ltb-true, lt-ltb, Contains, Contains-push_cases, Span, has_byte, Pattern, empty, byte, class, start, finish, cat, alt, group, repeat, Way, Ways, none, stop, behind, either, meets, closed, grouped, preferred, moving, any_turns, turns_up_to, turns_then, Turns, all_ways, with_turn, behind-behind, behind-preferred, Bounded, any_turns_is, bounded, enough_turns, Exists, chosen_any, chosen_behind, chosen_then, chosen_up_to, chosen_ways, part_ways, takes_a_byte, seen, GroupPart, Outside, Inside}
 use Rattle.hc_pat_lang.proofs.Bounds.{bounded_part}
 use Rattle.hc_pat_lang.proofs.Choosing.{SeenOutside, SeesAll, fresh, sees_all, sees_rest, to_others}
-use Rattle.hc_pat_lang.proofs.Parts.{some_filtered, some_mapped, all_among, exists_as, exists_left, exists_right, exists_cases, if_exists, is_among, on_right, some_is, some_preferred, some_turn_or_next, to_flat, from_flat, exists_among, among_exists, exists_with, then_one}
-use Rattle.hc_pat_lang.proofs.Taking.{Takes, takes}
+use Rattle.hc_pat_lang.proofs.Parts.{some_filtered, some_mapped, all_among, exists_as, exists_left, exists_right, exists_cases, if_exists, is_among, on_right, some_is, some_preferred, some_turn_or_next, to_flat, from_flat, exists_among, among_exists, then_one}
+use Rattle.hc_ways.proofs.Bytes.{moves}
 use Rattle.std.proofs.lemmas.List.Elements.{Contains-append_cases}
 use Rattle.hc_pat_lang.proofs.Seeing.{Grown, sees_any, sees_behind, sees_moving, sees_part, sees_then, sees_up_to}
 
@@ -158,13 +158,12 @@ module _ (marked text : List ℕ) (same : length marked ≡ length text) (reads 
       all_rest = sees_rest marked text same reads number greedy l a b first fits
 
       -- Where each turn moves, turns of which one has to be are among any number of them.
-      from_some : Takes text b → FromChosen result (behind b others)
+      from_some : moving b ≡ b → FromChosen result (behind b others)
       from_some moves at one other way within among turn =
-          let moved = to_flat _ (λ (w : Way Turns). others w.end w.held) (moving b at other) ((some_filtered _ (λ w. nat_lt at w.end) (b at other)).1
-          (exists_with _ _ _ (b at other) (moves at other within) (λ w less here. (here, lt-ltb at w.end less.0)) (from_flat (λ (w : Way Turns). w ≡ way) (λ (w : Way Turns). others w.end w.held) (b at other) (some_is _ way among)))) in
+          let moved = subst (λ (ways : Ways Turns). Exists (λ (w : Way Turns). w ≡ way) (behind ways others at other)) (sym moves) (some_is _ way among) in
           from_any at one other way within (is_among (others at other) way (to_others marked text same reads number greedy l a b first fits _ at other moved)) turn
 
-      from_endless : (each : Bool) (least : ℕ) → (each ≡ true → Takes text b)
+      from_endless : (each : Bool) (least : ℕ) → (each ≡ true → moving b ≡ b)
           → FromChosen (if each then chosen_then l a (least - 1) (behind l rest) result else chosen_then l a least rest result) (turns_then b least others)
       from_endless true (suc least) moves =
           let less : suc least - 1 ≡ least = omega arith in
@@ -218,7 +217,7 @@ module _ (marked text : List ℕ) (same : length marked ≡ length text) (reads 
   from_chosen (group own body) = from_group own body (from_chosen body)
   from_chosen (repeat body least None greedy) =
       from_endless greedy _ _ _ (sees_all marked text same reads number body) (from_chosen body) (bounded_part Outside marked body) (bounded with_turn text body) (takes_a_byte body) least
-      (takes text (λ pattern. (sees_all marked text same reads number pattern).grown) body)
+      (moves with_turn text body)
   from_chosen (repeat body least (Some most) greedy) =
       from_if (nat_lt most least) _ _
       (from_then _ _ _ least _ _ _ (sees_all marked text same reads number body) (from_chosen body) (sees_up_to Outside marked text same (reads Outside) greedy _ _ (most - least) (sees_all marked text same reads number body))

@@ -1,10 +1,11 @@
 -- The ways of a pattern through a text in which the bytes of one turn of a group are marked.
-use Rattle.std.specs.Prelude.{ℕ, zero, suc, ◌+◌, ◌-◌, ◌==◌, ◌||◌, ◌&&◌, nat_lt, Bool, true, false, List, [], length, Option, None, Some, if◌then◌else◌, slice_get}
+use Rattle.std.specs.Prelude.{ℕ, zero, suc, ◌+◌, ◌-◌, ◌==◌, ◌||◌, Bool, false, List, [], length, Option, None, Some, if◌then◌else◌, nat_lt, slice_get}
 use Rattle.hc_pattern.specs.Bits.{has_byte}
 use Rattle.hc_pattern.specs.Pattern.{Pattern, empty, byte, class, start, finish, cat, alt, group, repeat}
 use Rattle.hc_pattern.specs.declared.set.ByteSet.{ByteSet}
 use Rattle.hc_ways.specs.Ways.{Ways, any_turns, behind, either, grouped, meets, moving, none, repeated, stop, stop_where, turns_then, turns_up_to}
 use Rattle.hc_ways.specs.Kept.{Turns, with_turn}
+use Rattle.hc_ways.specs.Taking.{takes_a_byte}
 use Rattle.hc_pat_lang.specs.declared.build.Times.{Times}
 use Rattle.hc_pat_lang.specs.declared.gates.GroupPart.{GroupPart}
 use Rattle.hc_pat_lang.specs.declared.gates.GroupPart.TheVariants.{Outside, Inside, Without}
@@ -73,18 +74,6 @@ has_turn number (cat first second) = has_turn number first || has_turn number se
 has_turn number (alt first second) = has_turn number first || has_turn number second
 has_turn number (group own body) = (own == number) || has_turn number body
 has_turn number (repeat body least most greedy) = has_turn number body
-
--- As far as its form tells, each way takes at least one byte.
-abbrev pub takes_a_byte : Pattern → Bool
-takes_a_byte empty = false
-takes_a_byte (byte b) = true
-takes_a_byte (class set) = true
-takes_a_byte start = false
-takes_a_byte finish = false
-takes_a_byte (cat first second) = takes_a_byte first || takes_a_byte second
-takes_a_byte (alt first second) = takes_a_byte first && takes_a_byte second
-takes_a_byte (group own body) = takes_a_byte body
-takes_a_byte (repeat body least most greedy) = nat_lt 0 least && takes_a_byte body
 
 -- The chosen turn is in the first, or in the second behind it.
 abbrev pub chosen_behind : Ways Turns → Ways Turns → Ways Turns → Ways Turns → Ways Turns

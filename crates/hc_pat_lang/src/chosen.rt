@@ -2,7 +2,7 @@ ghost use Rattle.std.specs.Prelude.{◌≡◌, ◌-◌, ◌==◌, ◌≤◌, Boo
 ghost use Rattle.std.specs.Prelude.{None, if◌then◌else◌, length};
 ghost use Rattle.hc_pattern.specs.Pattern.{group, pattern_of, repeat};
 ghost use Rattle.hc_pat_lang.specs.Fragments.{AreTurns, IsFragment, IsReady};
-ghost use Rattle.hc_pat_lang.specs.Turned.{any_chosen, chosen_ways, has_turn, part_ways, takes_a_byte, then_chosen};
+ghost use Rattle.hc_pat_lang.specs.Turned.{any_chosen, chosen_ways, has_turn, part_ways, then_chosen};
 ghost use Rattle.hc_pat_lang.specs.Turned.{times_of, up_to_chosen};
 ghost use Rattle.hc_pat_lang.specs.declared.gates.Gate.{Gate as G};
 ghost use Rattle.hc_pat_lang.specs.declared.nodes.Node.{Node as N};
@@ -15,6 +15,7 @@ use crate::gates::{Gate, GroupPart};
 use crate::nodes::Nodes;
 use hc_base::NoMemory;
 use hc_pattern::Pat;
+use hc_ways::takes_a_byte;
 
 /// Where the turns of a repeat begin: all ways of them, and those with a chosen turn of a group.
 #[derive(Clone, Copy)]
@@ -40,21 +41,6 @@ fn has_group(pat: &Pat, number: u8) -> bool
             *own == number || inner
         }
         Pat::Repeat(body, _, _, _) => has_group(body, number),
-    }
-}
-
-/// As far as its form tells, each way of the pattern takes at least one byte.
-#[cycle(takes_a_byte)]
-fn takes_a_byte(pat: &Pat) -> bool
-    ensures { result ≡ takes_a_byte (pattern_of pat.now) }
-{
-    match pat {
-        Pat::Empty | Pat::Start | Pat::Finish => false,
-        Pat::Byte(_) | Pat::Class(_) => true,
-        Pat::Cat(first, second) => takes_a_byte(first) || takes_a_byte(second),
-        Pat::Alt(first, second) => takes_a_byte(first) && takes_a_byte(second),
-        Pat::Group(_, body) => takes_a_byte(body),
-        Pat::Repeat(body, least, _, _) => *least > 0 && takes_a_byte(body),
     }
 }
 

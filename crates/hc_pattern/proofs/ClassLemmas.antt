@@ -1,6 +1,7 @@
 -- How a class is read.
 use Rattle.hc_pattern.proofs.Common.{◌≡◌, ℕ, zero, suc, ◌+◌, ◌-◌, ◌<◌, ◌≤◌, ◌==◌, Bool, true, false, not, ◌&&◌, ◌||◌, List, [], ◌∷◌, ◌++◌, nat_lt, length, drop, take, get_or, refl, sym, ap, ◌∙◌, append_assoc, arith, eqb-true, lt-ltb, nat_tests, map-append, map}
 use Rattle.hc_pattern.proofs.Rests.{next_item, rest_is}
+use Rattle.std.specs.Char.{eq_ignore_ascii_case, to_ascii_lowercase, to_ascii_uppercase}
 use Rattle.hc_pattern.specs.ClassViews.{placed_view}
 use Rattle.hc_pattern.specs.Members.{Member, Written, member_at}
 use Rattle.hc_pattern.specs.declared.class.Placed.{Placed as PlacedOfBytes}
@@ -29,6 +30,10 @@ byte_left test has n b is unmet = left_step (test b) has n b _ refl is (λ same.
 
 pub all_bytes : (test : Bool) (n b : ℕ) → b < 256 → 256 ≤ n → (nat_lt b n && test) ≡ test
 all_bytes test n b within all = rw (lt-ltb b n (omega arith)) refl
+
+-- A byte is a letter in one of its cases.
+pub either_case : (a b : ℕ) → ((false || (b == to_ascii_lowercase a)) || (b == to_ascii_uppercase a)) ≡ eq_ignore_ascii_case a b
+either_case a b = grind (arith, nat_tests)
 
 -- ---- members
 

@@ -1,8 +1,9 @@
 -- The names that the proofs of this crate cite, passed on from one place. Declares nothing.
-pub use Rattle.std.proofs.Common.{◌≡◌, ℕ, ◌+◌, ◌*◌, ◌<◌, ◌≤◌, Bool, true, false, ◌&&◌, ◌||◌, List, [], ◌∷◌, ◌++◌, min, Option, Some, None, if◌then◌else◌, length, ◌==◌, refl, ap, ◌∙◌, ⊎_elim, nat_lt, le-ltb, ltb-false, arith, zero, suc, ◌-◌, not, drop, take, get_or, sym, append_assoc, eqb-true, lt-ltb, Result, Ok, Err, Box, Global, length-drop, add-one, ◌%◌, ◌^◌, ◌≢◌, nat_le, max, eq-eqb, true≢false, vec_len}
+pub use Rattle.std.proofs.Common.{◌≡◌, ℕ, ◌+◌, ◌*◌, ◌<◌, ◌≤◌, Bool, true, false, ◌&&◌, ◌||◌, List, [], ◌∷◌, ◌++◌, min, Option, Some, None, if◌then◌else◌, length, ◌==◌, refl, ap, ◌∙◌, ⊎_elim, nat_lt, le-ltb, ltb-false, arith, zero, suc, ◌-◌, not, drop, take, get_or, sym, append_assoc, eqb-true, lt-ltb, Result, Ok, Err, Box, Global, length-drop, add-one, ◌%◌, ◌^◌, ◌≢◌, nat_le, max, inl, inr, eq-eqb, true≢false, vec_len}
 pub use Rattle.std.proofs.Math.Bool.{or-false, or-true, and-true, or_assoc}
 pub use Rattle.std.proofs.lemmas.Bool.Decides.{nat_tests}
 pub use Rattle.std.proofs.lemmas.List.{map-append, reverse-append, take_all}
+pub use Rattle.std.specs.List.{list_any}
 pub use Rattle.std.specs.Prelude.{map, option_map, reverse}
 pub use Rattle.hc_pattern.specs.Bits.{has_bit, has_byte, set_where, IsTest}
 unfoldable pub use Rattle.hc_pattern.specs.Bits.{bits_where}

@@ -1,7 +1,8 @@
 -- The bits of a set.
-use Rattle.hc_pattern.proofs.Common.{◌≡◌, ℕ, zero, suc, ◌-◌, ◌*◌, ◌%◌, ◌^◌, ◌<◌, ◌≤◌, ◌≢◌, ◌==◌, Bool, true, false, not, ◌||◌, ◌&&◌, ◌+◌, nat_le, if◌then◌else◌, max, nat_lt, refl, sym, ap, ◌∙◌, arith, eq-eqb, eqb-true, true≢false, le-ltb, lt-ltb, or-false, or-true, nat_tests, bits_where, has_bit, has_byte, set_where}
-use Rattle.std.proofs.lemmas.Nat.Bits.{bit_at_or, bit_at-lt, bit_at_not, bit_at_set_same, bit_at_set_other, bit_at_above, bit_at_cat_high, bit_at_cat_low, same_from_bits_below}
-use Rattle.std.proofs.Math.Nat.{pow-suc}
+use Rattle.hc_pattern.proofs.Common.{◌≡◌, ℕ, zero, suc, ◌-◌, ◌*◌, ◌%◌, ◌^◌, ◌<◌, ◌≢◌, ◌==◌, Bool, true, false, not, ◌||◌, ◌&&◌, ◌+◌, nat_le, if◌then◌else◌, inl, inr, min, max, nat_lt, refl, sym, ap, ◌∙◌, arith, eq-eqb, eqb-true, true≢false, le-ltb, lt-ltb, or-false, or-true, nat_tests, bits_where, has_bit, has_byte, set_where}
+use Rattle.std.proofs.lemmas.Bool.{cases_lt}
+use Rattle.std.proofs.lemmas.Nat.Bits.{bit_at_mask_above, bit_at_mask_below, bit_at_mask_inside, bit_at_or, bit_at-lt, bit_at_not, bit_at_set_same, bit_at_set_other, bit_at_above, bit_at_cat_high, bit_at_cat_low, same_from_bits_below}
+use Rattle.std.proofs.Math.Nat.{one-le-pow, pow-suc}
 use Rattle.std.specs.Int.{w128}
 use Rattle.std.specs.Int.RustNames.{bit_or}
 use Rattle.hc_pattern.specs.declared.set.ByteSet.{ByteSet}
@@ -41,17 +42,27 @@ union_step false a b c d i j = has_bit_or c d j
 pub has_byte_union : (s t : ByteSet) (byte : ℕ) → has_byte (record { low = bit_or s.low t.low; high = bit_or s.high t.high }) byte ≡ (has_byte s byte || has_byte t byte)
 has_byte_union s t byte = union_step (nat_lt byte 128) s.low t.low s.high t.high byte (byte - 128)
 
--- ---- a range, byte by byte: the bytes from `from` on, below k and up to `to`
+-- ---- the bits from one place on and below another
 
-pub between_more : (now whole : Bool) (from to k other : ℕ) → from ≤ k → k ≤ to → now ≡ (whole || (nat_le from other && (nat_lt other k && nat_le other to)))
-    → (now || (other == k)) ≡ (whole || (nat_le from other && (nat_lt other (k + 1) && nat_le other to)))
-between_more now true from to k other low high is = rw is refl
-between_more now false from to k other low high is = rw is (grind (arith, nat_tests))
+between : (from below place : ℕ) → has_bit (2 ^ below - 2 ^ from) place ≡ (nat_le from place && nat_lt place below)
+between from below place = elim (cases_lt place from) [
+  | inl before ↦ rw (bit_at_mask_below from below place before) (grind (arith, nat_tests))
+  | inr after ↦ elim (cases_lt place below) [
+    | inl within ↦ rw (bit_at_mask_inside from below place after within) (grind (arith, nat_tests))
+    | inr past ↦ rw (bit_at_mask_above from below place past) (grind (arith, nat_tests))
+  ]
+]
 
-pub between_past : (now whole : Bool) (from to k other : ℕ) → to < k → now ≡ (whole || (nat_le from other && (nat_lt other k && nat_le other to)))
-    → now ≡ (whole || (nat_le from other && nat_le other to))
-between_past now true from to k other past is = is
-between_past now false from to k other past is = is ∙ grind (arith, nat_tests)
+pub has_bits_between : (bits from below place : ℕ) → has_bit (bit_or bits (2 ^ below - 1 - (2 ^ from - 1))) place ≡ (has_bit bits place || (nat_le from place && nat_lt place below))
+has_bits_between bits from below place =
+    let e : 2 ^ below - 1 - (2 ^ from - 1) ≡ 2 ^ below - 2 ^ from = omega (arith, one-le-pow from 2 (omega arith)) in
+    has_bit_or bits _ place ∙ ap (λ v. has_bit bits place || v) (rw e (between from below place))
+
+pub has_range : (low high x y : Bool) (from to byte a b k m : ℕ) (v : Bool) → nat_lt byte 128 ≡ v → a ≡ min from 128 → b ≡ min to 127 → k ≡ from - 128 → m ≡ to - 127
+    → low ≡ (x || (nat_le a byte && nat_lt byte (b + 1))) → high ≡ (y || (nat_le k (byte - 128) && nat_lt (byte - 128) m))
+    → (if v then low else high) ≡ ((if v then x else y) || (nat_le from byte && nat_le byte to))
+has_range low high x y from to byte a b k m true is begins ends more past here other = here ∙ ap (λ v. x || v) (grind (arith, nat_tests))
+has_range low high x y from to byte a b k m false is begins ends more past other here = here ∙ ap (λ v. y || v) (grind (arith, nat_tests))
 
 -- ---- a set by its test
 

@@ -1,17 +1,18 @@
 //! The tree of a pattern, built from its last token on.
-ghost use Rattle.std.specs.Prelude.{◌≡◌, [], IfOk, map, option_map, reverse};
-ghost use Rattle.hc_pattern.specs.Tokens.{bars, closes, counts, item, opens};
+ghost use Rattle.std.specs.Prelude.{◌≡◌, [], IfOk, OnOk, map, option_map, reverse};
+ghost use Rattle.hc_pattern.specs.Tokens.{bars, closes, opens};
 ghost use Rattle.hc_pattern.specs.Building.{body_known, counted_known, new_known, token_known, whole_known};
 ghost use Rattle.hc_pattern.specs.KnownParts.{known};
 ghost use Rattle.hc_pattern.specs.BuildViews.{level_view, levels_view, part_view, place_view};
 ghost use Rattle.hc_pattern.specs.Syntax.{syntax_of};
-ghost use Rattle.hc_pattern.specs.TokenViews.{count_view, leaf_view, placed_view, token_view};
+ghost use Rattle.hc_pattern.specs.TokenViews.{placed_view, token_view};
 
 use crate::count::Count;
-use crate::part::{TreePart, before, either, group_part, leaf_part, nothing, turns_part};
-use crate::token::{Leaf, Placed, Token};
+use crate::part::{TreePart, either, group_part, leaf_part, nothing, put_before, turns_part};
+use crate::token::{Placed, Token};
 use hc_base::NoMemory;
 use std::alloc::Global;
+use std::mem::replace;
 
 /// What is read of the inside of a group, from its end: the alternative that is being read, the ones
 /// behind it, and a quantifier whose body is still to come.
@@ -62,16 +63,14 @@ fn counted(alloc: Global, count: Option<(u32, Count)>, body: TreePart) -> Result
     }
 }
 
-fn with_body(alloc: Global, body: TreePart, level: Level) -> Result<Level, NoMemory>
-    ensures { IfOk result (λ new. level_view new ≡ body_known (part_view body) (level_view level)) }
-{
-    let body = counted(alloc, level.count, body)?;
-    let sequence = before(alloc, body, level.sequence)?;
-    Ok(Level {
-        sequence,
-        others: level.others,
-        count: None,
-    })
+impl Level {
+    // Puts a part in front, with the turns that the quantifier behind it says.
+    fn put(&mut self, alloc: Global, body: TreePart) -> Result<(), NoMemory>
+        ensures { OnOk result (level_view self.new ≡ body_known (part_view body) (level_view self.old)) }
+    {
+        let body = counted(alloc, self.count.take(), body)?;
+        put_before(alloc, body, &mut self.sequence)
+    }
 }
 
 impl Levels {
@@ -83,98 +82,59 @@ impl Levels {
             outer: Vec::new(alloc),
         }
     }
-}
 
-// A group begins: what was read of its inside is a part of the level around it.
-fn open(alloc: Global, number: Option<u8>, levels: Levels) -> Result<Levels, NoMemory>
-    ensures { IfOk result (λ new. levels_view new ≡ token_known 0 (opens number) (levels_view levels)) }
-{
-    let Levels { inner, mut outer } = levels;
-    let around = match outer.pop() {
-        Some(level) => level,
-        None => new_level(),
-    };
-    let body = group_part(alloc, number, whole(alloc, inner)?)?;
-    Ok(Levels {
-        inner: with_body(alloc, body, around)?,
-        outer,
-    })
-}
-
-// A group ends, so its inside comes now.
-fn close(levels: Levels) -> Result<Levels, NoMemory>
-    ensures { IfOk result (λ new. levels_view new ≡ token_known 0 closes (levels_view levels)) }
-{
-    let Levels { inner, mut outer } = levels;
-    outer.push(inner)?;
-    Ok(Levels {
-        inner: new_level(),
-        outer,
-    })
-}
-
-fn next_alternative(alloc: Global, levels: Levels) -> Result<Levels, NoMemory>
-    ensures { IfOk result (λ new. levels_view new ≡ token_known 0 bars (levels_view levels)) }
-{
-    let Levels { inner, outer } = levels;
-    Ok(Levels {
-        inner: Level {
-            sequence: nothing(),
-            others: Some(whole(alloc, inner)?),
-            count: None,
-        },
-        outer,
-    })
-}
-
-fn with_leaf(alloc: Global, leaf: Leaf, levels: Levels) -> Result<Levels, NoMemory>
-    ensures { IfOk result (λ new. levels_view new ≡ token_known 0 (item (leaf_view leaf)) (levels_view levels)) }
-{
-    let Levels { inner, outer } = levels;
-    Ok(Levels {
-        inner: with_body(alloc, leaf_part(leaf), inner)?,
-        outer,
-    })
-}
-
-fn with_count(at: u32, count: Count, levels: Levels) -> Levels
-    ensures { levels_view result ≡ token_known at (counts (count_view count)) (levels_view levels) }
-{
-    let Levels { inner, outer } = levels;
-    let Level {
-        sequence,
-        others,
-        ..
-    } = inner;
-    Levels {
-        inner: Level {
-            sequence,
-            others,
-            count: Some((at, count)),
-        },
-        outer,
+    // A group begins: what was read of its inside is a part of the level around it.
+    fn open(&mut self, alloc: Global, number: Option<u8>) -> Result<(), NoMemory>
+        ensures { OnOk result (levels_view self.new ≡ token_known 0 (opens number) (levels_view self.old)) }
+    {
+        let around = match self.outer.pop() {
+            Some(level) => level,
+            None => new_level(),
+        };
+        let inner = replace(&mut self.inner, around);
+        let body = group_part(alloc, number, whole(alloc, inner)?)?;
+        self.inner.put(alloc, body)
     }
-}
 
-fn with_token(alloc: Global, placed: Placed, levels: Levels) -> Result<Levels, NoMemory>
-    ensures { IfOk result (λ new. levels_view new
-        ≡ token_known placed.at (token_view placed.token) (levels_view levels)) }
-{
-    match placed.token {
-        Token::Item(leaf) => with_leaf(alloc, leaf, levels),
-        Token::Opens(None) => open(alloc, None, levels),
-        Token::Opens(Some(number)) => {
-            // Only a pattern of over 32 groups has such a number, and that is refused before.
-            let Ok(number) = u8::try_from(number) else {
-                return Err(NoMemory);
-            };
-            open(alloc, Some(number), levels)
+    // A group ends, so its inside comes now.
+    fn close(&mut self) -> Result<(), NoMemory>
+        ensures { OnOk result (levels_view self.new ≡ token_known 0 closes (levels_view self.old)) }
+    {
+        let around = replace(&mut self.inner, new_level());
+        self.outer.push(around)?;
+        Ok(())
+    }
+
+    fn next_alternative(&mut self, alloc: Global) -> Result<(), NoMemory>
+        ensures { OnOk result (levels_view self.new ≡ token_known 0 bars (levels_view self.old)) }
+    {
+        let inner = replace(&mut self.inner, new_level());
+        self.inner.others = Some(whole(alloc, inner)?);
+        Ok(())
+    }
+
+    fn with_token(&mut self, alloc: Global, placed: &Placed) -> Result<(), NoMemory>
+        ensures { OnOk result (levels_view self.new
+            ≡ token_known placed.now.at (token_view placed.now.token) (levels_view self.old)) }
+    {
+        match placed.token {
+            Token::Item(leaf) => self.inner.put(alloc, leaf_part(leaf)),
+            Token::Opens(None) => self.open(alloc, None),
+            Token::Opens(Some(number)) => {
+                // Only a pattern of over 32 groups has such a number, and that is refused before.
+                let Ok(number) = u8::try_from(number) else {
+                    return Err(NoMemory);
+                };
+                self.open(alloc, Some(number))
+            }
+            Token::Closes => self.close(),
+            Token::Bars => self.next_alternative(alloc),
+            Token::Counts(count) => {
+                self.inner.count = Some((placed.at, count));
+                Ok(())
+            }
+            Token::Unclosed | Token::Broken(_) => Ok(()),
         }
-        Token::Closes => close(levels),
-        Token::Bars => next_alternative(alloc, levels),
-        Token::Counts(count) => Ok(with_count(placed.at, count, levels)),
-        Token::Unclosed => Ok(levels),
-        Token::Broken(_) => Ok(levels),
     }
 }
 
@@ -185,7 +145,7 @@ pub fn build(alloc: Global, tokens: &[Placed]) -> Result<TreePart, NoMemory>
     let mut levels = Levels::new(alloc);
     let mut rest = tokens;
     'tokens: while let Some((last, front)) = rest.split_last() {
-        levels = with_token(alloc, *last, levels)?;
+        levels.with_token(alloc, last)?;
         rest = front;
     }
     Ok(whole(alloc, levels.inner)?)

@@ -1,6 +1,6 @@
 ghost use Rattle.std.specs.Prelude.{◌≡◌, ℕ, ◌<◌, ◌≤◌, ◌+◌, ◌||◌, ◌&&◌, ◌∷◌, []};
 ghost use Rattle.std.specs.Prelude.{Bool, true, IfOk, MatchOption, length, map, not, ◌==◌, option_map};
-ghost use Rattle.hc_pattern.specs.Bits.{set_where};
+ghost use Rattle.hc_pattern.specs.Bits.{IsTested, has_byte, set_where};
 ghost use Rattle.hc_pattern.specs.Classes.{class_from, class_test, folded, is_hyphen, is_in_part, is_in_ranges, joined};
 ghost use Rattle.hc_pattern.specs.Classes.{part_of, part_refusal, parts_of, parts_refusal};
 ghost use Rattle.hc_pattern.specs.ClassViews.{class_view, part_view, placed_view};
@@ -10,7 +10,7 @@ ghost use Rattle.hc_pattern.specs.MemberViews.{member_view};
 
 use crate::ByteSet;
 use crate::member::{Member, member_at};
-use crate::set::set_where;
+use crate::set::{of_bits, set_where};
 use hc_base::codes::PATTERN_SYNTAX;
 use hc_base::{AtByte, NoMemory};
 use std::alloc::Global;
@@ -93,19 +93,6 @@ fn next_part(members: &[Placed]) -> Option<(ClassPart, &[Placed])>
     }
 }
 
-/// The parts of a class.
-pub fn parts_of(alloc: Global, members: &[Placed]) -> Result<Vec<ClassPart>, NoMemory>
-    ensures { IfOk result (λ parts. map part_view parts.items ≡ parts_of (map placed_view members.now)) }
-{
-    let mut parts = Vec::new(alloc);
-    let mut rest = members;
-    'members: while let Some((part, more)) = next_part(rest) {
-        parts.push(part)?;
-        rest = more;
-    }
-    Ok(parts)
-}
-
 fn part_refusal(part: ClassPart) -> Option<AtByte>
     ensures { result ≡ part_refusal (part_view part) }
 {
@@ -119,80 +106,84 @@ fn part_refusal(part: ClassPart) -> Option<AtByte>
     }
 }
 
-/// The first refusal, in reading from the left.
-pub fn parts_refusal(parts: &[ClassPart]) -> Option<AtByte>
-    ensures { result ≡ parts_refusal (map part_view parts.now) }
+/// The first refusal of a class, in reading from the left.
+pub fn class_refusal(members: &[Placed]) -> Option<AtByte>
+    ensures { result ≡ parts_refusal (parts_of (map placed_view members.now)) }
 {
-    for part in parts {
-        if let Some(refusal) = part_refusal(*part) {
+    let mut rest = members;
+    'members: while let Some((part, more)) = next_part(rest) {
+        if let Some(refusal) = part_refusal(part) {
             return Some(refusal);
         }
+        rest = more;
     }
     None
 }
 
-/// The byte is in one of the ranges.
-pub fn is_in_ranges(byte: u8, ranges: &[(u8, u8)]) -> bool
-    ensures { result ≡ is_in_ranges byte ranges.now }
+/// The set with the bytes of these ranges too.
+pub fn with_ranges(set: ByteSet, ranges: &[(u8, u8)]) -> ByteSet
+    ensures { (byte : ℕ) → has_byte result byte ≡ (has_byte set byte || is_in_ranges byte ranges.now) }
 {
-    ranges
-        .iter()
-        .any(|range| range.0 <= byte && byte <= range.1)
+    match ranges {
+        [] => set,
+        [(first, last), more @ ..] => with_ranges(set.with_range(*first, *last), more),
+    }
 }
 
-fn is_in_part(byte: u8, part: ClassPart) -> bool
-    ensures { result ≡ is_in_part byte (part_view part) }
+fn with_part(set: ByteSet, part: ClassPart) -> ByteSet
+    ensures { (byte : ℕ) → has_byte result byte ≡ (has_byte set byte || is_in_part byte (part_view part)) }
 {
     match part {
-        ClassPart::Range { first, last, .. } => first <= byte && byte <= last,
-        ClassPart::Set(ranges) => is_in_ranges(byte, ranges),
-        ClassPart::Broken(_) => false,
+        ClassPart::Range { first, last, .. } => set.with_range(first, last),
+        ClassPart::Set(ranges) => with_ranges(set, ranges),
+        ClassPart::Broken(_) => set,
     }
 }
 
-fn is_in_parts(byte: u8, parts: &[ClassPart]) -> bool
-    ensures { result ≡ list_any (is_in_part byte) (map part_view parts.now) }
+// The bytes of all parts.
+fn bytes_of(members: &[Placed]) -> ByteSet
+    ensures { (byte : ℕ) → has_byte result byte
+        ≡ list_any (is_in_part byte) (parts_of (map placed_view members.now)) }
 {
-    for part in parts {
-        if is_in_part(byte, *part) {
-            return true;
-        }
+    let mut set = ByteSet::empty();
+    let mut rest = members;
+    'members: while let Some((part, more)) = next_part(rest) {
+        set = with_part(set, part);
+        rest = more;
     }
-    false
+    set
 }
 
 // Without case, a letter is in where it or its other case is.
-fn is_folded_in(byte: u8, parts: &[ClassPart], nocase: bool) -> bool
-    ensures { result ≡ folded nocase (λ c. list_any (is_in_part c) (map part_view parts.now)) byte }
+fn is_folded_in(byte: u8, set: ByteSet) -> bool
+    ensures { result ≡ folded true (has_byte set) byte }
 {
-    if is_in_parts(byte, parts) {
-        return true;
-    }
-    if !nocase {
-        return false;
-    }
-    if is_in_parts(byte.to_ascii_lowercase(), parts) {
-        return true;
-    }
-    is_in_parts(byte.to_ascii_uppercase(), parts)
+    set.has(byte) || set.has(byte.to_ascii_lowercase()) || set.has(byte.to_ascii_uppercase())
 }
 
-// A complement is taken last.
-fn is_in_class(byte: u8, parts: &[ClassPart], nocase: bool, complement: bool) -> bool
-    ensures { result ≡ class_test nocase complement (map part_view parts.now) byte }
+fn either_case(set: ByteSet) -> ByteSet
+    ensures { IsTested result (folded true (has_byte set)) }
 {
+    set_where(|byte| is_folded_in(byte, set))
+}
+
+fn with_cases(set: ByteSet, nocase: bool) -> ByteSet
+    ensures { IsTested result (folded nocase (has_byte set)) }
+{
+    if nocase { either_case(set) } else { set }
+}
+
+/// The set of a class. A complement is taken last.
+pub fn class_set(members: &[Placed], nocase: bool, complement: bool) -> ByteSet
+    ensures { result ≡ set_where (class_test nocase complement (parts_of (map placed_view members.now))) }
+{
+    let set = with_cases(bytes_of(members), nocase);
     if complement {
-        !is_folded_in(byte, parts, nocase)
+        let others = set.complement();
+        of_bits(others.low, others.high)
     } else {
-        is_folded_in(byte, parts, nocase)
+        of_bits(set.low, set.high)
     }
-}
-
-/// The set of a class.
-pub fn class_set(parts: &[ClassPart], nocase: bool, complement: bool) -> ByteSet
-    ensures { result ≡ set_where (class_test nocase complement (map part_view parts.now)) }
-{
-    set_where(|byte| is_in_class(byte, parts, nocase, complement))
 }
 
 fn closes(byte: u8, first: bool) -> bool

@@ -9,9 +9,9 @@ ghost use Rattle.hc_pattern.specs.Tokens.{byte_item, class_sign, class_token, es
 ghost use Rattle.hc_pattern.specs.TokenViews.{sign_view, token_view};
 
 use crate::ByteSet;
-use crate::class::{Class, class_set, is_in_ranges, parts_of, parts_refusal, read_class};
+use crate::class::{Class, class_refusal, class_set, read_class, with_ranges};
 use crate::member::{Member, escape};
-use crate::set::set_where;
+use crate::set::of_bits;
 use crate::token::{Leaf, Sign, Token};
 use hc_base::NoMemory;
 use std::alloc::Global;
@@ -30,13 +30,17 @@ pub fn byte_item(nocase: bool, byte: u8) -> Token
 fn both_cases(byte: u8) -> ByteSet
     ensures { result ≡ set_where (eq_ignore_ascii_case byte) }
 {
-    set_where(|other| byte.eq_ignore_ascii_case(&other))
+    let set = ByteSet::empty()
+        .with(byte.to_ascii_lowercase())
+        .with(byte.to_ascii_uppercase());
+    of_bits(set.low, set.high)
 }
 
 fn set_of(ranges: &[(u8, u8)]) -> ByteSet
     ensures { result ≡ set_where (λ b. is_in_ranges b ranges.now) }
 {
-    set_where(|byte| is_in_ranges(byte, ranges))
+    let set = with_ranges(ByteSet::empty(), ranges);
+    of_bits(set.low, set.high)
 }
 
 fn member_item(nocase: bool, member: Member) -> Token
@@ -62,22 +66,16 @@ pub fn escape_sign(nocase: bool, at: u32, rest: &[u8]) -> Sign
 }
 
 // A class, by what stands behind its `[` and its `^`.
-fn class_token(
-    alloc: Global,
-    nocase: bool,
-    complement: bool,
-    class: &Class,
-) -> Result<Token, NoMemory>
-    ensures { IfOk result (λ token. token_view token ≡ class_token nocase complement (class_view class.now)) }
+fn class_token(nocase: bool, complement: bool, class: &Class) -> Token
+    ensures { token_view result ≡ class_token nocase complement (class_view class.now) }
 {
-    let parts = parts_of(alloc, &class.members)?;
-    if let Some(refusal) = parts_refusal(&parts) {
-        return Ok(Token::Broken(refusal));
+    if let Some(refusal) = class_refusal(&class.members) {
+        return Token::Broken(refusal);
     }
     if !class.closed {
-        return Ok(Token::Unclosed);
+        return Token::Unclosed;
     }
-    Ok(Token::Item(Leaf::Class(class_set(&parts, nocase, complement))))
+    Token::Item(Leaf::Class(class_set(&class.members, nocase, complement)))
 }
 
 /// A class, by what stands behind its `[`.
@@ -91,17 +89,15 @@ pub fn class_sign(alloc: Global, nocase: bool, at: u32, rest: &[u8]) -> Result<S
         }),
         [b'^', more @ ..] => {
             let class = read_class(alloc, at as usize + 2, more)?;
-            let token = class_token(alloc, nocase, true, &class)?;
             Ok(Sign {
-                token,
+                token: class_token(nocase, true, &class),
                 length: class.length + 2,
             })
         }
         _ => {
             let class = read_class(alloc, at as usize + 1, rest)?;
-            let token = class_token(alloc, nocase, false, &class)?;
             Ok(Sign {
-                token,
+                token: class_token(nocase, false, &class),
                 length: class.length + 1,
             })
         }

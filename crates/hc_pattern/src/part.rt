@@ -1,7 +1,7 @@
 //! Parts of a pattern, with what is known of each while its tree is built.
 ghost use Rattle.std.specs.Prelude.{◌≡◌, ◌+◌, ◌≤◌, ◌&&◌, ◌||◌, ◌==◌, if◌then◌else◌};
-ghost use Rattle.std.specs.Prelude.{Some, None, IfOk};
-ghost use Rattle.hc_pattern.specs.Building.{before_known, both_known, capped, either_known, group_known, group_pattern};
+ghost use Rattle.std.specs.Prelude.{Some, None, IfOk, OnOk};
+ghost use Rattle.hc_pattern.specs.Building.{before_known, capped, either_known, group_known, group_pattern};
 ghost use Rattle.hc_pattern.specs.Building.{kept, leaf_known, nothing_known, turns_known, turns_nodes};
 ghost use Rattle.hc_pattern.specs.BuildViews.{part_view};
 ghost use Rattle.hc_pattern.specs.Pattern.{alt, pattern_of, repeat};
@@ -16,6 +16,7 @@ use crate::pat::MOST_NODES;
 use crate::token::Leaf;
 use hc_base::NoMemory;
 use std::alloc::Global;
+use std::mem::replace;
 
 /// A part of a pattern: the pattern, but `Empty` where it has too many nodes; its nodes, of which one
 /// too many are as many as any more; whether it can match the empty text; and the first quantifier
@@ -82,20 +83,6 @@ pub fn leaf_part(leaf: Leaf) -> TreePart
         looping: None,
         is_nothing: false,
     }
-}
-
-fn both(alloc: Global, first: TreePart, second: TreePart) -> Result<TreePart, NoMemory>
-    ensures { IfOk result (λ part. part_view part ≡ both_known (part_view first) (part_view second)) }
-{
-    let nodes = capped(first.nodes.saturating_add(second.nodes));
-    let pat = cat(alloc, first.pat, second.pat)?;
-    Ok(TreePart {
-        pat: kept(nodes, pat),
-        nodes,
-        can_be_empty: first.can_be_empty && second.can_be_empty,
-        looping: first.looping.or(second.looping),
-        is_nothing: false,
-    })
 }
 
 fn alt(alloc: Global, first: Pat, second: Pat) -> Result<Pat, NoMemory>
@@ -218,11 +205,22 @@ pub fn turns_part(
     })
 }
 
-pub fn before(alloc: Global, first: TreePart, second: TreePart) -> Result<TreePart, NoMemory>
-    ensures { IfOk result (λ part. part_view part ≡ before_known (part_view first) (part_view second)) }
+/// Puts a part in front of another.
+pub fn put_before(alloc: Global, first: TreePart, second: &mut TreePart) -> Result<(), NoMemory>
+    ensures { OnOk result (part_view second.new ≡ before_known (part_view first) (part_view second.old)) }
 {
     if second.is_nothing {
-        return Ok(first);
+        *second = first;
+        return Ok(());
     }
-    both(alloc, first, second)
+    let nodes = capped(first.nodes.saturating_add(second.nodes));
+    let pat = cat(alloc, first.pat, replace(&mut second.pat, Pat::Empty))?;
+    *second = TreePart {
+        pat: kept(nodes, pat),
+        nodes,
+        can_be_empty: first.can_be_empty && second.can_be_empty,
+        looping: first.looping.or(second.looping),
+        is_nothing: false,
+    };
+    Ok(())
 }

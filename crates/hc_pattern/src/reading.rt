@@ -108,10 +108,15 @@ fn after_close(opened: &mut Vec<u32>, at: u32) -> AfterToken
     }
 }
 
-fn refusal_at(opened: &mut Vec<u32>, before: Before, placed: Placed) -> Result<AfterToken, NoMemory>
+fn refusal_at(
+    opened: &mut Vec<u32>,
+    before: Before,
+    placed: &Placed,
+) -> Result<AfterToken, NoMemory>
     ensures { IfOk result (λ next. (later : List ℕ → BeforeToken → Option AtByte)
         → NextIs next (reverse opened.new.items) later
-        (refusal_at (reverse opened.old.items) (before_view before) placed.at (token_view placed.token) later)) }
+        (refusal_at (reverse opened.old.items) (before_view before)
+        placed.now.at (token_view placed.now.token) later)) }
 {
     let at = placed.at;
     match placed.token {
@@ -135,7 +140,7 @@ pub fn first_refusal(alloc: Global, tokens: &[Placed]) -> Result<Option<AtByte>,
     let mut opened = Vec::new(alloc);
     let mut before = Before::Nothing;
     for placed in tokens {
-        match refusal_at(&mut opened, before, *placed)? {
+        match refusal_at(&mut opened, before, placed)? {
             AfterToken::Refused(refusal) => return Ok(Some(refusal)),
             AfterToken::Behind(now) => before = now,
         }
@@ -143,8 +148,8 @@ pub fn first_refusal(alloc: Global, tokens: &[Placed]) -> Result<Option<AtByte>,
     Ok(leftmost(&opened))
 }
 
-fn opens_one(token: Token) -> usize
-    ensures value { result ≡ opens_one (token_view token) }
+fn opens_one(token: &Token) -> usize
+    ensures value { result ≡ opens_one (token_view token.now) }
     ensures few { result ≤ 1 }
 {
     match token {
@@ -159,7 +164,7 @@ fn groups_of(tokens: &[Placed]) -> usize
 {
     let mut groups = 0usize;
     for placed in tokens {
-        groups += opens_one(placed.token);
+        groups += opens_one(&placed.token);
     }
     groups
 }

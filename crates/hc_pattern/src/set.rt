@@ -1,5 +1,5 @@
-ghost use Rattle.std.specs.Prelude.{◌≡◌, ℕ, ◌<◌, ◌≤◌, ◌==◌, Bool, false, not, ◌||◌, ◌&&◌};
-ghost use Rattle.std.specs.Prelude.{nat_le};
+ghost use Rattle.std.specs.Prelude.{◌≡◌, ℕ, ◌<◌, ◌≤◌, ◌-◌, ◌^◌, ◌==◌, ◌||◌, ◌&&◌};
+ghost use Rattle.std.specs.Prelude.{Bool, false, nat_le, nat_lt, not};
 ghost use Rattle.hc_pattern.specs.Bits.{IsTest, IsTested, has_bit, has_byte, set_where};
 
 /// A set of bytes, each by its bit. The bytes from 128 on have theirs in `high`.
@@ -23,6 +23,28 @@ fn with_bit(bits: u128, place: u8) -> u128
     bits | 1 << place
 }
 
+// The number with just its so many lowest bits set.
+fn ones(count: u8) -> u128
+    requires { count ≤ 128 }
+    ensures { result ≡ 2 ^ count - 1 }
+{
+    if count < 128 {
+        (1 << count) - 1
+    } else {
+        u128::MAX
+    }
+}
+
+// The bits, and those of the places from one on and below another.
+fn with_bits(bits: u128, from: u8, below: u8) -> u128
+    requires begins { from ≤ 128 }
+    requires ends { below ≤ 128 }
+    ensures { (place : ℕ) → has_bit result place
+        ≡ (has_bit bits place || (nat_le from place && nat_lt place below)) }
+{
+    bits | ones(below).saturating_sub(ones(from))
+}
+
 fn flipped(bits: u128) -> u128
     ensures { (place : ℕ) → place < 128 → has_bit result place ≡ not (has_bit bits place) }
 {
@@ -43,7 +65,7 @@ pub fn of_bits(low: u128, high: u128) -> ByteSet
 /// The set of the bytes that meet a test.
 pub fn set_where<F: Fn(u8) -> bool>(test: F) -> ByteSet
     requires { F.IsAlwaysCallable test }
-    ensures { (wanted : ℕ → Bool) → IsTest (F.post test) wanted → result ≡ set_where wanted }
+    ensures { (wanted : ℕ → Bool) → IsTest (F.post test) wanted → IsTested result wanted }
 {
     let mut set = ByteSet::empty();
     for number in 0..BYTE_VALUES {
@@ -52,7 +74,7 @@ pub fn set_where<F: Fn(u8) -> bool>(test: F) -> ByteSet
             set = set.with(byte);
         }
     }
-    of_bits(set.low, set.high)
+    set
 }
 
 impl ByteSet {
@@ -85,11 +107,10 @@ impl ByteSet {
         ensures { (byte : ℕ) → has_byte result byte
             ≡ (has_byte self byte || (nat_le from byte && nat_le byte to)) }
     {
-        let mut set = self;
-        for byte in u16::from(from)..u16::from(to) + 1 {
-            set = set.with(byte as u8);
+        ByteSet {
+            low: with_bits(self.low, from.min(128), to.min(127) + 1),
+            high: with_bits(self.high, from.saturating_sub(128), to.saturating_sub(127)),
         }
-        set
     }
 
     /// The bytes of either set.

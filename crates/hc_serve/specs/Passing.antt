@@ -15,7 +15,7 @@ use Rattle.hc_model.specs.declared.authorization.ReqTree.{ReqTree}
 use Rattle.hc_model.specs.declared.event.Authorized.{Authorized}
 use Rattle.hc_model.specs.declared.event.Authorized.TheVariants.{Denied, Granted, Neutral, Unasked}
 use Rattle.hc_model.specs.declared.request.Caller.{Caller}
-use Rattle.hc_merge.specs.Order.{no_files}
+use Rattle.hc_merge.specs.Overriding.{no_files}
 use Rattle.hc_merge.specs.Settings.{effective}
 use Rattle.hc_model.specs.declared.event.Event.{Event}
 use Rattle.hc_model.specs.declared.event.Event.TheVariants as event

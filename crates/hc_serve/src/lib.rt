@@ -8,6 +8,7 @@ mod name;
 mod pass;
 mod site;
 mod stage;
+mod unread;
 mod way;
 
 pub use answer::{Answer, WholeRun, evaluate, whole_run};

@@ -1,6 +1,6 @@
 ghost use Rattle.std.specs.Prelude.{◌≡◌, IfOk, OnOk};
 ghost use Rattle.hc_vhost.specs.Servers.{IsHostOf};
-ghost use Rattle.hc_merge.specs.Order.{no_files};
+ghost use Rattle.hc_merge.specs.Overriding.{no_files};
 ghost use Rattle.hc_merge.specs.Settings.{effective};
 ghost use Rattle.hc_serve.specs.Passing.{admitted, admitted_by, answered, begun, in_force, mapped_at, merged, named, outcome_at};
 ghost use Rattle.hc_serve.specs.Passing.{passed, passed_there, sections_told, seen_there, sent_by, sent_there};
@@ -15,10 +15,11 @@ use crate::admission::{FORBIDDEN, authorized, lets_in};
 use crate::name::{has_dots, merge_slashes};
 use crate::site::Asked;
 use crate::stage::{Here, Named, Pass, Stop, Walked};
+use crate::unread::NoFiles;
 use hc_alias::{Away, Mapped, directory_redirect, map_url};
 use hc_base::{Fault, NoMemory, copy_option};
-use hc_merge::effective;
-use hc_model::{Authorized, Event, Kind, Outcome, Reason, View, Walk};
+use hc_merge::{effective, load_walk};
+use hc_model::{Authorized, Effective, Event, Kind, Outcome, Reason, View, Walk};
 use hc_steps::Log;
 use hc_world::{World, follow};
 use std::alloc::Global;
@@ -161,8 +162,26 @@ fn with_force(alloc: Global, asked: &Asked<'_>, there: Walked) -> Result<Here, N
 {
     let Walked { named, walk } = there;
     let view = view_at(asked, &named, &walk)?;
-    let force = effective(alloc, asked.config, asked.host, &walk, &view)?;
+    let force = force_at(alloc, asked, &walk, &view)?;
     Ok(Here { named, walk, force })
+}
+
+// No `.htaccess` is read yet, so that none is refused.
+fn force_at(
+    alloc: Global,
+    asked: &Asked<'_>,
+    walk: &Walk,
+    view: &View,
+) -> Result<Effective, NoMemory>
+    requires { IsHostOf asked.now.config.now asked.now.host }
+    ensures { IfOk result (λ force. force
+        ≡ effective asked.now.config.now asked.now.host walk.now view.now no_files) }
+{
+    let mut over = NoFiles::new(alloc);
+    match load_walk(alloc, asked.config, asked.host, walk, &mut over) {
+        Ok(()) => effective(alloc, asked.config, asked.host, walk, view, &over),
+        Err(_) => Err(NoMemory),
+    }
 }
 
 fn view_at(asked: &Asked<'_>, named: &Named, walk: &Walk) -> Result<View, NoMemory>

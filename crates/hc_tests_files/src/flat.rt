@@ -151,8 +151,8 @@ fn show_files(alloc: Global, main: &str, files: &[(&str, &str)]) -> Result<Strin
 
 fn show(alloc: Global, flat: &Flat) -> Result<String, NoMemory> {
     let mut shown = String::new(alloc);
-    for at in 0..flat.entries.len() {
-        show_entry(alloc, &mut shown, flat.entries.entry(at))?;
+    for entry in flat.entries.iter() {
+        show_entry(alloc, &mut shown, entry)?;
     }
     if let Some(refusal) = &flat.stop {
         show_refusal(alloc, &mut shown, refusal)?;

@@ -23,6 +23,8 @@ mod merging;
 #[cfg(test)]
 mod model;
 #[cfg(test)]
+mod overrides;
+#[cfg(test)]
 mod section_files;
 #[cfg(test)]
 mod sections;

@@ -6,3 +6,4 @@ pub mod Behind
 pub mod Turns
 pub mod Images
 pub mod LastTurns
+pub mod Bytes

@@ -29,6 +29,10 @@ pub Each-flat_map : {A B : Type 0} (P : A → Type 0) (Q : B → Type 0) (f : A 
 Each-flat_map P Q f [] each step = tt
 Each-flat_map P Q f (x ∷ xs) each step = Each-append Q (f x) (flat_map f xs) (step x each.0) (Each-flat_map P Q f xs each.1 step)
 
+pub Each-as : {A : Type 0} (P Q : A → Type 0) (xs : List A) → ((x : A) → P x → Q x) → Each P xs → Each Q xs
+Each-as P Q [] step each = tt
+Each-as P Q (x ∷ xs) step each = (step x each.0, Each-as P Q xs step each.1)
+
 filter_each : {A : Type 0} (P : A → Type 0) (x : A) (xs : List A) (v : Bool) → P x → Each P xs → Each P (if v then x ∷ xs else xs)
 filter_each P x xs true here each = (here, each)
 filter_each P x xs false here each = each

@@ -2,28 +2,25 @@
 use Rattle.hc_ways.proofs.Common.{◌≡◌, ℕ, zero, suc, ◌+◌, ◌-◌, ◌<◌, ◌≤◌, Bool, true, false, List, [], ◌∷◌, ◌++◌, length, if◌then◌else◌, nat_lt, nat_eq, max, Option, Some, None, slice_get, refl, sym, ap, ◌∙◌, arith, true≢false, ltb-true, le-ltb, lt-ltb, flat_map, filter, Pattern, empty, byte, class, start, finish, cat, alt, group, repeat, Keeping, Way, Ways, none, stop, behind, either, stop_where, meets, step_where, preferred, moving, any_turns, turns_up_to, turns_then, repeated, ways, last_ways, with_group}
 use Rattle.hc_pattern.specs.Bits.{has_byte}
 use Rattle.hc_ways.specs.Laws.{IsItsTurns}
-use Rattle.hc_ways.proofs.Lists.{Each, Each-append, Each-flat_map, Each-filter, Each-map, flat_map-each}
+use Rattle.hc_ways.proofs.Lists.{Each, Each-append, Each-as, Each-flat_map, Each-filter, Each-map, flat_map-each}
 
--- No way ends past the place n, but where it begins there.
+-- No way goes back, and none ends past the place n, but where it begins there.
 abbrev pub Below : {K : Type 0} → ℕ → ℕ → Way K → Type 0
-Below n at way = way.end ≤ max at n
+Below n at way = (at ≤ way.end) × (way.end ≤ max at n)
 
 abbrev pub Bounded : {K : Type 0} → ℕ → Ways K → Type 0
 Bounded {K} n body = (at : ℕ) (held : K) → Each (Below n at) (body at held)
 
 pub bounded_stop : {K : Type 0} (n : ℕ) → Bounded n (stop {Kept = K})
-bounded_stop n at held = (omega arith, tt)
+bounded_stop n at held = ((omega arith, omega arith), tt)
 
 pub bounded_either : {K : Type 0} (n : ℕ) (a b : Ways K) → Bounded n a → Bounded n b → Bounded n (either a b)
 bounded_either n a b first second at held = Each-append (Below n at) (a at held) (b at held) (first at held) (second at held)
 
-raised : {K : Type 0} (n at end : ℕ) → end ≤ max at n → (ways : List (Way K)) → Each (Below n end) ways → Each (Below n at) ways
-raised n at end within [] each = tt
-raised n at end within (way ∷ ways) each = (omega (arith, each.0), raised n at end within ways each.1)
-
 pub bounded_behind : {K : Type 0} (n : ℕ) (a b : Ways K) → Bounded n a → Bounded n b → Bounded n (behind a b)
 bounded_behind n a b first second at held =
-    Each-flat_map (Below n at) (Below n at) _ (a at held) (first at held) (λ way within. raised n at way.end within _ (second way.end way.held))
+    Each-flat_map (Below n at) (Below n at) _ (a at held) (first at held)
+    (λ way on. Each-as (Below n way.end) (Below n at) _ (λ later more. (omega (arith, on.0, more.0), omega (arith, on.1, more.1))) (second way.end way.held))
 
 bounded_moving : {K : Type 0} (n : ℕ) (a : Ways K) → Bounded n a → Bounded n (moving a)
 bounded_moving n a each at held = Each-filter (Below n at) _ (a at held) (each at held)
@@ -54,7 +51,7 @@ bounded_repeated n bytes body least None greedy each = bounded_then n body least
 bounded_repeated n bytes body least (Some most) greedy each =
     bounded_if n (nat_lt most least) _ (bounded_then n body least _ each (bounded_up_to n greedy body (most - least) each))
 
-bounded_test : {K : Type 0} (n at end : ℕ) (held : K) (v : Bool) → (v ≡ true → end ≤ max at n) → Each (Below n at) (if v then stop end held else [])
+bounded_test : {K : Type 0} (n at end : ℕ) (held : K) (v : Bool) → (v ≡ true → (at ≤ end) × (end ≤ max at n)) → Each (Below n at) (if v then stop end held else [])
 bounded_test n at end held true within = (within refl, tt)
 bounded_test n at end held false within = tt
 
@@ -65,10 +62,10 @@ inside test (b ∷ bs) (suc at) is = omega (arith, inside test bs at is)
 
 bounded_step : {K : Type 0} (text : List ℕ) (test : ℕ → Bool) → Bounded (length text) (step_where {Kept = K} text test)
 bounded_step text test at held =
-    bounded_test (length text) at (at + 1) held (meets test (slice_get text at)) (λ is. omega (arith, inside test text at is))
+    bounded_test (length text) at (at + 1) held (meets test (slice_get text at)) (λ is. (omega arith, omega (arith, inside test text at is)))
 
 bounded_stop_where : {K : Type 0} (n : ℕ) (test : ℕ → Bool) → Bounded n (stop_where {Kept = K} test)
-bounded_stop_where n test at held = bounded_test n at at held (test at) (λ is. omega arith)
+bounded_stop_where n test at held = bounded_test n at at held (test at) (λ is. (omega arith, omega arith))
 
 pub bounded : {K : Type 0} (keep : Keeping K) (text : List ℕ) (pattern : Pattern) → Bounded (length text) (ways keep text pattern)
 bounded keep text empty = bounded_stop (length text)
@@ -93,7 +90,7 @@ moves_step n at way ways false is within each = each
 
 moves : {K : Type 0} (n at : ℕ) (ways : List (Way K)) → Each (Below n at) ways → Each (Moves n at) (filter (λ way. nat_lt at way.end) ways)
 moves n at [] each = tt
-moves n at (way ∷ ways) each = moves_step n at way _ (nat_lt at way.end) refl each.0 (moves n at ways each.1)
+moves n at (way ∷ ways) each = moves_step n at way _ (nat_lt at way.end) refl each.0.1 (moves n at ways each.1)
 
 none_moves : {K : Type 0} (n at : ℕ) (ways : List (Way K)) → n ≤ at → Each (Moves n at) ways → ways ≡ []
 none_moves n at [] past each = refl

@@ -1,3 +1,4 @@
 pub mod Ways
 pub mod Kept
 pub mod Laws
+pub mod Taking

@@ -3,3 +3,6 @@
 #![tactic(auto)]
 
 pub mod laws;
+mod taking;
+
+pub use taking::takes_a_byte;

@@ -8,7 +8,7 @@ pub tokens-preserved : goal.tokens-preserved
 tokens-preserved c =
     let front = map placed_view c.in-Some.front.now in
     let levels = levels_view c.tokens.levels in
-    ap (levels_known front) c.in_ok-levels.ensures ∙ sym (last_token front (placed_view c.in-Some.last.now) levels)
+    ap (levels_known front) c.in_ok-with_token.ensures ∙ sym (last_token front (placed_view c.in-Some.last.now) levels)
     ∙ ap (λ tokens. levels_known tokens levels) (sym (ap (map placed_view) c.in-Some.ensures.cases.0 ∙ map-append placed_view c.in-Some.front.now (c.in-Some.last.now ∷ []))) ∙ c.tokens.invariant
 
 pub returns : goal.returns

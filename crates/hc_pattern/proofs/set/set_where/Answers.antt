@@ -13,6 +13,4 @@ loop-number-preserved g c wanted is b =
     ]
 
 pub returns : goal.returns
-returns g c wanted is =
-    c.of_bits.ensures wanted
-    (λ b within. c.loop-number.invariant wanted is b ∙ all_bytes (wanted b) c.loop-number.number b within c.loop-number-test.false)
+returns g c wanted is b within = c.loop-number.invariant wanted is b ∙ all_bytes (wanted b) c.loop-number.number b within c.loop-number-test.false

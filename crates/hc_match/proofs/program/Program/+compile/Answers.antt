@@ -1,5 +1,5 @@
 use Rattle.hc_match.proofs.Common.{◌≡◌, ℕ, List, Ways, Kept, suc, ◌+◌, unwrap_or, ◌∷◌, ◌-◌, ◌≤◌, ◌∙◌, [], length, nat_eq, refl, sym, ap, lt-ltb, le-ltb, arith, length-append, has_byte, pattern_of, any_turns, behind, either, grouped, none, step_where, stop, stop_where, turns_then, turns_up_to, keeping_held, kept_ways, behind-behind, takes_a_byte, is_alt, is_byte, is_cat, is_class, is_empty, is_finish, is_group, is_repeat, is_start}
-use Rattle.hc_match.proofs.Bytes.{moves}
+use Rattle.hc_ways.proofs.Bytes.{moves}
 use Rattle.hc_match.proofs.Compiled.{compiled_as, compiled_behind, compiled_either, compiled_group, compiled_loop, compiled_none, compiled_nothing, compiled_preferred, compiled_step, emitted, ok_behind, ok_turns, turns_before}
 use Rattle.hc_match.proofs.program.Program.+compile.Goals as goal
 
