@@ -7,7 +7,6 @@ ghost use Rattle.hc_merge.specs.Settings as definition;
 ghost use Rattle.hc_merge.specs.Settings.{event_of, follows, is_among, is_on, merged, on_after, on_at_sections};
 ghost use Rattle.hc_merge.specs.Settings.{on_at_servers, redirects_of, require_of, still_on};
 ghost use Rattle.hc_authz.specs.Joined.{joined_behind};
-ghost use Rattle.hc_model.specs.declared.section.Body.{out-Body};
 ghost use Rattle.hc_vhost.specs.Servers.{IsHostOf};
 
 use crate::candidate::Candidate;
@@ -16,7 +15,7 @@ use crate::reaching::kept_by;
 use hc_authz::join;
 use hc_base::{List, NoMemory};
 use hc_model::{
-    Body, Config, Effective, Event, HostId, OptStep, Overrides, Redirect, ReqTree, View, Walk,
+    Config, Effective, Event, HostId, Merging, OptStep, Overrides, Redirect, ReqTree, View, Walk,
 };
 use hc_vhost::server_at;
 use std::alloc::Global;
@@ -138,7 +137,7 @@ fn require_of(alloc: Global, kept: &[Candidate<'_>]) -> Result<Option<ReqTree>, 
 {
     let mut tree = None;
     for candidate in kept {
-        tree = joined_behind(alloc, tree, candidate.body)?;
+        tree = joined_behind(alloc, tree, &candidate.body.require, candidate.body.merging)?;
     }
     Ok(tree)
 }
@@ -147,16 +146,17 @@ fn require_of(alloc: Global, kept: &[Candidate<'_>]) -> Result<Option<ReqTree>, 
 fn joined_behind(
     alloc: Global,
     so_far: Option<ReqTree>,
-    body: &Body,
+    own: &Option<ReqTree>,
+    how: Merging,
 ) -> Result<Option<ReqTree>, NoMemory>
-    ensures { IfOk result (λ tree. tree ≡ joined_behind so_far (out-Body body.now).require (out-Body body.now).merging) }
+    ensures { IfOk result (λ tree. tree ≡ joined_behind so_far own.now how) }
 {
-    let Some(own) = &body.require else {
+    let Some(own) = own else {
         return Ok(so_far);
     };
     let own = own.clone()?;
     match so_far {
-        Some(before) => Ok(Some(join(alloc, before, own, body.merging)?)),
+        Some(before) => Ok(Some(join(alloc, before, own, how)?)),
         None => Ok(Some(own)),
     }
 }

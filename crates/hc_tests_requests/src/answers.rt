@@ -141,6 +141,22 @@ text /etc/httpd/conf/httpd.conf \nkind /srv \nkind /srv/f \n",
         "404 \n1 \nhost :0 \ntext /etc/httpd/conf/httpd.conf \n",
     ),
     (
+        "DocumentRoot /srv\n<Location /f>\nRequire local\n</Location>\n",
+        "localhost",
+        "/f",
+        "file /srv/f  \n6 \nhost :0 \npass 0 /f  \nmap /srv/f \nwalk /srv/f  file \n\
+section /etc/httpd/conf/httpd.conf:2 18 31 \nauth granted \ntext /etc/httpd/conf/httpd.conf \nkind /srv \n\
+kind /srv/f \n",
+    ),
+    (
+        "DocumentRoot /srv\n<Location /f>\nRequire all denied\n</Location>\n",
+        "localhost",
+        "/f",
+        "403 \n6 \nhost :0 \npass 0 /f  \nmap /srv/f \nwalk /srv/f  file \n\
+section /etc/httpd/conf/httpd.conf:2 18 31 \nauth denied \ntext /etc/httpd/conf/httpd.conf \nkind /srv \n\
+kind /srv/f \n",
+    ),
+    (
         "DocumentRoot /srv\n",
         "localhost",
         "/",

@@ -112,6 +112,31 @@ file /srv/g
 {"do":"ask","target":"/r","client":"192.0.2.9"}
 {"outcome":{"status":403}}
 "##,
+    // a server's usual main file
+    r##"main ServerRoot \"/etc/httpd\"\nListen 80\nInclude conf.modules.d/*.conf\nUser apache\n
+  ServerAdmin root@localhost\n<Directory />\nAllowOverride none\nRequire all denied\n</Directory>\n
+  DocumentRoot \"/var/www/html\"\n<Directory \"/var/www\">\nRequire all granted\n</Directory>\n
+  <Directory \"/var/www/html\">\nOptions Indexes FollowSymLinks\n</Directory>\n<IfModule dir_module>\n
+  DirectoryIndex index.html\n</IfModule>\n<Files \".ht*\">\nRequire all denied\n</Files>\n
+  ErrorLog \"logs/error_log\"\nLogFormat \"%h %l %u %t \\\"%r\\\" %>s %b\" common\n<IfModule alias_module>\n
+  ScriptAlias /cgi-bin/ \"/var/www/cgi-bin/\"\n</IfModule>\nAddDefaultCharset UTF-8\n
+  IncludeOptional conf.d/*.conf\n
+/etc/httpd/conf.modules.d/00.conf LoadModule rewrite_module modules/mod_rewrite.so\n
+file /var/www/html/index.html
+file /var/www/cgi-bin/x
+check
+{"config":{"hosts":0}}
+ask /index.html
+{"outcome":{"file":{"info":"","path":"/var/www/html/index.html"}}}
+ask /
+{"outcome":{"directory":"/var/www/html/"}}
+ask /.htaccess
+{"outcome":{"status":403}}
+ask /cgi-bin/x
+{"outcome":{"file":{"info":"","path":"/var/www/cgi-bin/x"}}}
+ask /cgi-bin
+{"outcome":{"not_found":true}}
+"##,
 ];
 
 // Main files as they stand in JSON, and the refusal of each: its code, its line and the byte in a pattern.

@@ -36,3 +36,5 @@ mod session;
 mod target;
 #[cfg(test)]
 mod told;
+#[cfg(test)]
+mod trees;

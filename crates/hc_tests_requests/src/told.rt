@@ -36,6 +36,15 @@ fn kind_name(kind: Kind) -> &'static [u8] {
     }
 }
 
+fn authorized_name(value: Authorized) -> &'static [u8] {
+    match value {
+        Authorized::Granted => b"granted",
+        Authorized::Denied => b"denied",
+        Authorized::Neutral => b"neutral",
+        Authorized::Unasked => b"none",
+    }
+}
+
 // The file and the line, with a colon between them.
 fn push_place(out: &mut Vec<u8>, alloc: Global, place: &Place) -> Result<(), NoMemory> {
     out.extend_from_slice(place.file.as_bytes())?;
@@ -91,9 +100,7 @@ fn push_event(out: &mut Vec<u8>, alloc: Global, event: &Event) -> Result<(), NoM
             end_line(out)
         }
         Event::Section { spot } => push_spot(out, alloc, b"section", spot),
-        Event::Auth {
-            value: Authorized::Unasked,
-        } => push_line(out, b"auth", b"none"),
+        Event::Auth { value } => push_line(out, b"auth", authorized_name(*value)),
         _ => push_line(out, b"other", b""),
     }
 }

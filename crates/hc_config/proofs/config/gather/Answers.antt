@@ -15,4 +15,4 @@ loop-place-preserved c =
     let rest = left c.next.new.self in
     let held = c.loop-place.invariant in
     let here : drop place all ≡ entry ∷ rest = held.1 ∙ c.in-Some.ensures.steps in
-    (held.0 ∙ ap (gathered_from _ _) (sym held.1) ∙ gathered_more all rest place entry (standing_of c.loop-place.standing) (standing_of c.perform.new.standing) c.context.result c.in-Ok.effect here c.context.ensures c.in-Ok.ensures c.in_ok-perform-in-Ok.ensures, next_place all place entry rest here, omega (arith, rw c.in-Some.ensures.steps at held.2))
+    (held.0 ∙ ap (gathered_from _ _) (sym held.1) ∙ gathered_more all rest place entry (standing_of c.loop-place.standing) c.context.result c.container.result c.in-Ok.effect here c.context.ensures c.container.ensures c.in-Ok.ensures (standing_of c.perform.new.standing) c.in_ok-perform-in-Ok.ensures, next_place all place entry rest here, omega (arith, rw c.in-Some.ensures.steps at held.2))
