@@ -77,6 +77,7 @@ fn any_without_root(hosts: &[Server]) -> bool
     hosts.iter().any(|host| host.root.is_none())
 }
 
+#[tactic(auto, using(crate::proofs::Places::before_more, crate::proofs::Places::next_place))]
 fn gather(alloc: Global, entries: &Entries) -> Result<Standing, BuildFault>
     ensures { Gives (gathered_view result) (gathered_from nothing_standing [] entries.now) }
 {
