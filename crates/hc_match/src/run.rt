@@ -70,7 +70,7 @@ fn fitting(text: &[u8], set: ByteSet, at: usize, most: usize) -> usize
         return most.min(text.len().saturating_sub(at));
     }
     let mut count = 0;
-    'bytes: while count < most && is_in_class(text, at + count, set) {
+    'bytes: while count < most && is_in_class(text, at + count, &set) {
         count += 1;
     }
     count

@@ -2,20 +2,24 @@
 //! stands in the calls that wait, and groups are set on the way back from a match: so a search that
 //! fails takes no memory.
 ghost use Rattle.std.specs.Prelude.{◌≡◌, ◌+◌, ◌^◌, ◌<◌, ◌≤◌, []};
-ghost use Rattle.std.specs.Prelude.{◌∷◌, ◌++◌, false, true, IfOk};
+ghost use Rattle.std.specs.Prelude.{◌∷◌, ◌++◌, false, true, IfOk, IfSome, if◌then◌else◌, nat_lt};
 ghost use Rattle.hc_pattern.specs.Pattern.{pattern_of};
 ghost use Rattle.hc_ways.specs.Ways.{behind};
 ghost use Rattle.hc_ways.specs.Kept.{last_ways, with_group};
 ghost use Rattle.hc_match.specs.Runs.{ends};
-ghost use Rattle.hc_match.specs.Frames.{Says, frame_ways, preferring, turn_ways, turns_ways};
+ghost use Rattle.hc_match.specs.Frames.{IsLead, Says, frame_ways, preferring, turn_ways, turns_ways};
 ghost use Rattle.hc_match.specs.Settings.{set_to};
 
 use crate::captures::Setting;
 use crate::frame::{Frame, Trial, Tried, Turn, Turns};
+use crate::look::{frame_lead, may_begin};
 use crate::run::{Run, one_byte, run_of};
 use crate::single::{past_front, single_end};
 use hc_base::NoMemory;
 use hc_pattern::Pat;
+
+// Room for so many groups is taken at once.
+const ROOM: usize = 8;
 
 /// A straight search.
 #[derive(Drop)]
@@ -30,6 +34,7 @@ pub struct Straight {
 impl Straight {
     // What is still to be matched, from this place.
     #[cycle(straight)]
+    #[inline(always)]
     fn go_on(&mut self, text: &[u8], frame: &Frame<'_>, at: usize) -> Trial
         requires { self.old.settings.items ≡ [] }
         ensures steps { self.new.steps ≤ self.old.steps }
@@ -41,24 +46,36 @@ impl Straight {
         self.steps -= 1;
         match frame {
             Frame::End => {
+                self.settings.reserve(ROOM)?;
                 self.end = at;
                 Ok(Tried::Matched)
             }
             Frame::Then { pat, next } => self.pattern(text, &**pat, &**next, at),
             Frame::Close { group, start, next } => self.close(text, *group, *start, &**next, at),
-            Frame::Moved { start, next } => {
-                if *start < at {
-                    self.go_on(text, &**next, at)
-                } else {
-                    Ok(Tried::Failed)
-                }
-            }
+            Frame::Moved { start, next } => self.moved(text, *start, &**next, at),
             Frame::Turns { body, turns, next } => self.turns(text, &**body, *turns, &**next, at),
+        }
+    }
+
+    // Nothing is behind a turn that took no byte.
+    #[cycle(straight)]
+    #[inline(never)]
+    fn moved(&mut self, text: &[u8], start: usize, next: &Frame<'_>, at: usize) -> Trial
+        requires { self.old.settings.items ≡ [] }
+        ensures steps { self.new.steps ≤ self.old.steps }
+        ensures says { IfOk result (λ tried. Says tried self.new
+            (λ held. if nat_lt start at then frame_ways text.now next.now at held else [])) }
+    {
+        if start < at {
+            self.go_on(text, &*next, at)
+        } else {
+            Ok(Tried::Failed)
         }
     }
 
     // The end of a group. It is set once a way has been found.
     #[cycle(straight)]
+    #[inline(never)]
     fn close(&mut self, text: &[u8], group: u8, start: usize, next: &Frame<'_>, at: usize) -> Trial
         requires { self.old.settings.items ≡ [] }
         ensures steps { self.new.steps ≤ self.old.steps }
@@ -86,6 +103,7 @@ impl Straight {
 
     /// A pattern, and what is behind it.
     #[cycle(straight)]
+    #[inline(always)]
     pub fn pattern(&mut self, text: &[u8], pat: &Pat, next: &Frame<'_>, at: usize) -> Trial
         requires { self.old.settings.items ≡ [] }
         ensures steps { self.new.steps ≤ self.old.steps }
@@ -117,8 +135,23 @@ impl Straight {
                     pat: &**second,
                     next: &*next,
                 };
-                self.pattern(text, &**first, &then, at)
+                self.part(text, &**first, &then, at)
             }
+            _ => self.part(text, &*pat, &*next, at),
+        }
+    }
+
+    // The same. In the code of `node`, so that few calls wait in each other.
+    #[cycle(straight)]
+    #[inline(always)]
+    fn part(&mut self, text: &[u8], pat: &Pat, next: &Frame<'_>, at: usize) -> Trial
+        requires { self.old.settings.items ≡ [] }
+        ensures steps { self.new.steps ≤ self.old.steps }
+        ensures says { IfOk result (λ tried. Says tried self.new
+            (behind (last_ways text.now (pattern_of pat.now)) (frame_ways text.now next.now) at)) }
+    {
+        match pat {
+            Pat::Cat(_, _) => self.node(text, &*pat, &*next, at),
             Pat::Alt(first, second) => match self.pattern(text, &**first, &*next, at)? {
                 Tried::Failed => self.pattern(text, &**second, &*next, at),
                 tried => Ok(tried),
@@ -129,7 +162,7 @@ impl Straight {
                     start: at,
                     next: &*next,
                 };
-                self.pattern(text, &**body, &close, at)
+                self.body(text, &**body, &close, at)
             }
             Pat::Repeat(body, least, most, greedy) => {
                 let turns = Turns {
@@ -148,8 +181,29 @@ impl Straight {
         }
     }
 
+    // The body of a group: a repeat at once.
+    #[cycle(straight)]
+    #[inline(always)]
+    fn body(&mut self, text: &[u8], pat: &Pat, next: &Frame<'_>, at: usize) -> Trial
+        requires { self.old.settings.items ≡ [] }
+        ensures steps { self.new.steps ≤ self.old.steps }
+        ensures says { IfOk result (λ tried. Says tried self.new
+            (behind (last_ways text.now (pattern_of pat.now)) (frame_ways text.now next.now) at)) }
+    {
+        let Pat::Repeat(body, least, most, greedy) = pat else {
+            return self.pattern(text, &*pat, &*next, at);
+        };
+        let turns = Turns {
+            least: *least,
+            most: *most,
+            greedy: *greedy,
+        };
+        self.repeat(text, &**body, turns, &*next, at)
+    }
+
     // A repeat, and what is behind it.
     #[cycle(straight)]
+    #[inline(always)]
     fn repeat(
         &mut self,
         text: &[u8],
@@ -176,8 +230,26 @@ impl Straight {
         }
     }
 
+    // What is still to be matched, unless the next byte tells that it has no way.
+    #[cycle(straight)]
+    #[inline(always)]
+    fn look(&mut self, text: &[u8], lead: Option<&Pat>, next: &Frame<'_>, at: usize) -> Trial
+        requires unset { self.old.settings.items ≡ [] }
+        requires lead { IfSome lead (λ lead. IsLead text.now lead.now next.now) }
+        ensures steps { self.new.steps ≤ self.old.steps }
+        ensures says { IfOk result (λ tried. Says tried self.new (frame_ways text.now next.now at)) }
+    {
+        if let Some(lead) = lead {
+            if !may_begin(text, lead, at) {
+                return Ok(Tried::Failed);
+            }
+        }
+        self.go_on(text, &*next, at)
+    }
+
     // What is behind a run, from its last end back.
     #[cycle(straight)]
+    #[inline(always)]
     fn longest_first(&mut self, text: &[u8], run: Run, next: &Frame<'_>) -> Trial
         requires unset { self.old.settings.items ≡ [] }
         requires within { run.first + run.more < 2 ^ 64 }
@@ -185,9 +257,10 @@ impl Straight {
         ensures says { IfOk result (λ tried. Says tried self.new
             (ends true (frame_ways text.now next.now) run.first run.more)) }
     {
+        let lead = frame_lead(&*next);
         let mut more = run.more;
         'ends: while more > 0 {
-            match self.go_on(text, &*next, run.first + more)? {
+            match self.look(text, lead, &*next, run.first + more)? {
                 Tried::Failed => more -= 1,
                 tried => return Ok(tried),
             }
@@ -220,6 +293,7 @@ impl Straight {
 
     // Turns of a repeat, and what is behind them.
     #[cycle(straight)]
+    #[inline(never)]
     fn turns(&mut self, text: &[u8], body: &Pat, turns: Turns, next: &Frame<'_>, at: usize) -> Trial
         requires { self.old.settings.items ≡ [] }
         ensures steps { self.new.steps ≤ self.old.steps }

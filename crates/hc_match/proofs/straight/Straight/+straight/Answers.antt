@@ -15,44 +15,44 @@ pub node-returns-in-Cat-clause-says : goal.node-returns-in-Cat-clause-says
 node-returns-in-Cat-clause-says t c =
     let text = c.args.text.now in
     let is : pattern_of c.args.pat.now ≡ cat (pattern_of c.in-Cat.first.value) (pattern_of c.in-Cat.second.value) = ap pattern_of c.in-Cat.is ∙ is_cat c.in-Cat.first c.in-Cat.second in
-    said c.pattern.result c.pattern.new.self _ _
+    said c.part.result c.part.new.self _ _
     (both_is text (pattern_of c.args.pat.now) (pattern_of c.in-Cat.first.value) (pattern_of c.in-Cat.second.value) (pattern_of c.deref-in-Cat.result.now) (pattern_of c.deref.result.now)
     (frame_ways text c.args.next.now) c.args.at is (ap pattern_of c.deref-in-Cat.ensures) (ap pattern_of c.deref.ensures))
-    c.pattern.ensures.says
+    c.part.ensures.says
 
-pub node-returns-in-Failed-clause-says : goal.node-returns-in-Failed-clause-says
-node-returns-in-Failed-clause-says t c =
+pub part-returns-in-Failed-clause-says : goal.part-returns-in-Failed-clause-says
+part-returns-in-Failed-clause-says t c =
     let is : pattern_of c.args.pat.now ≡ alt (pattern_of c.in-Alt.first.value) (pattern_of c.in-Alt.second.value) = ap pattern_of c.in-Alt.is ∙ is_alt c.in-Alt.first c.in-Alt.second in
     let text = c.args.text.now in
     let next = frame_ways text c.args.next.now in
     let none = rw c.in-Failed.is at c.in_ok-tried-in-Alt.ensures.says in
     said c.pattern-in-Failed.result c.pattern-in-Failed.new.self _ _
-    (second_is text (pattern_of c.args.pat.now) (pattern_of c.in-Alt.first.value) (pattern_of c.in-Alt.second.value) (pattern_of c.deref-in-Alt.result.now) (pattern_of c.deref-in-Failed.result.now)
-    next c.args.at is (ap pattern_of c.deref-in-Alt.ensures) (ap pattern_of c.deref-in-Failed.ensures) none.0)
+    (second_is text (pattern_of c.args.pat.now) (pattern_of c.in-Alt.first.value) (pattern_of c.in-Alt.second.value) (pattern_of c.deref.result.now) (pattern_of c.deref-in-Failed.result.now)
+    next c.args.at is (ap pattern_of c.deref.ensures) (ap pattern_of c.deref-in-Failed.ensures) none.0)
     c.pattern-in-Failed.ensures.says
 
-pub node-returns-in_default-clause-says : goal.node-returns-in_default-clause-says
-node-returns-in_default-clause-says t c =
+pub part-returns-in_default-clause-says : goal.part-returns-in_default-clause-says
+part-returns-in_default-clause-says t c =
     let is : pattern_of c.args.pat.now ≡ alt (pattern_of c.in-Alt.first.value) (pattern_of c.in-Alt.second.value) = ap pattern_of c.in-Alt.is ∙ is_alt c.in-Alt.first c.in-Alt.second in
     let text = c.args.text.now in
     let next = frame_ways text c.args.next.now in
-    let first = pattern_of c.deref-in-Alt.result.now in
+    let first = pattern_of c.deref.result.now in
     let second = pattern_of c.in-Alt.second.value in
-    subst (Says c.in_ok-tried-in-Alt.tried c.pattern-in-Alt.new.self)
-    (λ i held. either_is text (pattern_of c.args.pat.now) (pattern_of c.in-Alt.first.value) second first next c.args.at is (ap pattern_of c.deref-in-Alt.ensures) held i)
-    (said_before c.in_ok-tried-in-Alt.tried c.pattern-in-Alt.new.self (behind (last_ways text first) next c.args.at) (behind (last_ways text second) next c.args.at) c.in_default.not-Failed c.in_ok-tried-in-Alt.ensures.says)
+    subst (Says c.in_ok-tried-in-Alt.tried c.pattern.new.self)
+    (λ i held. either_is text (pattern_of c.args.pat.now) (pattern_of c.in-Alt.first.value) second first next c.args.at is (ap pattern_of c.deref.ensures) held i)
+    (said_before c.in_ok-tried-in-Alt.tried c.pattern.new.self (behind (last_ways text first) next c.args.at) (behind (last_ways text second) next c.args.at) c.in_default.not-Failed c.in_ok-tried-in-Alt.ensures.says)
 
-pub node-returns-in-Group-clause-says : goal.node-returns-in-Group-clause-says
-node-returns-in-Group-clause-says t c =
+pub part-returns-in-Group-clause-says : goal.part-returns-in-Group-clause-says
+part-returns-in-Group-clause-says t c =
     let is : pattern_of c.args.pat.now ≡ group c.in-Group.group (pattern_of c.in-Group.body.value) = ap pattern_of c.in-Group.is ∙ is_group c.in-Group.group c.in-Group.body in
     let text = c.args.text.now in
-    said c.pattern-in-Group.result c.pattern-in-Group.new.self _ _
+    said c.body.result c.body.new.self _ _
     (group_is text (pattern_of c.args.pat.now) (pattern_of c.in-Group.body.value) (pattern_of c.deref-in-Group.result.now) c.in-Group.group
     (frame_ways text c.args.next.now) c.args.at is (ap pattern_of c.deref-in-Group.ensures))
-    c.pattern-in-Group.ensures.says
+    c.body.ensures.says
 
-pub node-returns-in-Some-clause-says : goal.node-returns-in-Some-clause-says
-node-returns-in-Some-clause-says t c =
+pub part-returns-in-Some-clause-says : goal.part-returns-in-Some-clause-says
+part-returns-in-Some-clause-says t c =
     let text = c.args.text.now in
     said c.go_on.result c.go_on.new.self _ _
     (only_way (last_ways text (pattern_of c.args.pat.now)) (frame_ways text c.args.next.now) c.args.at c.in-Some.end c.in-Some.ensures.some) c.go_on.ensures.says
@@ -135,8 +135,8 @@ longest_first-returns-in_default-clause-says t c =
     let next = frame_ways c.args.text.now c.args.next.now in
     let at = c.args.run.first in
     let more = c.ends.more in
-    subst (Says c.in_ok-tried.tried c.go_on.new.self) (λ i held. (longest_first next at more held c.ends-test.true ∙ c.ends.invariant.left held) i)
-    (said_before c.in_ok-tried.tried c.go_on.new.self (next (at + more)) (ends true next at (more - 1)) c.in_default.not-Failed c.in_ok-tried.ensures.says)
+    subst (Says c.in_ok-tried.tried c.look.new.self) (λ i held. (longest_first next at more held c.ends-test.true ∙ c.ends.invariant.left held) i)
+    (said_before c.in_ok-tried.tried c.look.new.self (next (at + more)) (ends true next at (more - 1)) c.in_default.not-Failed c.in_ok-tried.ensures.says)
 
 pub shortest_first-ends-preserved : goal.shortest_first-ends-preserved
 shortest_first-ends-preserved t c =
@@ -156,3 +156,6 @@ shortest_first-returns-in_default-clause-says t c =
     let more = c.ends.more in
     subst (Says c.in_ok-tried.tried c.go_on.new.self) (λ i held. (shortest_first next at more held c.ends-test.true ∙ c.ends.invariant.left held) i)
     (said_before c.in_ok-tried.tried c.go_on.new.self (next at) (ends false next (at + 1) (more - 1)) c.in_default.not-Failed c.in_ok-tried.ensures.says)
+
+pub look-returns-then-not-may_begin-clause-says : goal.look-returns-then-not-may_begin-clause-says
+look-returns-then-not-may_begin-clause-says t c = let lead = rw c.in-Some.is at c.requires.lead in (lead c.args.at (c.may_begin.ensures c.if-not-may_begin.true), c.requires.unset)

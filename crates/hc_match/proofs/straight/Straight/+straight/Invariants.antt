@@ -8,7 +8,19 @@ abbrev pub decreases-close : goal.decreases-close
 decreases-close l = 8 * l.self.now.steps + 1
 
 abbrev pub decreases-longest_first : goal.decreases-longest_first
-decreases-longest_first l = 8 * l.self.now.steps + 1
+decreases-longest_first l = 8 * l.self.now.steps + 3
+
+abbrev pub decreases-look : goal.decreases-look
+decreases-look l = 8 * l.self.now.steps + 1
+
+abbrev pub decreases-moved : goal.decreases-moved
+decreases-moved l = 8 * l.self.now.steps + 1
+
+abbrev pub decreases-part : goal.decreases-part
+decreases-part l = 8 * l.self.now.steps + 6
+
+abbrev pub decreases-body : goal.decreases-body
+decreases-body l = 8 * l.self.now.steps + 5
 
 abbrev pub decreases-shortest_first : goal.decreases-shortest_first
 decreases-shortest_first l = 8 * l.self.now.steps + 1
