@@ -223,11 +223,7 @@ impl Straight {
         let Some(run) = run_of(text, set, turns, at) else {
             return Ok(Tried::Failed);
         };
-        if turns.greedy {
-            self.longest_first(text, run, &*next)
-        } else {
-            self.shortest_first(text, run, &*next)
-        }
+        self.ends(text, run, turns.greedy, &*next)
     }
 
     // What is still to be matched, unless the next byte tells that it has no way.
@@ -247,48 +243,25 @@ impl Straight {
         self.go_on(text, &*next, at)
     }
 
-    // What is behind a run, from its last end back.
+    // What is behind a run, end by end.
     #[cycle(straight)]
     #[inline(always)]
-    fn longest_first(&mut self, text: &[u8], run: Run, next: &Frame<'_>) -> Trial
+    fn ends(&mut self, text: &[u8], run: Run, greedy: bool, next: &Frame<'_>) -> Trial
         requires unset { self.old.settings.items ≡ [] }
         requires within { run.first + run.more < 2 ^ 64 }
         ensures steps { self.new.steps ≤ self.old.steps }
         ensures says { IfOk result (λ tried. Says tried self.new
-            (ends true (frame_ways text.now next.now) run.first run.more)) }
+            (ends greedy (frame_ways text.now next.now) run.first run.more)) }
     {
         let lead = frame_lead(&*next);
-        let mut more = run.more;
-        'ends: while more > 0 {
-            match self.look(text, lead, &*next, run.first + more)? {
-                Tried::Failed => more -= 1,
+        let mut left = run;
+        'ends: while left.more > 0 {
+            match self.look(text, lead, &*next, left.end(greedy))? {
+                Tried::Failed => left = left.others(greedy),
                 tried => return Ok(tried),
             }
         }
-        self.go_on(text, &*next, run.first)
-    }
-
-    // What is behind a run, from its first end on.
-    #[cycle(straight)]
-    fn shortest_first(&mut self, text: &[u8], run: Run, next: &Frame<'_>) -> Trial
-        requires unset { self.old.settings.items ≡ [] }
-        requires within { run.first + run.more < 2 ^ 64 }
-        ensures steps { self.new.steps ≤ self.old.steps }
-        ensures says { IfOk result (λ tried. Says tried self.new
-            (ends false (frame_ways text.now next.now) run.first run.more)) }
-    {
-        let mut at = run.first;
-        let mut more = run.more;
-        'ends: while more > 0 {
-            match self.go_on(text, &*next, at)? {
-                Tried::Failed => {
-                    at += 1;
-                    more -= 1;
-                }
-                tried => return Ok(tried),
-            }
-        }
-        self.go_on(text, &*next, at)
+        self.go_on(text, &*next, left.first)
     }
 
     // Turns of a repeat, and what is behind them.

@@ -1,5 +1,6 @@
 use Rattle.hc_match.proofs.Common.{Some, [], nat_lt, if◌then◌else◌, ◌≡◌, ◌+◌, ◌-◌, true, false, arith, ap, ◌∙◌, subst, sym, length, has_byte, is_alt, is_cat, is_group, pattern_of, alt, cat, group, last_ways, with_group, behind, step_where, Says, frame_ways, preferring, turns_ways, ends, held_over}
-use Rattle.hc_match.proofs.Runs.{longest_first, longest_gone, shortest_first, shortest_gone}
+use Rattle.hc_match.specs.Runs.{first_end, other_first}
+use Rattle.hc_match.proofs.Runs.{ends_are, ends_gone, within_others}
 use Rattle.hc_match.proofs.Saying.{any_turn_is, both_is, either_is, first_turn_is, further_turn_is, group_is, only_way, said, said_before, run_of_is, same_way, second_is, set_over}
 use Rattle.hc_match.proofs.straight.Straight.+straight.Goals as goal
 
@@ -99,63 +100,38 @@ turns-returns-clause-says t c =
     ∙ any_turn_is text (pattern_of body) next turns.least turns.most turns.greedy c.args.at c.if-turns-gt0.false c.if-is_some.ensures held)
     c.prefer-2.ensures.says
 
-pub repeat-returns-then-turns-clause-says : goal.repeat-returns-then-turns-clause-says
-repeat-returns-then-turns-clause-says t c =
+pub repeat-returns-clause-says : goal.repeat-returns-clause-says
+repeat-returns-clause-says t c =
     let text = c.args.text.now in
     let next = frame_ways text c.args.next.now in
     let run = c.in-Some-run_of.run' in
-    said c.longest_first.result c.longest_first.new.self _ _
-    (run_of_is (length text) (last_ways text (pattern_of c.args.body.now)) (step_where text (has_byte c.in-Some.set)) next c.args.turns.least c.args.turns.most c.args.turns.greedy c.args.at (ends true next run.first run.more)
-    (c.in-Some.ensures text) (λ held. rw (← c.if-turns.true) (c.in-Some-run_of.ensures.some c.args.turns.greedy next held)))
-    c.longest_first.ensures.says
+    let turns = c.args.turns in
+    said c.ends.result c.ends.new.self _ _
+    (run_of_is (length text) (last_ways text (pattern_of c.args.body.now)) (step_where text (has_byte c.in-Some.set)) next turns.least turns.most turns.greedy c.args.at (ends turns.greedy next run.first run.more)
+    (c.in-Some.ensures text) (c.in-Some-run_of.ensures.some turns.greedy next))
+    c.ends.ensures.says
 
-pub repeat-returns-else-turns-clause-says : goal.repeat-returns-else-turns-clause-says
-repeat-returns-else-turns-clause-says t c =
-    let text = c.args.text.now in
-    let next = frame_ways text c.args.next.now in
-    let run = c.in-Some-run_of.run' in
-    said c.shortest_first.result c.shortest_first.new.self _ _
-    (run_of_is (length text) (last_ways text (pattern_of c.args.body.now)) (step_where text (has_byte c.in-Some.set)) next c.args.turns.least c.args.turns.most c.args.turns.greedy c.args.at (ends false next run.first run.more)
-    (c.in-Some.ensures text) (λ held. rw (← c.if-turns.false) (c.in-Some-run_of.ensures.some c.args.turns.greedy next held)))
-    c.shortest_first.ensures.says
-
-pub longest_first-ends-preserved : goal.longest_first-ends-preserved
-longest_first-ends-preserved t c =
+pub ends-ends-preserved : goal.ends-ends-preserved
+ends-ends-preserved t c =
     let next = frame_ways c.args.text.now c.args.next.now in
+    let left = c.ends.left in
     let none = rw c.in-Failed.is at c.in_ok-tried.ensures.says in
+    let others = c.others-left.ensures in
     record {
       unset = none.1;
       steps = omega (arith, c.in_ok-tried.ensures.steps, c.ends.invariant.steps);
-      fewer = omega (arith, c.ends.invariant.fewer);
-      left = λ held. longest_gone next c.args.run.first c.ends.more held c.ends-test.true (none.0 held) ∙ c.ends.invariant.left held;
+      within = within_others c.args.greedy left.first left.more _ _ _ c.ends-test.true others.first others.more c.ends.invariant.within;
+      left = λ held. rw (others.first, others.more) (ends_gone c.args.greedy next left.first left.more held c.ends-test.true (rw (← c.end.ensures) (none.0 held))) ∙ c.ends.invariant.left held;
     }
 
-pub longest_first-returns-in_default-clause-says : goal.longest_first-returns-in_default-clause-says
-longest_first-returns-in_default-clause-says t c =
+pub ends-returns-in_default-clause-says : goal.ends-returns-in_default-clause-says
+ends-returns-in_default-clause-says t c =
     let next = frame_ways c.args.text.now c.args.next.now in
-    let at = c.args.run.first in
-    let more = c.ends.more in
-    subst (Says c.in_ok-tried.tried c.look.new.self) (λ i held. (longest_first next at more held c.ends-test.true ∙ c.ends.invariant.left held) i)
-    (said_before c.in_ok-tried.tried c.look.new.self (next (at + more)) (ends true next at (more - 1)) c.in_default.not-Failed c.in_ok-tried.ensures.says)
-
-pub shortest_first-ends-preserved : goal.shortest_first-ends-preserved
-shortest_first-ends-preserved t c =
-    let next = frame_ways c.args.text.now c.args.next.now in
-    let none = rw c.in-Failed.is at c.in_ok-tried.ensures.says in
-    record {
-      unset = none.1;
-      steps = omega (arith, c.in_ok-tried.ensures.steps, c.ends.invariant.steps);
-      same_end = omega (arith, c.ends.invariant.same_end, c.ends-test.true);
-      left = λ held. shortest_gone next c.ends.at c.ends.more held c.ends-test.true (none.0 held) ∙ c.ends.invariant.left held;
-    }
-
-pub shortest_first-returns-in_default-clause-says : goal.shortest_first-returns-in_default-clause-says
-shortest_first-returns-in_default-clause-says t c =
-    let next = frame_ways c.args.text.now c.args.next.now in
-    let at = c.ends.at in
-    let more = c.ends.more in
-    subst (Says c.in_ok-tried.tried c.go_on.new.self) (λ i held. (shortest_first next at more held c.ends-test.true ∙ c.ends.invariant.left held) i)
-    (said_before c.in_ok-tried.tried c.go_on.new.self (next at) (ends false next (at + 1) (more - 1)) c.in_default.not-Failed c.in_ok-tried.ensures.says)
+    let greedy = c.args.greedy in
+    let left = c.ends.left in
+    subst (Says c.in_ok-tried.tried c.look.new.self) (λ i held. (ends_are greedy next left.first left.more held c.ends-test.true ∙ c.ends.invariant.left held) i)
+    (said_before c.in_ok-tried.tried c.look.new.self (next (first_end greedy left.first left.more)) (ends greedy next (other_first greedy left.first) (left.more - 1)) c.in_default.not-Failed
+    (rw c.end.ensures at c.in_ok-tried.ensures.says))
 
 pub look-returns-then-not-may_begin-clause-says : goal.look-returns-then-not-may_begin-clause-says
 look-returns-then-not-may_begin-clause-says t c = let lead = rw c.in-Some.is at c.requires.lead in (lead c.args.at (c.may_begin.ensures c.if-not-may_begin.true), c.requires.unset)
