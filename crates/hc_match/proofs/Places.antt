@@ -26,7 +26,6 @@ passed text pattern end from none =
     elim (cases_lt from end) [
       | inl within ↦ later text pattern end from (match_among text pattern (end - from) from) within none refl
       | inr past ↦
-          let one : end - from ≡ 0 = omega (arith, past) in
-          let other : end - (from + 1) ≡ 0 = omega (arith, past) in
+          let one : end - from ≡ 0 = omega (arith, past) in let other : end - (from + 1) ≡ 0 = omega (arith, past) in
           ap (λ count. match_among text pattern count (from + 1)) other ∙ sym (ap (λ count. match_among text pattern count from) one)
     ]

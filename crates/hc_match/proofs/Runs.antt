@@ -1,9 +1,8 @@
 -- The ways of a repeat of one byte are the ends of its run, in order.
-use Rattle.hc_match.proofs.Common.{◌≡◌, ◌≤◌, inl, inr, slice_get_past, ℕ, zero, suc, ◌+◌, ◌-◌, ◌<◌, Bool, true, false, List, [], ◌++◌, length, if◌then◌else◌, nat_lt, Option, Some, None, slice_get, refl, ap, sym, ◌∙◌, arith, append_assoc, lt-ltb, le-ltb, none-some, same_Some, Ways, any_turns, behind, meets, moving, none, preferred, repeated, step_where, stop, turns_then, turns_up_to, Held, behind-behind, behind-preferred, turn_or_next, append-nil, ends, further_turns, run_length}
+use Rattle.hc_match.proofs.Common.{◌≡◌, ◌≤◌, first_end, other_first, inl, inr, slice_get_past, ℕ, zero, suc, ◌+◌, ◌-◌, ◌<◌, Bool, true, false, List, [], ◌++◌, length, if◌then◌else◌, nat_lt, Option, Some, None, slice_get, refl, ap, sym, ◌∙◌, arith, append_assoc, lt-ltb, le-ltb, none-some, same_Some, Ways, any_turns, behind, meets, moving, none, preferred, repeated, step_where, stop, turns_then, turns_up_to, Held, behind-behind, behind-preferred, turn_or_next, append-nil, ends, further_turns, run_length}
 use Rattle.std.specs.List.{filter, flat_map}
 use Rattle.std.specs.Prelude.{min, ◌^◌, ◌==◌}
 use Rattle.std.proofs.lemmas.Nat.Bits.{bit_at_ones}
-use Rattle.hc_match.specs.Runs.{first_end, other_first}
 use Rattle.hc_pattern.specs.Bits.{has_byte}
 use Rattle.hc_pattern.specs.declared.set.ByteSet.{ByteSet}
 use Rattle.std.proofs.lemmas.Bool.{cases_lt}

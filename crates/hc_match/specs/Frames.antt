@@ -32,6 +32,10 @@ frame_ways text (Close' group start p next) =
 frame_ways text (Moved' start p next) = λ at held. if nat_lt start at then frame_ways text next at held else []
 frame_ways text (Turns' body turns p next) = behind (turns_ways text body.now turns) (frame_ways text next)
 
+-- The ways of a pattern and what is behind it.
+abbrev pub both_ways : List ℕ → Pat → Frame → Ways Held
+both_ways text pat next = behind (last_ways text (pattern_of pat)) (frame_ways text next)
+
 -- Where the pattern has no way, there is none for what is still to be matched.
 abbrev pub IsLead : List ℕ → Pat → Frame → Type 0
 IsLead text lead frame = (at : ℕ) → NoWay text at (pattern_of lead) → (held : Held) → frame_ways text frame at held ≡ []

@@ -1,21 +1,20 @@
 //! The straight search: one way after the other, the first way first. What is to be matched later
 //! stands in the calls that wait, and groups are set on the way back from a match: so a search that
 //! fails takes no memory.
-ghost use Rattle.std.specs.Prelude.{◌≡◌, ◌+◌, ◌^◌, ◌<◌, ◌≤◌, []};
-ghost use Rattle.std.specs.Prelude.{◌∷◌, ◌++◌, false, true, IfOk, IfSome, if◌then◌else◌, nat_lt};
-ghost use Rattle.hc_pattern.specs.Pattern.{pattern_of};
+ghost use Rattle.std.specs.Prelude.{◌≡◌, ◌+◌, ◌^◌, ◌<◌, ◌≤◌, [], IfOk, IfSome};
+ghost use Rattle.std.specs.Prelude.{if◌then◌else◌, nat_lt};
 ghost use Rattle.hc_ways.specs.Ways.{behind};
-ghost use Rattle.hc_ways.specs.Kept.{last_ways, with_group};
+ghost use Rattle.hc_ways.specs.Kept.{with_group};
 ghost use Rattle.hc_match.specs.Runs.{ends};
-ghost use Rattle.hc_match.specs.Frames.{IsLead, Says, frame_ways, preferring, turn_ways, turns_ways};
-ghost use Rattle.hc_match.specs.Settings.{set_to};
+ghost use Rattle.hc_match.specs.Frames.{IsLead, Says, both_ways, frame_ways, turns_ways};
+
+mod turns;
 
 use crate::captures::Setting;
-use crate::frame::{Frame, Trial, Tried, Turn, Turns};
+use crate::frame::{Frame, Trial, Tried, Turns};
 use crate::look::{frame_lead, may_begin};
 use crate::run::{Run, one_byte, run_of};
 use crate::single::{past_front, single_end};
-use hc_base::NoMemory;
 use hc_pattern::Pat;
 
 // Room for so many groups is taken at once.
@@ -86,19 +85,9 @@ impl Straight {
         let Tried::Matched = tried else {
             return Ok(tried);
         };
-        self.set(group, start, at)?;
+        // What is set already was so later on the way, and stays before it.
+        self.settings.push(Setting::to(group, start, at)?)?;
         Ok(Tried::Matched)
-    }
-
-    // The group is set. What is set already was so later on the way, and stays before it.
-    fn set(&mut self, group: u8, start: usize, end: usize) -> Result<(), NoMemory>
-        ensures items { IfOk result (λ _. self.new.settings.items
-            ≡ self.old.settings.items ++ set_to group start end ∷ []) }
-        ensures end { self.new.end ≡ self.old.end }
-        ensures steps { self.new.steps ≡ self.old.steps }
-    {
-        self.settings.push(Setting::to(group, start, end)?)?;
-        Ok(())
     }
 
     /// A pattern, and what is behind it.
@@ -107,8 +96,7 @@ impl Straight {
     pub fn pattern(&mut self, text: &[u8], pat: &Pat, next: &Frame<'_>, at: usize) -> Trial
         requires { self.old.settings.items ≡ [] }
         ensures steps { self.new.steps ≤ self.old.steps }
-        ensures says { IfOk result (λ tried. Says tried self.new
-            (behind (last_ways text.now (pattern_of pat.now)) (frame_ways text.now next.now) at)) }
+        ensures says { IfOk result (λ tried. Says tried self.new (both_ways text.now pat.now next.now at)) }
     {
         let Some(rest) = past_front(text, &*pat, at) else {
             return Ok(Tried::Failed);
@@ -122,8 +110,7 @@ impl Straight {
     fn node(&mut self, text: &[u8], pat: &Pat, next: &Frame<'_>, at: usize) -> Trial
         requires { self.old.settings.items ≡ [] }
         ensures steps { self.new.steps ≤ self.old.steps }
-        ensures says { IfOk result (λ tried. Says tried self.new
-            (behind (last_ways text.now (pattern_of pat.now)) (frame_ways text.now next.now) at)) }
+        ensures says { IfOk result (λ tried. Says tried self.new (both_ways text.now pat.now next.now at)) }
     {
         if self.steps == 0 {
             return Ok(Tried::GaveUp);
@@ -147,8 +134,7 @@ impl Straight {
     fn part(&mut self, text: &[u8], pat: &Pat, next: &Frame<'_>, at: usize) -> Trial
         requires { self.old.settings.items ≡ [] }
         ensures steps { self.new.steps ≤ self.old.steps }
-        ensures says { IfOk result (λ tried. Says tried self.new
-            (behind (last_ways text.now (pattern_of pat.now)) (frame_ways text.now next.now) at)) }
+        ensures says { IfOk result (λ tried. Says tried self.new (both_ways text.now pat.now next.now at)) }
     {
         match pat {
             Pat::Cat(_, _) => self.node(text, &*pat, &*next, at),
@@ -164,14 +150,7 @@ impl Straight {
                 };
                 self.body(text, &**body, &close, at)
             }
-            Pat::Repeat(body, least, most, greedy) => {
-                let turns = Turns {
-                    least: *least,
-                    most: *most,
-                    greedy: *greedy,
-                };
-                self.repeat(text, &**body, turns, &*next, at)
-            }
+            Pat::Repeat(_, _, _, _) => self.body(text, &*pat, &*next, at),
             Pat::Empty | Pat::Byte(_) | Pat::Class(_) | Pat::Start | Pat::Finish => {
                 match single_end(text, &*pat, at) {
                     Some(end) => self.go_on(text, &*next, end),
@@ -181,14 +160,13 @@ impl Straight {
         }
     }
 
-    // The body of a group: a repeat at once.
+    // A repeat, or another pattern.
     #[cycle(straight)]
     #[inline(always)]
     fn body(&mut self, text: &[u8], pat: &Pat, next: &Frame<'_>, at: usize) -> Trial
         requires { self.old.settings.items ≡ [] }
         ensures steps { self.new.steps ≤ self.old.steps }
-        ensures says { IfOk result (λ tried. Says tried self.new
-            (behind (last_ways text.now (pattern_of pat.now)) (frame_ways text.now next.now) at)) }
+        ensures says { IfOk result (λ tried. Says tried self.new (both_ways text.now pat.now next.now at)) }
     {
         let Pat::Repeat(body, least, most, greedy) = pat else {
             return self.pattern(text, &*pat, &*next, at);
@@ -262,74 +240,5 @@ impl Straight {
             }
         }
         self.go_on(text, &*next, left.first)
-    }
-
-    // Turns of a repeat, and what is behind them.
-    #[cycle(straight)]
-    #[inline(never)]
-    fn turns(&mut self, text: &[u8], body: &Pat, turns: Turns, next: &Frame<'_>, at: usize) -> Trial
-        requires { self.old.settings.items ≡ [] }
-        ensures steps { self.new.steps ≤ self.old.steps }
-        ensures says { IfOk result (λ tried. Says tried self.new
-            (behind (turns_ways text.now body.now turns) (frame_ways text.now next.now) at)) }
-    {
-        if turns.are_none() {
-            return Ok(Tried::Failed);
-        }
-        if turns.most == Some(0) {
-            return self.go_on(text, &*next, at);
-        }
-        let rest = Frame::Turns {
-            body: &*body,
-            turns: turns.behind_one(),
-            next: &*next,
-        };
-        if turns.least > 0 {
-            return self.pattern(text, &*body, &rest, at);
-        }
-        if turns.most.is_some() {
-            let turn = Turn {
-                body: &*body,
-                rest: &rest,
-            };
-            return self.prefer(text, turn, &*next, turns.greedy, at);
-        }
-        let moved = Frame::Moved {
-            start: at,
-            next: &rest,
-        };
-        let turn = Turn {
-            body: &*body,
-            rest: &moved,
-        };
-        self.prefer(text, turn, &*next, turns.greedy, at)
-    }
-
-    // One more turn with what is behind it, or none: the turn first where the repeat is greedy.
-    #[cycle(straight)]
-    fn prefer(
-        &mut self,
-        text: &[u8],
-        turn: Turn<'_>,
-        next: &Frame<'_>,
-        greedy: bool,
-        at: usize,
-    ) -> Trial
-        requires { self.old.settings.items ≡ [] }
-        ensures steps { self.new.steps ≤ self.old.steps }
-        ensures says { IfOk result (λ tried. Says tried self.new
-            (preferring greedy (turn_ways text.now turn.entry) (frame_ways text.now next.now) at)) }
-    {
-        if greedy {
-            match self.pattern(text, &*turn.body, &*turn.rest, at)? {
-                Tried::Failed => self.go_on(text, &*next, at),
-                tried => Ok(tried),
-            }
-        } else {
-            match self.go_on(text, &*next, at)? {
-                Tried::Failed => self.pattern(text, &*turn.body, &*turn.rest, at),
-                tried => Ok(tried),
-            }
-        }
     }
 }

@@ -4,8 +4,7 @@ use Rattle.hc_match.proofs.search.first_match.Goals as goal
 
 pub places-preserved : goal.places-preserved
 places-preserved c =
-    let says = rw c.in-Failed.is at c.in_ok-from_place.ensures in
-    let pattern = pattern_of c.args.pat.now in
+    let says = rw c.in-Failed.is at c.in_ok-from_place.ensures in let pattern = pattern_of c.args.pat.now in
     record {
       unset = says.1;
       left = c.next_place-from-in-Failed.ensures.same pattern c.places-end.result c.starts-starts.ensures

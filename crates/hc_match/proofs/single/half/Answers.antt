@@ -1,5 +1,4 @@
-use Rattle.hc_match.proofs.Common.{◌≡◌, ◌+◌, ◌∙◌, ap, arith}
-use Rattle.std.specs.Prelude.{◌%◌}
+use Rattle.hc_match.proofs.Common.{◌≡◌, ◌+◌, ◌%◌, ◌∙◌, ap, arith}
 use Rattle.std.specs.Int.{bit_at}
 use Rattle.std.proofs.lemmas.Nat.{shr-shr}
 use Rattle.hc_match.proofs.single.half.Goals as goal

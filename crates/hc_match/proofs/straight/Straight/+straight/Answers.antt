@@ -1,16 +1,14 @@
-use Rattle.hc_match.proofs.Common.{Some, [], nat_lt, if◌then◌else◌, ◌≡◌, ◌+◌, ◌-◌, true, false, arith, ap, ◌∙◌, subst, sym, length, has_byte, is_alt, is_cat, is_group, pattern_of, alt, cat, group, last_ways, with_group, behind, step_where, Says, frame_ways, preferring, turns_ways, ends, held_over}
-use Rattle.hc_match.specs.Runs.{first_end, other_first}
+use Rattle.hc_match.proofs.Common.{Some, ◌∷◌, ◌++◌, first_end, other_first, [], nat_lt, if◌then◌else◌, ◌≡◌, ◌+◌, ◌-◌, true, false, arith, ap, ◌∙◌, subst, sym, length, has_byte, is_alt, is_cat, is_group, pattern_of, alt, cat, group, last_ways, with_group, behind, step_where, Says, frame_ways, preferring, turns_ways, ends, held_over}
 use Rattle.hc_match.proofs.Runs.{ends_are, ends_gone, within_others}
 use Rattle.hc_match.proofs.Saying.{any_turn_is, both_is, either_is, first_turn_is, further_turn_is, group_is, only_way, said, said_before, run_of_is, same_way, second_is, set_over}
 use Rattle.hc_match.proofs.straight.Straight.+straight.Goals as goal
 
 pub close-returns-clause-says : goal.close-returns-clause-says
 close-returns-clause-says t c held =
-    let says = rw c.in-Matched.is at c.in_ok-tried.ensures.says in
+    let says = rw c.in-Matched.is at c.in_ok-tried.ensures.says in let settings = c.go_on.new.self.settings.items in
     says (with_group c.args.group (record { start = c.args.start; end = c.args.at }) held)
     ∙ ap (λ over. Some (record { end = c.go_on.new.self.end; held = over }))
-    (set_over held c.args.group c.args.start c.args.at c.go_on.new.self.settings.items c.set.new.self.settings.items c.in_ok-set.ensures.items)
-    ∙ ap (λ end. Some (record { end = end; held = held_over held c.set.new.self.settings.items })) (sym c.in_ok-set.ensures.end)
+    (set_over held c.args.group c.args.start c.args.at settings c.push.new.self.items (c.in_ok-push.ensures.items ∙ ap (λ setting. settings ++ setting ∷ []) c.in_ok-to.ensures))
 
 pub node-returns-in-Cat-clause-says : goal.node-returns-in-Cat-clause-says
 node-returns-in-Cat-clause-says t c =
@@ -24,9 +22,7 @@ node-returns-in-Cat-clause-says t c =
 pub part-returns-in-Failed-clause-says : goal.part-returns-in-Failed-clause-says
 part-returns-in-Failed-clause-says t c =
     let is : pattern_of c.args.pat.now ≡ alt (pattern_of c.in-Alt.first.value) (pattern_of c.in-Alt.second.value) = ap pattern_of c.in-Alt.is ∙ is_alt c.in-Alt.first c.in-Alt.second in
-    let text = c.args.text.now in
-    let next = frame_ways text c.args.next.now in
-    let none = rw c.in-Failed.is at c.in_ok-tried-in-Alt.ensures.says in
+    let text = c.args.text.now in let next = frame_ways text c.args.next.now in let none = rw c.in-Failed.is at c.in_ok-tried-in-Alt.ensures.says in
     said c.pattern-in-Failed.result c.pattern-in-Failed.new.self _ _
     (second_is text (pattern_of c.args.pat.now) (pattern_of c.in-Alt.first.value) (pattern_of c.in-Alt.second.value) (pattern_of c.deref.result.now) (pattern_of c.deref-in-Failed.result.now)
     next c.args.at is (ap pattern_of c.deref.ensures) (ap pattern_of c.deref-in-Failed.ensures) none.0)
@@ -35,9 +31,7 @@ part-returns-in-Failed-clause-says t c =
 pub part-returns-in_default-clause-says : goal.part-returns-in_default-clause-says
 part-returns-in_default-clause-says t c =
     let is : pattern_of c.args.pat.now ≡ alt (pattern_of c.in-Alt.first.value) (pattern_of c.in-Alt.second.value) = ap pattern_of c.in-Alt.is ∙ is_alt c.in-Alt.first c.in-Alt.second in
-    let text = c.args.text.now in
-    let next = frame_ways text c.args.next.now in
-    let first = pattern_of c.deref.result.now in
+    let text = c.args.text.now in let next = frame_ways text c.args.next.now in let first = pattern_of c.deref.result.now in
     let second = pattern_of c.in-Alt.second.value in
     subst (Says c.in_ok-tried-in-Alt.tried c.pattern.new.self)
     (λ i held. either_is text (pattern_of c.args.pat.now) (pattern_of c.in-Alt.first.value) second first next c.args.at is (ap pattern_of c.deref.ensures) held i)
@@ -66,10 +60,7 @@ pattern-returns-clause-says t c =
 
 pub turns-returns-then-turns-gt0-clause-says : goal.turns-returns-then-turns-gt0-clause-says
 turns-returns-then-turns-gt0-clause-says t c =
-    let text = c.args.text.now in
-    let body = c.args.body.now in
-    let turns = c.args.turns in
-    let ways = last_ways text (pattern_of body) in
+    let text = c.args.text.now in let body = c.args.body.now in let turns = c.args.turns in let ways = last_ways text (pattern_of body) in
     let next = frame_ways text c.args.next.now in
     said c.pattern.result c.pattern.new.self _ _
     (λ held. ap (λ rest. behind ways (behind (turns_ways text body rest) next) c.args.at held) c.behind_one.ensures
@@ -78,10 +69,7 @@ turns-returns-then-turns-gt0-clause-says t c =
 
 pub turns-returns-then-is_some-clause-says : goal.turns-returns-then-is_some-clause-says
 turns-returns-then-is_some-clause-says t c =
-    let text = c.args.text.now in
-    let body = c.args.body.now in
-    let turns = c.args.turns in
-    let ways = last_ways text (pattern_of body) in
+    let text = c.args.text.now in let body = c.args.body.now in let turns = c.args.turns in let ways = last_ways text (pattern_of body) in
     let next = frame_ways text c.args.next.now in
     said c.prefer.result c.prefer.new.self _ _
     (λ held. ap (λ rest. preferring turns.greedy (behind ways (behind (turns_ways text body rest) next)) next c.args.at held) c.behind_one.ensures
@@ -90,10 +78,7 @@ turns-returns-then-is_some-clause-says t c =
 
 pub turns-returns-clause-says : goal.turns-returns-clause-says
 turns-returns-clause-says t c =
-    let text = c.args.text.now in
-    let body = c.args.body.now in
-    let turns = c.args.turns in
-    let ways = last_ways text (pattern_of body) in
+    let text = c.args.text.now in let body = c.args.body.now in let turns = c.args.turns in let ways = last_ways text (pattern_of body) in
     let next = frame_ways text c.args.next.now in
     said c.prefer-2.result c.prefer-2.new.self _ _
     (λ held. ap (λ rest. preferring turns.greedy (behind ways (λ end held. if nat_lt c.args.at end then behind (turns_ways text body rest) next end held else [])) next c.args.at held) c.behind_one.ensures
@@ -102,10 +87,7 @@ turns-returns-clause-says t c =
 
 pub repeat-returns-clause-says : goal.repeat-returns-clause-says
 repeat-returns-clause-says t c =
-    let text = c.args.text.now in
-    let next = frame_ways text c.args.next.now in
-    let run = c.in-Some-run_of.run' in
-    let turns = c.args.turns in
+    let text = c.args.text.now in let next = frame_ways text c.args.next.now in let run = c.in-Some-run_of.run' in let turns = c.args.turns in
     said c.ends.result c.ends.new.self _ _
     (run_of_is (length text) (last_ways text (pattern_of c.args.body.now)) (step_where text (has_byte c.in-Some.set)) next turns.least turns.most turns.greedy c.args.at (ends turns.greedy next run.first run.more)
     (c.in-Some.ensures text) (c.in-Some-run_of.ensures.some turns.greedy next))
@@ -113,9 +95,7 @@ repeat-returns-clause-says t c =
 
 pub ends-ends-preserved : goal.ends-ends-preserved
 ends-ends-preserved t c =
-    let next = frame_ways c.args.text.now c.args.next.now in
-    let left = c.ends.left in
-    let none = rw c.in-Failed.is at c.in_ok-tried.ensures.says in
+    let next = frame_ways c.args.text.now c.args.next.now in let left = c.ends.left in let none = rw c.in-Failed.is at c.in_ok-tried.ensures.says in
     let others = c.others-left.ensures in
     record {
       unset = none.1;
@@ -126,9 +106,7 @@ ends-ends-preserved t c =
 
 pub ends-returns-in_default-clause-says : goal.ends-returns-in_default-clause-says
 ends-returns-in_default-clause-says t c =
-    let next = frame_ways c.args.text.now c.args.next.now in
-    let greedy = c.args.greedy in
-    let left = c.ends.left in
+    let next = frame_ways c.args.text.now c.args.next.now in let greedy = c.args.greedy in let left = c.ends.left in
     subst (Says c.in_ok-tried.tried c.look.new.self) (λ i held. (ends_are greedy next left.first left.more held c.ends-test.true ∙ c.ends.invariant.left held) i)
     (said_before c.in_ok-tried.tried c.look.new.self (next (first_end greedy left.first left.more)) (ends greedy next (other_first greedy left.first) (left.more - 1)) c.in_default.not-Failed
     (rw c.end.ensures at c.in_ok-tried.ensures.says))
