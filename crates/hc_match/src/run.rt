@@ -1,6 +1,6 @@
 //! Repeats of one byte: the bytes that fit are counted, and no turn is tried by itself.
-ghost use Rattle.std.specs.Prelude.{◌≡◌, ℕ, ◌+◌, ◌-◌, ◌^◌, ◌≤◌, ◌<◌, Bool, List, [], length, max};
-ghost use Rattle.std.specs.Prelude.{slice_get, true, IfSome, IfNone, IsTrue};
+ghost use Rattle.std.specs.Prelude.{◌≡◌, ℕ, ◌+◌, ◌-◌, ◌^◌, ◌≤◌, ◌<◌, Bool, List, []};
+ghost use Rattle.std.specs.Prelude.{length, max, slice_get, true, IfSome, IfNone, IsTrue};
 ghost use Rattle.hc_pattern.specs.Bits.{has_byte};
 ghost use Rattle.hc_pattern.specs.Pattern.{pattern_of};
 ghost use Rattle.hc_ways.specs.Ways.{Ways, behind, meets, repeated, step_where};

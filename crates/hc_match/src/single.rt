@@ -102,11 +102,10 @@ pub fn is_in_class(text: &[u8], at: usize, set: &ByteSet) -> bool
 fn is_in(set: &ByteSet, byte: u8) -> bool
     ensures { result ≡ has_byte set.now byte }
 {
-    if byte < 128 {
-        has_bit(set.low, byte)
-    } else {
-        has_bit(set.high, byte - 128)
+    if byte >= 128 {
+        return has_bit(set.high, byte - 128);
     }
+    has_bit(set.low, byte)
 }
 
 // By a word of 64 bits, which takes fewer instructions than a shift of 128.

@@ -1,4 +1,4 @@
-use Rattle.hc_match.proofs.Common.{◌≡◌, ◌∙◌, sym, arith, nothing_held}
+use Rattle.hc_match.proofs.Common.{◌∙◌, sym, arith, nothing_held}
 use Rattle.hc_match.proofs.Places.{passed}
 use Rattle.hc_match.proofs.start.First.next_place.Goals as goal
 

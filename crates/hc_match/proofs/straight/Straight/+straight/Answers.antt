@@ -1,4 +1,4 @@
-use Rattle.hc_match.proofs.Common.{Some, ◌∷◌, ◌++◌, first_end, other_first, [], nat_lt, if◌then◌else◌, ◌≡◌, ◌+◌, ◌-◌, true, false, arith, ap, ◌∙◌, subst, sym, length, has_byte, is_alt, is_cat, is_group, pattern_of, alt, cat, group, last_ways, with_group, behind, step_where, Says, frame_ways, preferring, turns_ways, ends, held_over}
+use Rattle.hc_match.proofs.Common.{Some, ◌∷◌, ◌++◌, first_end, other_first, [], nat_lt, if◌then◌else◌, ◌≡◌, ◌-◌, arith, ap, ◌∙◌, subst, sym, length, has_byte, is_alt, is_cat, is_group, pattern_of, alt, cat, group, last_ways, with_group, behind, step_where, Says, frame_ways, preferring, turns_ways, ends}
 use Rattle.hc_match.proofs.Runs.{ends_are, ends_gone, within_others}
 use Rattle.hc_match.proofs.Saying.{any_turn_is, both_is, either_is, first_turn_is, further_turn_is, group_is, only_way, said, said_before, run_of_is, same_way, second_is, set_over}
 use Rattle.hc_match.proofs.straight.Straight.+straight.Goals as goal
