@@ -25,11 +25,15 @@ pub turns_begin : (whole body a : Pattern) (least : ℕ) (most : Option ℕ) (gr
 turns_begin whole body a least most greedy is one some starts text from held later =
     no_repeat text whole body a least most greedy from held is one some (starts text from held later)
 
+pub leads : (found : Option First) (lead whole : Pattern) → ((text : List ℕ) (at : ℕ) → NoWay text at lead → NoWay text at whole)
+    → IfSome found (λ first. BeginsWith first lead) → IfSome found (λ first. BeginsWith first whole)
+leads None lead whole over begins = tt
+leads (Some first) lead whole over begins = λ text from held out. over text from (λ held. begins text from held out) held
+
 pub turns_begin_in : (found : Option First) (whole body a : Pattern) (least : ℕ) (most : Option ℕ) (greedy : Bool) → whole ≡ repeat body least most greedy → a ≡ body → 0 < least
     → IfSome found (λ first. BeginsWith first a) → IfSome found (λ first. BeginsWith first whole)
-turns_begin_in None whole body a least most greedy is one some starts = tt
-turns_begin_in (Some first) whole body a least most greedy is one some starts = λ text from held out.
-    no_repeat text whole body a least most greedy from held is one some (starts text from held out)
+turns_begin_in found whole body a least most greedy is one some =
+    leads found a whole (λ text from none held. no_repeat text whole body a least most greedy from held is one some (none held))
 
 later_places : (text : List ℕ) (pattern : Pattern) (count from : ℕ) → BeginsAtStart pattern → 0 < from → match_among text pattern count from ≡ None
 later_places text pattern zero from starts later = refl

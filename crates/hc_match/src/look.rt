@@ -9,7 +9,7 @@ use crate::single::{is_byte, is_in_class};
 use hc_pattern::Pat;
 
 /// The front of a sequence: where it has no way, the sequence has none.
-fn lead<'p>(pat: &'p Pat) -> &'p Pat
+pub fn lead<'p>(pat: &'p Pat) -> &'p Pat
     ensures { (text : List ℕ) (at : ℕ)
         → NoWay text at (pattern_of result.now) → NoWay text at (pattern_of pat.now) }
 {

@@ -8,7 +8,8 @@ ghost use Rattle.hc_match.specs.Frames.{Says, Tells};
 
 use crate::captures::{Captures, Setting};
 use crate::frame::{Frame, Trial, Tried};
-use crate::start::{First, begins_at_start, first_bytes, next_place};
+use crate::look::lead;
+use crate::start::{First, begins_at_start, front_bytes, next_place};
 use crate::straight::Straight;
 use hc_base::NoMemory;
 use hc_pattern::Pat;
@@ -52,7 +53,10 @@ pub fn first_match(alloc: Global, pat: &Pat, text: &[u8]) -> Result<Searched, No
 fn starts(pat: &Pat, places: usize) -> Option<First>
     ensures { IfSome result (λ first. BeginsWith first (pattern_of pat.now)) }
 {
-    if places == 1 { None } else { first_bytes(pat) }
+    if places == 1 {
+        return None;
+    }
+    front_bytes(lead(pat))
 }
 
 // At how many places a match may begin.

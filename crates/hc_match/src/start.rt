@@ -70,8 +70,19 @@ pub fn begins_at_start(pat: &Pat) -> bool
     }
 }
 
+/// The same as `first_bytes`: a byte is seen at once.
+#[inline(always)]
+pub fn front_bytes(pat: &Pat) -> Option<First>
+    ensures { IfSome result (λ first. BeginsWith first (pattern_of pat.now)) }
+{
+    match pat {
+        Pat::Byte(byte) => Some(First::Byte(*byte)),
+        _ => first_bytes(pat),
+    }
+}
+
 /// Bytes of which one stands at the beginning of each match, where there are such that are soon seen.
-pub fn first_bytes(pat: &Pat) -> Option<First>
+fn first_bytes(pat: &Pat) -> Option<First>
     ensures { IfSome result (λ first. BeginsWith first (pattern_of pat.now)) }
 {
     match pat {
