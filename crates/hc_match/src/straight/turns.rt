@@ -11,14 +11,7 @@ impl Straight {
     // Turns of a repeat, and what is behind them.
     #[cycle(straight)]
     #[inline(never)]
-    pub fn turns(
-        &mut self,
-        text: &[u8],
-        body: &Pat,
-        turns: Turns,
-        next: &Frame<'_>,
-        at: usize,
-    ) -> Trial
+    pub fn turns(&mut self, text: &[u8], body: &Pat, turns: Turns, next: &Frame, at: usize) -> Trial
         requires { self.old.settings.items ≡ [] }
         ensures steps { self.new.steps ≤ self.old.steps }
         ensures says { IfOk result (λ tried. Says tried self.new
