@@ -1,5 +1,5 @@
 -- The names that the proofs of this crate cite, passed on from one place. Declares nothing.
-pub use Rattle.std.proofs.Common.{append-nil, ◌≡◌, ℕ, zero, suc, ◌+◌, ◌<◌, ◌≤◌, inl, inr, Bool, true, false, List, [], ◌∷◌, ◌++◌, length, Option, Some, None, map, if◌then◌else◌, get_or, nat_lt, lt-ltb, le-ltb, slice_get, slice_set, refl, sym, ap, ◌∙◌, arith, ◌-◌, option_map, true≢false, ◌⊎◌, append_assoc, IfSome, eqb, eq-eqb, eqb-true, ne_eqb, drop, ◌/◌, take, unwrap_or, nat_eq, max, subst, ◌*◌}
+pub use Rattle.std.proofs.Common.{append-nil, ◌≡◌, ℕ, zero, suc, ◌+◌, ◌<◌, ◌≤◌, inl, inr, Bool, true, false, List, [], ◌∷◌, ◌++◌, length, Option, Some, None, map, if◌then◌else◌, get_or, nat_lt, lt-ltb, le-ltb, slice_get, slice_set, refl, sym, ap, ◌∙◌, arith, ◌-◌, option_map, true≢false, ◌⊎◌, append_assoc, IfSome, eqb, eq-eqb, eqb-true, ne_eqb, drop, ◌/◌, take, unwrap_or, nat_eq, max, subst, ◌*◌, ◌%◌, bit_and}
 pub use Rattle.std.proofs.lemmas.List.{length-append, length-set, get_or_read}
 pub use Rattle.std.proofs.lemmas.Option.{slice_get-get_or, slice_get_past, none-some, same_Some}
 pub use Rattle.std.specs.List.{flat_map, fold}
@@ -7,7 +7,7 @@ pub use Rattle.std.specs.Option.{option_or, option_eq}
 pub use Rattle.hc_match.specs.Frames.{Says, less_than, preferring, frame_ways, turns_ways}
 pub use Rattle.hc_match.specs.Pairs.{AllFail, Fails, HasEnded, Stands, kept_now, IsPair, Leads, Reached, move_ways, other_ways, past, IsSearch, kept_in}
 pub use Rattle.hc_match.specs.Program.{Compiles, Extends, HasMeaning, IsAdded, IsMeaning, Kept, Meaning, NamesBelow, closed_at, keeping_held, kept_ways, opened, step_ways, turn_step, nothing_kept, kept_past, Means}
-pub use Rattle.hc_match.specs.Runs.{ends, further_turns, run_length}
+pub use Rattle.hc_match.specs.Runs.{ends, first_end, further_turns, other_first, run_length}
 pub use Rattle.hc_match.specs.Settings.{held_over}
 pub use Rattle.hc_match.specs.declared.paths.Passed.{Passed}
 pub use Rattle.hc_match.specs.declared.program.Step.{Step}

@@ -1,5 +1,5 @@
 -- The ways of a repeat of one byte are the ends of its run, in order.
-use Rattle.hc_match.proofs.Common.{◌≡◌, inl, inr, slice_get_past, ℕ, zero, suc, ◌+◌, ◌-◌, ◌<◌, Bool, true, false, List, [], ◌++◌, length, if◌then◌else◌, nat_lt, Option, Some, None, slice_get, refl, ap, sym, ◌∙◌, arith, append_assoc, lt-ltb, le-ltb, none-some, same_Some, Ways, any_turns, behind, meets, moving, none, preferred, repeated, step_where, stop, turns_then, turns_up_to, Held, behind-behind, behind-preferred, turn_or_next, append-nil, ends, further_turns, run_length}
+use Rattle.hc_match.proofs.Common.{◌≡◌, ◌≤◌, first_end, other_first, inl, inr, slice_get_past, ℕ, zero, suc, ◌+◌, ◌-◌, ◌<◌, Bool, true, false, List, [], ◌++◌, length, if◌then◌else◌, nat_lt, Option, Some, None, slice_get, refl, ap, sym, ◌∙◌, arith, append_assoc, lt-ltb, le-ltb, none-some, same_Some, Ways, any_turns, behind, meets, moving, none, preferred, repeated, step_where, stop, turns_then, turns_up_to, Held, behind-behind, behind-preferred, turn_or_next, append-nil, ends, further_turns, run_length}
 use Rattle.std.specs.List.{filter, flat_map}
 use Rattle.std.specs.Prelude.{min, ◌^◌, ◌==◌}
 use Rattle.std.proofs.lemmas.Nat.Bits.{bit_at_ones}
@@ -138,18 +138,17 @@ longest next at (suc more) held =
     ap (λ l. l ++ next at held) (longest next (at + 1) more held ∙ ap (λ place. next place held ++ ends true next (at + 1) more held) place)
     ∙ append_assoc (next (at + suc (suc more)) held) (ends true next (at + 1) more held) (next at held)
 
--- The longest first, and then the others.
-pub longest_first : (next : Ways Held) (at more : ℕ) (held : Held) → 0 < more → next (at + more) held ++ ends true next at (more - 1) held ≡ ends true next at more held
-longest_first next at zero held some = absurd (omega (arith, some))
-longest_first next at (suc more) held some = let less : suc more - 1 ≡ more = omega arith in rw less (sym (longest next at more held))
-
-pub shortest_first : (next : Ways Held) (at more : ℕ) (held : Held) → 0 < more → next at held ++ ends false next (at + 1) (more - 1) held ≡ ends false next at more held
-shortest_first next at zero held some = absurd (omega (arith, some))
-shortest_first next at (suc more) held some = let less : suc more - 1 ≡ more = omega arith in rw less refl
+-- The end that is tried first, and then the others.
+pub ends_are : (greedy : Bool) (next : Ways Held) (at more : ℕ) (held : Held) → 0 < more → next (first_end greedy at more) held ++ ends greedy next (other_first greedy at) (more - 1) held ≡ ends greedy next at more held
+ends_are greedy next at zero held some = absurd (omega (arith, some))
+ends_are true next at (suc more) held some = let less : suc more - 1 ≡ more = omega arith in rw less (sym (longest next at more held))
+ends_are false next at (suc more) held some = let less : suc more - 1 ≡ more = omega arith in rw less refl
 
 -- Nothing is behind that end.
-pub longest_gone : (next : Ways Held) (at more : ℕ) (held : Held) → 0 < more → next (at + more) held ≡ [] → ends true next at (more - 1) held ≡ ends true next at more held
-longest_gone next at more held some none = sym (ap (λ l. l ++ ends true next at (more - 1) held) none) ∙ longest_first next at more held some
+pub ends_gone : (greedy : Bool) (next : Ways Held) (at more : ℕ) (held : Held) → 0 < more → next (first_end greedy at more) held ≡ []
+    → ends greedy next (other_first greedy at) (more - 1) held ≡ ends greedy next at more held
+ends_gone greedy next at more held some none = sym (ap (λ l. l ++ ends greedy next (other_first greedy at) (more - 1) held) none) ∙ ends_are greedy next at more held some
 
-pub shortest_gone : (next : Ways Held) (at more : ℕ) (held : Held) → 0 < more → next at held ≡ [] → ends false next (at + 1) (more - 1) held ≡ ends false next at more held
-shortest_gone next at more held some none = sym (ap (λ l. l ++ ends false next (at + 1) (more - 1) held) none) ∙ shortest_first next at more held some
+pub within_others : (greedy : Bool) (first more other fewer most : ℕ) → 0 < more → other ≡ other_first greedy first → fewer ≡ more - 1 → first + more ≤ most → other + fewer ≤ most
+within_others true first more other fewer most some is one within = omega (arith, some, is, one, within)
+within_others false first more other fewer most some is one within = omega (arith, some, is, one, within)

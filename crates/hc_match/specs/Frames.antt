@@ -4,6 +4,7 @@ use Rattle.hc_pattern.specs.Pattern.{pattern_of}
 use Rattle.hc_pattern.specs.declared.pat.Pat.{Pat}
 use Rattle.hc_ways.specs.Ways.{Way, Ways, behind, either, repeated, stop}
 use Rattle.hc_ways.specs.Kept.{Held, first_of, last_ways, with_group}
+use Rattle.hc_match.specs.Single.{NoWay}
 use Rattle.hc_match.specs.Settings.{captured, held_over}
 use Rattle.hc_match.specs.declared.frame.Frame.{Frame, End, Then', Close', Moved', Turns'}
 use Rattle.hc_match.specs.declared.search.Searched.{Searched}
@@ -30,6 +31,14 @@ frame_ways text (Close' group start p next) =
     λ at held. frame_ways text next at (with_group group (record { start = start; end = at }) held)
 frame_ways text (Moved' start p next) = λ at held. if nat_lt start at then frame_ways text next at held else []
 frame_ways text (Turns' body turns p next) = behind (turns_ways text body.now turns) (frame_ways text next)
+
+-- The ways of a pattern and what is behind it.
+abbrev pub both_ways : List ℕ → Pat → Frame → Ways Held
+both_ways text pat next = behind (last_ways text (pattern_of pat)) (frame_ways text next)
+
+-- Where the pattern has no way, there is none for what is still to be matched.
+abbrev pub IsLead : List ℕ → Pat → Frame → Type 0
+IsLead text lead frame = (at : ℕ) → NoWay text at (pattern_of lead) → (held : Held) → frame_ways text frame at held ≡ []
 
 -- The ways of a turn and what is behind it.
 abbrev pub turn_ways : List ℕ → Turn → Ways Held

@@ -17,6 +17,13 @@ abbrev pub ends : Bool → Ways Held → ℕ → ℕ → Held → List (Way Held
 ends greedy next at zero held = next at held
 ends greedy next at (suc more) held = preferring greedy (λ at held. ends greedy next (at + 1) more held) next at held
 
+-- The end that is tried first, and where the other ends begin.
+abbrev pub first_end : Bool → ℕ → ℕ → ℕ
+first_end greedy first more = if greedy then first + more else first
+
+abbrev pub other_first : Bool → ℕ → ℕ
+other_first greedy first = if greedy then first else first + 1
+
 -- The ways of a repeat of these bytes.
 abbrev pub run_ways : List ℕ → ByteSet → Turns → Bool → Ways Held
 run_ways text set turns greedy = repeated (length text) (step_where text (has_byte set)) turns.least turns.most greedy

@@ -32,3 +32,7 @@ is_first (Class set) c = has_byte set c
 abbrev pub BeginsWith : First → Pattern → Type 0
 BeginsWith first pattern = (text : List ℕ) (from : ℕ) (held : Held)
     → meets (is_first first) (slice_get text from) ≡ false → last_ways text pattern from held ≡ []
+
+-- It has no way from this place.
+abbrev pub NoWay : List ℕ → ℕ → Pattern → Type 0
+NoWay text at pattern = (held : Held) → last_ways text pattern at held ≡ []

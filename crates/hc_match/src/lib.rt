@@ -6,6 +6,7 @@ mod failures;
 mod find;
 mod frame;
 mod groups;
+mod look;
 mod moves;
 mod paths;
 mod program;

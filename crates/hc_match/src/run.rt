@@ -1,11 +1,11 @@
 //! Repeats of one byte: the bytes that fit are counted, and no turn is tried by itself.
-ghost use Rattle.std.specs.Prelude.{◌≡◌, ℕ, ◌+◌, ◌≤◌, ◌<◌, Bool, List, [], length, max};
-ghost use Rattle.std.specs.Prelude.{slice_get, true, IfSome, IfNone, IsTrue};
+ghost use Rattle.std.specs.Prelude.{◌≡◌, ℕ, ◌+◌, ◌-◌, ◌^◌, ◌≤◌, ◌<◌, Bool, List, []};
+ghost use Rattle.std.specs.Prelude.{length, max, slice_get, true, IfSome, IfNone, IsTrue};
 ghost use Rattle.hc_pattern.specs.Bits.{has_byte};
 ghost use Rattle.hc_pattern.specs.Pattern.{pattern_of};
 ghost use Rattle.hc_ways.specs.Ways.{Ways, behind, meets, repeated, step_where};
 ghost use Rattle.hc_ways.specs.Kept.{Held, last_ways};
-ghost use Rattle.hc_match.specs.Runs.{ends, further_turns, run_length, run_ways};
+ghost use Rattle.hc_match.specs.Runs.{ends, first_end, further_turns, other_first, run_length, run_ways};
 
 use crate::frame::Turns;
 use crate::single::is_in_class;
@@ -16,6 +16,35 @@ use hc_pattern::{ByteSet, Pat};
 pub struct Run {
     pub first: usize,
     pub more: usize,
+}
+
+impl Run {
+    /// Its end to be tried first: the last one where the repeat is greedy.
+    #[inline(always)]
+    pub fn end(self, greedy: bool) -> usize
+        requires { self.first + self.more < 2 ^ 64 }
+        ensures { result ≡ first_end greedy self.first self.more }
+    {
+        if greedy {
+            self.first + self.more
+        } else {
+            self.first
+        }
+    }
+
+    /// Its other ends.
+    #[inline(always)]
+    pub fn others(self, greedy: bool) -> Run
+        requires some { 0 < self.more }
+        requires within { self.first + self.more < 2 ^ 64 }
+        ensures first { result.first ≡ other_first greedy self.first }
+        ensures more { result.more ≡ self.more - 1 }
+    {
+        Run {
+            first: if greedy { self.first } else { self.first + 1 },
+            more: self.more - 1,
+        }
+    }
 }
 
 /// The bytes that the pattern matches, if it is one byte.
@@ -70,7 +99,7 @@ fn fitting(text: &[u8], set: ByteSet, at: usize, most: usize) -> usize
         return most.min(text.len().saturating_sub(at));
     }
     let mut count = 0;
-    'bytes: while count < most && is_in_class(text, at + count, set) {
+    'bytes: while count < most && is_in_class(text, at + count, &set) {
         count += 1;
     }
     count

@@ -8,7 +8,8 @@ ghost use Rattle.hc_match.specs.Frames.{Says, Tells};
 
 use crate::captures::{Captures, Setting};
 use crate::frame::{Frame, Trial, Tried};
-use crate::start::{First, begins_at_start, first_bytes};
+use crate::look::lead;
+use crate::start::{First, begins_at_start, front_bytes, next_place};
 use crate::straight::Straight;
 use hc_base::NoMemory;
 use hc_pattern::Pat;
@@ -35,15 +36,27 @@ pub fn first_match(alloc: Global, pat: &Pat, text: &[u8]) -> Result<Searched, No
         end: 0,
         settings: Vec::new(alloc),
     };
-    let starts = first_bytes(pat);
-    for from in 0..places(pat, text) {
-        match from_place(&mut search, text, pat, starts, from)? {
+    let end = places(pat, text);
+    let starts = starts(pat, end);
+    let mut from = next_place(text, starts, 0);
+    'places: while from < end {
+        match from_place(&mut search, text, pat, from)? {
             Tried::Matched => return Ok(Searched::Match(captures(search, from)?)),
-            Tried::Failed => {}
+            Tried::Failed => from = next_place(text, starts, from + 1),
             Tried::GaveUp => return Ok(Searched::GaveUp),
         }
     }
     Ok(Searched::NoMatch)
+}
+
+// Bytes that a match begins with, where there are several places to look at.
+fn starts(pat: &Pat, places: usize) -> Option<First>
+    ensures { IfSome result (λ first. BeginsWith first (pattern_of pat.now)) }
+{
+    if places == 1 {
+        return None;
+    }
+    front_bytes(lead(pat))
 }
 
 // At how many places a match may begin.
@@ -57,23 +70,11 @@ fn places(pat: &Pat, text: &[u8]) -> usize
     }
 }
 
-// The pattern from this place, where it begins with one of these bytes alone.
-fn from_place(
-    search: &mut Straight,
-    text: &[u8],
-    pat: &Pat,
-    starts: Option<First>,
-    from: usize,
-) -> Trial
-    requires unset { search.old.settings.items ≡ [] }
-    requires starts { IfSome starts (λ first. BeginsWith first (pattern_of pat.now)) }
+// The pattern from this place.
+fn from_place(search: &mut Straight, text: &[u8], pat: &Pat, from: usize) -> Trial
+    requires { search.old.settings.items ≡ [] }
     ensures { IfOk result (λ tried. Says tried search.new (last_ways text.now (pattern_of pat.now) from)) }
 {
-    if let Some(first) = starts {
-        if !first.is_at(text, from) {
-            return Ok(Tried::Failed);
-        }
-    }
     search.pattern(text, pat, &Frame::End, from)
 }
 

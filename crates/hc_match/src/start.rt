@@ -1,7 +1,8 @@
 //! What a pattern begins with: the start of a text, or certain bytes.
-ghost use Rattle.std.specs.Prelude.{◌≡◌, ◌||◌, ℕ, slice_get, IfSome, IsTrue};
+ghost use Rattle.std.specs.Prelude.{◌≡◌, ◌-◌, ◌≤◌, ◌||◌, ℕ, slice_get, IfSome, IsTrue};
 ghost use Rattle.hc_pattern.specs.Bits.{has_byte};
-ghost use Rattle.hc_pattern.specs.Pattern.{pattern_of};
+ghost use Rattle.hc_pattern.specs.Pattern.{Pattern, pattern_of};
+ghost use Rattle.hc_ways.specs.Kept.{match_among};
 ghost use Rattle.hc_ways.specs.Ways.{meets};
 ghost use Rattle.hc_match.specs.Single.{BeginsAtStart, BeginsWith, is_first};
 
@@ -22,8 +23,21 @@ impl First {
     {
         match self {
             First::Byte(byte) => is_byte(text, at, byte),
-            First::Class(set) => is_in_class(text, at, set),
+            First::Class(set) => is_in_class(text, at, &set),
         }
+    }
+
+    /// The next place where one of the bytes is, or the end: no match begins before it.
+    fn next_place(self, text: &[u8], from: usize) -> usize
+        ensures later { from ≤ result }
+        ensures same { (pattern : Pattern) (end : ℕ) → BeginsWith self pattern
+            → match_among text.now pattern (end - result) result ≡ match_among text.now pattern (end - from) from }
+    {
+        let mut at = from;
+        'places: while at < text.len() && !self.is_at(text, at) {
+            at += 1;
+        }
+        at
     }
 
     fn set(self) -> ByteSet
@@ -56,8 +70,19 @@ pub fn begins_at_start(pat: &Pat) -> bool
     }
 }
 
+/// The same as `first_bytes`: a byte is seen at once.
+#[inline(always)]
+pub fn front_bytes(pat: &Pat) -> Option<First>
+    ensures { IfSome result (λ first. BeginsWith first (pattern_of pat.now)) }
+{
+    match pat {
+        Pat::Byte(byte) => Some(First::Byte(*byte)),
+        _ => first_bytes(pat),
+    }
+}
+
 /// Bytes of which one stands at the beginning of each match, where there are such that are soon seen.
-pub fn first_bytes(pat: &Pat) -> Option<First>
+fn first_bytes(pat: &Pat) -> Option<First>
     ensures { IfSome result (λ first. BeginsWith first (pattern_of pat.now)) }
 {
     match pat {
@@ -71,5 +96,17 @@ pub fn first_bytes(pat: &Pat) -> Option<First>
         Pat::Group(_, body) => first_bytes(body),
         Pat::Repeat(body, least, _, _) => { if *least > 0 { first_bytes(body) } else { None } }
         Pat::Empty | Pat::Start | Pat::Finish => None,
+    }
+}
+
+/// The next place at which a match may begin.
+pub fn next_place(text: &[u8], starts: Option<First>, from: usize) -> usize
+    ensures later { from ≤ result }
+    ensures same { (pattern : Pattern) (end : ℕ) → IfSome starts (λ first. BeginsWith first pattern)
+        → match_among text.now pattern (end - result) result ≡ match_among text.now pattern (end - from) from }
+{
+    match starts {
+        Some(first) => first.next_place(text, from),
+        None => from,
     }
 }

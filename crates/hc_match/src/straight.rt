@@ -1,21 +1,24 @@
 //! The straight search: one way after the other, the first way first. What is to be matched later
 //! stands in the calls that wait, and groups are set on the way back from a match: so a search that
 //! fails takes no memory.
-ghost use Rattle.std.specs.Prelude.{◌≡◌, ◌+◌, ◌^◌, ◌<◌, ◌≤◌, []};
-ghost use Rattle.std.specs.Prelude.{◌∷◌, ◌++◌, false, true, IfOk};
-ghost use Rattle.hc_pattern.specs.Pattern.{pattern_of};
+ghost use Rattle.std.specs.Prelude.{◌≡◌, ◌+◌, ◌^◌, ◌<◌, ◌≤◌, [], IfOk, IfSome};
+ghost use Rattle.std.specs.Prelude.{if◌then◌else◌, nat_lt};
 ghost use Rattle.hc_ways.specs.Ways.{behind};
-ghost use Rattle.hc_ways.specs.Kept.{last_ways, with_group};
+ghost use Rattle.hc_ways.specs.Kept.{with_group};
 ghost use Rattle.hc_match.specs.Runs.{ends};
-ghost use Rattle.hc_match.specs.Frames.{Says, frame_ways, preferring, turn_ways, turns_ways};
-ghost use Rattle.hc_match.specs.Settings.{set_to};
+ghost use Rattle.hc_match.specs.Frames.{IsLead, Says, both_ways, frame_ways, turns_ways};
+
+mod turns;
 
 use crate::captures::Setting;
-use crate::frame::{Frame, Trial, Tried, Turn, Turns};
+use crate::frame::{Frame, Trial, Tried, Turns};
+use crate::look::{frame_lead, may_begin};
 use crate::run::{Run, one_byte, run_of};
 use crate::single::{past_front, single_end};
-use hc_base::NoMemory;
 use hc_pattern::Pat;
+
+// Room for so many groups is taken at once.
+const ROOM: usize = 8;
 
 /// A straight search.
 #[derive(Drop)]
@@ -30,6 +33,7 @@ pub struct Straight {
 impl Straight {
     // What is still to be matched, from this place.
     #[cycle(straight)]
+    #[inline(always)]
     fn go_on(&mut self, text: &[u8], frame: &Frame<'_>, at: usize) -> Trial
         requires { self.old.settings.items ≡ [] }
         ensures steps { self.new.steps ≤ self.old.steps }
@@ -41,24 +45,36 @@ impl Straight {
         self.steps -= 1;
         match frame {
             Frame::End => {
+                self.settings.reserve(ROOM)?;
                 self.end = at;
                 Ok(Tried::Matched)
             }
             Frame::Then { pat, next } => self.pattern(text, &**pat, &**next, at),
             Frame::Close { group, start, next } => self.close(text, *group, *start, &**next, at),
-            Frame::Moved { start, next } => {
-                if *start < at {
-                    self.go_on(text, &**next, at)
-                } else {
-                    Ok(Tried::Failed)
-                }
-            }
+            Frame::Moved { start, next } => self.moved(text, *start, &**next, at),
             Frame::Turns { body, turns, next } => self.turns(text, &**body, *turns, &**next, at),
+        }
+    }
+
+    // Nothing is behind a turn that took no byte.
+    #[cycle(straight)]
+    #[inline(never)]
+    fn moved(&mut self, text: &[u8], start: usize, next: &Frame<'_>, at: usize) -> Trial
+        requires { self.old.settings.items ≡ [] }
+        ensures steps { self.new.steps ≤ self.old.steps }
+        ensures says { IfOk result (λ tried. Says tried self.new
+            (λ held. if nat_lt start at then frame_ways text.now next.now at held else [])) }
+    {
+        if start < at {
+            self.go_on(text, &*next, at)
+        } else {
+            Ok(Tried::Failed)
         }
     }
 
     // The end of a group. It is set once a way has been found.
     #[cycle(straight)]
+    #[inline(never)]
     fn close(&mut self, text: &[u8], group: u8, start: usize, next: &Frame<'_>, at: usize) -> Trial
         requires { self.old.settings.items ≡ [] }
         ensures steps { self.new.steps ≤ self.old.steps }
@@ -69,28 +85,18 @@ impl Straight {
         let Tried::Matched = tried else {
             return Ok(tried);
         };
-        self.set(group, start, at)?;
+        // What is set already was so later on the way, and stays before it.
+        self.settings.push(Setting::to(group, start, at)?)?;
         Ok(Tried::Matched)
-    }
-
-    // The group is set. What is set already was so later on the way, and stays before it.
-    fn set(&mut self, group: u8, start: usize, end: usize) -> Result<(), NoMemory>
-        ensures items { IfOk result (λ _. self.new.settings.items
-            ≡ self.old.settings.items ++ set_to group start end ∷ []) }
-        ensures end { self.new.end ≡ self.old.end }
-        ensures steps { self.new.steps ≡ self.old.steps }
-    {
-        self.settings.push(Setting::to(group, start, end)?)?;
-        Ok(())
     }
 
     /// A pattern, and what is behind it.
     #[cycle(straight)]
+    #[inline(always)]
     pub fn pattern(&mut self, text: &[u8], pat: &Pat, next: &Frame<'_>, at: usize) -> Trial
         requires { self.old.settings.items ≡ [] }
         ensures steps { self.new.steps ≤ self.old.steps }
-        ensures says { IfOk result (λ tried. Says tried self.new
-            (behind (last_ways text.now (pattern_of pat.now)) (frame_ways text.now next.now) at)) }
+        ensures says { IfOk result (λ tried. Says tried self.new (both_ways text.now pat.now next.now at)) }
     {
         let Some(rest) = past_front(text, &*pat, at) else {
             return Ok(Tried::Failed);
@@ -104,8 +110,7 @@ impl Straight {
     fn node(&mut self, text: &[u8], pat: &Pat, next: &Frame<'_>, at: usize) -> Trial
         requires { self.old.settings.items ≡ [] }
         ensures steps { self.new.steps ≤ self.old.steps }
-        ensures says { IfOk result (λ tried. Says tried self.new
-            (behind (last_ways text.now (pattern_of pat.now)) (frame_ways text.now next.now) at)) }
+        ensures says { IfOk result (λ tried. Says tried self.new (both_ways text.now pat.now next.now at)) }
     {
         if self.steps == 0 {
             return Ok(Tried::GaveUp);
@@ -117,8 +122,22 @@ impl Straight {
                     pat: &**second,
                     next: &*next,
                 };
-                self.pattern(text, &**first, &then, at)
+                self.part(text, &**first, &then, at)
             }
+            _ => self.part(text, &*pat, &*next, at),
+        }
+    }
+
+    // The same. In the code of `node`, so that few calls wait in each other.
+    #[cycle(straight)]
+    #[inline(always)]
+    fn part(&mut self, text: &[u8], pat: &Pat, next: &Frame<'_>, at: usize) -> Trial
+        requires { self.old.settings.items ≡ [] }
+        ensures steps { self.new.steps ≤ self.old.steps }
+        ensures says { IfOk result (λ tried. Says tried self.new (both_ways text.now pat.now next.now at)) }
+    {
+        match pat {
+            Pat::Cat(_, _) => self.node(text, &*pat, &*next, at),
             Pat::Alt(first, second) => match self.pattern(text, &**first, &*next, at)? {
                 Tried::Failed => self.pattern(text, &**second, &*next, at),
                 tried => Ok(tried),
@@ -129,16 +148,9 @@ impl Straight {
                     start: at,
                     next: &*next,
                 };
-                self.pattern(text, &**body, &close, at)
+                self.body(text, &**body, &close, at)
             }
-            Pat::Repeat(body, least, most, greedy) => {
-                let turns = Turns {
-                    least: *least,
-                    most: *most,
-                    greedy: *greedy,
-                };
-                self.repeat(text, &**body, turns, &*next, at)
-            }
+            Pat::Repeat(_, _, _, _) => self.body(text, &*pat, &*next, at),
             Pat::Empty | Pat::Byte(_) | Pat::Class(_) | Pat::Start | Pat::Finish => {
                 match single_end(text, &*pat, at) {
                     Some(end) => self.go_on(text, &*next, end),
@@ -148,8 +160,28 @@ impl Straight {
         }
     }
 
+    // A repeat, or another pattern.
+    #[cycle(straight)]
+    #[inline(always)]
+    fn body(&mut self, text: &[u8], pat: &Pat, next: &Frame<'_>, at: usize) -> Trial
+        requires { self.old.settings.items ≡ [] }
+        ensures steps { self.new.steps ≤ self.old.steps }
+        ensures says { IfOk result (λ tried. Says tried self.new (both_ways text.now pat.now next.now at)) }
+    {
+        let Pat::Repeat(body, least, most, greedy) = pat else {
+            return self.pattern(text, &*pat, &*next, at);
+        };
+        let turns = Turns {
+            least: *least,
+            most: *most,
+            greedy: *greedy,
+        };
+        self.repeat(text, &**body, turns, &*next, at)
+    }
+
     // A repeat, and what is behind it.
     #[cycle(straight)]
+    #[inline(always)]
     fn repeat(
         &mut self,
         text: &[u8],
@@ -169,120 +201,44 @@ impl Straight {
         let Some(run) = run_of(text, set, turns, at) else {
             return Ok(Tried::Failed);
         };
-        if turns.greedy {
-            self.longest_first(text, run, &*next)
-        } else {
-            self.shortest_first(text, run, &*next)
-        }
+        self.ends(text, run, turns.greedy, &*next)
     }
 
-    // What is behind a run, from its last end back.
+    // What is still to be matched, unless the next byte tells that it has no way.
     #[cycle(straight)]
-    fn longest_first(&mut self, text: &[u8], run: Run, next: &Frame<'_>) -> Trial
+    #[inline(always)]
+    fn look(&mut self, text: &[u8], lead: Option<&Pat>, next: &Frame<'_>, at: usize) -> Trial
         requires unset { self.old.settings.items ≡ [] }
-        requires within { run.first + run.more < 2 ^ 64 }
+        requires lead { IfSome lead (λ lead. IsLead text.now lead.now next.now) }
         ensures steps { self.new.steps ≤ self.old.steps }
-        ensures says { IfOk result (λ tried. Says tried self.new
-            (ends true (frame_ways text.now next.now) run.first run.more)) }
+        ensures says { IfOk result (λ tried. Says tried self.new (frame_ways text.now next.now at)) }
     {
-        let mut more = run.more;
-        'ends: while more > 0 {
-            match self.go_on(text, &*next, run.first + more)? {
-                Tried::Failed => more -= 1,
-                tried => return Ok(tried),
-            }
-        }
-        self.go_on(text, &*next, run.first)
-    }
-
-    // What is behind a run, from its first end on.
-    #[cycle(straight)]
-    fn shortest_first(&mut self, text: &[u8], run: Run, next: &Frame<'_>) -> Trial
-        requires unset { self.old.settings.items ≡ [] }
-        requires within { run.first + run.more < 2 ^ 64 }
-        ensures steps { self.new.steps ≤ self.old.steps }
-        ensures says { IfOk result (λ tried. Says tried self.new
-            (ends false (frame_ways text.now next.now) run.first run.more)) }
-    {
-        let mut at = run.first;
-        let mut more = run.more;
-        'ends: while more > 0 {
-            match self.go_on(text, &*next, at)? {
-                Tried::Failed => {
-                    at += 1;
-                    more -= 1;
-                }
-                tried => return Ok(tried),
+        if let Some(lead) = lead {
+            if !may_begin(text, lead, at) {
+                return Ok(Tried::Failed);
             }
         }
         self.go_on(text, &*next, at)
     }
 
-    // Turns of a repeat, and what is behind them.
+    // What is behind a run, end by end.
     #[cycle(straight)]
-    fn turns(&mut self, text: &[u8], body: &Pat, turns: Turns, next: &Frame<'_>, at: usize) -> Trial
-        requires { self.old.settings.items ≡ [] }
+    #[inline(always)]
+    fn ends(&mut self, text: &[u8], run: Run, greedy: bool, next: &Frame<'_>) -> Trial
+        requires unset { self.old.settings.items ≡ [] }
+        requires within { run.first + run.more < 2 ^ 64 }
         ensures steps { self.new.steps ≤ self.old.steps }
         ensures says { IfOk result (λ tried. Says tried self.new
-            (behind (turns_ways text.now body.now turns) (frame_ways text.now next.now) at)) }
+            (ends greedy (frame_ways text.now next.now) run.first run.more)) }
     {
-        if turns.are_none() {
-            return Ok(Tried::Failed);
-        }
-        if turns.most == Some(0) {
-            return self.go_on(text, &*next, at);
-        }
-        let rest = Frame::Turns {
-            body: &*body,
-            turns: turns.behind_one(),
-            next: &*next,
-        };
-        if turns.least > 0 {
-            return self.pattern(text, &*body, &rest, at);
-        }
-        if turns.most.is_some() {
-            let turn = Turn {
-                body: &*body,
-                rest: &rest,
-            };
-            return self.prefer(text, turn, &*next, turns.greedy, at);
-        }
-        let moved = Frame::Moved {
-            start: at,
-            next: &rest,
-        };
-        let turn = Turn {
-            body: &*body,
-            rest: &moved,
-        };
-        self.prefer(text, turn, &*next, turns.greedy, at)
-    }
-
-    // One more turn with what is behind it, or none: the turn first where the repeat is greedy.
-    #[cycle(straight)]
-    fn prefer(
-        &mut self,
-        text: &[u8],
-        turn: Turn<'_>,
-        next: &Frame<'_>,
-        greedy: bool,
-        at: usize,
-    ) -> Trial
-        requires { self.old.settings.items ≡ [] }
-        ensures steps { self.new.steps ≤ self.old.steps }
-        ensures says { IfOk result (λ tried. Says tried self.new
-            (preferring greedy (turn_ways text.now turn.entry) (frame_ways text.now next.now) at)) }
-    {
-        if greedy {
-            match self.pattern(text, &*turn.body, &*turn.rest, at)? {
-                Tried::Failed => self.go_on(text, &*next, at),
-                tried => Ok(tried),
-            }
-        } else {
-            match self.go_on(text, &*next, at)? {
-                Tried::Failed => self.pattern(text, &*turn.body, &*turn.rest, at),
-                tried => Ok(tried),
+        let lead = frame_lead(&*next);
+        let mut left = run;
+        'ends: while left.more > 0 {
+            match self.look(text, lead, &*next, left.end(greedy))? {
+                Tried::Failed => left = left.others(greedy),
+                tried => return Ok(tried),
             }
         }
+        self.go_on(text, &*next, left.first)
     }
 }

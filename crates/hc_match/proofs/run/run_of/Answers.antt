@@ -10,9 +10,7 @@ returns-then-fitting-least-clause-none c greedy held =
 
 pub returns-clause-some : goal.returns-clause-some
 returns-clause-some c greedy next held =
-    let text = c.args.text.now in
-    let test = has_byte c.args.set in
-    let length_of = run_length text test in
+    let text = c.args.text.now in let test = has_byte c.args.set in let length_of = run_length text test in
     run_is text test c.args.turns.least c.args.turns.most greedy c.in-Some.further c.args.at next held c.in-Some.ensures
     (ap (length_of c.args.at) (sym c.from-least.ensures) ∙ sym c.fitting.ensures.value ∙ c.if-fitting-least.false ∙ c.from-least.ensures)
     ∙ ap (λ least. ends greedy next (c.args.at + least) (length_of (c.args.at + least) c.in-Some.further) held) (sym c.from-least.ensures)

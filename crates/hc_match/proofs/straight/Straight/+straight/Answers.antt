@@ -1,58 +1,53 @@
-use Rattle.hc_match.proofs.Common.{Some, [], nat_lt, if◌then◌else◌, ◌≡◌, ◌+◌, ◌-◌, true, false, arith, ap, ◌∙◌, subst, sym, length, has_byte, is_alt, is_cat, is_group, pattern_of, alt, cat, group, last_ways, with_group, behind, step_where, Says, frame_ways, preferring, turns_ways, ends, held_over}
-use Rattle.hc_match.proofs.Runs.{longest_first, longest_gone, shortest_first, shortest_gone}
+use Rattle.hc_match.proofs.Common.{Some, ◌∷◌, ◌++◌, first_end, other_first, [], nat_lt, if◌then◌else◌, ◌≡◌, ◌-◌, arith, ap, ◌∙◌, subst, sym, length, has_byte, is_alt, is_cat, is_group, pattern_of, alt, cat, group, last_ways, with_group, behind, step_where, Says, frame_ways, preferring, turns_ways, ends}
+use Rattle.hc_match.proofs.Runs.{ends_are, ends_gone, within_others}
 use Rattle.hc_match.proofs.Saying.{any_turn_is, both_is, either_is, first_turn_is, further_turn_is, group_is, only_way, said, said_before, run_of_is, same_way, second_is, set_over}
 use Rattle.hc_match.proofs.straight.Straight.+straight.Goals as goal
 
 pub close-returns-clause-says : goal.close-returns-clause-says
 close-returns-clause-says t c held =
-    let says = rw c.in-Matched.is at c.in_ok-tried.ensures.says in
+    let says = rw c.in-Matched.is at c.in_ok-tried.ensures.says in let settings = c.go_on.new.self.settings.items in
     says (with_group c.args.group (record { start = c.args.start; end = c.args.at }) held)
     ∙ ap (λ over. Some (record { end = c.go_on.new.self.end; held = over }))
-    (set_over held c.args.group c.args.start c.args.at c.go_on.new.self.settings.items c.set.new.self.settings.items c.in_ok-set.ensures.items)
-    ∙ ap (λ end. Some (record { end = end; held = held_over held c.set.new.self.settings.items })) (sym c.in_ok-set.ensures.end)
+    (set_over held c.args.group c.args.start c.args.at settings c.push.new.self.items (c.in_ok-push.ensures.items ∙ ap (λ setting. settings ++ setting ∷ []) c.in_ok-to.ensures))
 
 pub node-returns-in-Cat-clause-says : goal.node-returns-in-Cat-clause-says
 node-returns-in-Cat-clause-says t c =
     let text = c.args.text.now in
     let is : pattern_of c.args.pat.now ≡ cat (pattern_of c.in-Cat.first.value) (pattern_of c.in-Cat.second.value) = ap pattern_of c.in-Cat.is ∙ is_cat c.in-Cat.first c.in-Cat.second in
-    said c.pattern.result c.pattern.new.self _ _
+    said c.part.result c.part.new.self _ _
     (both_is text (pattern_of c.args.pat.now) (pattern_of c.in-Cat.first.value) (pattern_of c.in-Cat.second.value) (pattern_of c.deref-in-Cat.result.now) (pattern_of c.deref.result.now)
     (frame_ways text c.args.next.now) c.args.at is (ap pattern_of c.deref-in-Cat.ensures) (ap pattern_of c.deref.ensures))
-    c.pattern.ensures.says
+    c.part.ensures.says
 
-pub node-returns-in-Failed-clause-says : goal.node-returns-in-Failed-clause-says
-node-returns-in-Failed-clause-says t c =
+pub part-returns-in-Failed-clause-says : goal.part-returns-in-Failed-clause-says
+part-returns-in-Failed-clause-says t c =
     let is : pattern_of c.args.pat.now ≡ alt (pattern_of c.in-Alt.first.value) (pattern_of c.in-Alt.second.value) = ap pattern_of c.in-Alt.is ∙ is_alt c.in-Alt.first c.in-Alt.second in
-    let text = c.args.text.now in
-    let next = frame_ways text c.args.next.now in
-    let none = rw c.in-Failed.is at c.in_ok-tried-in-Alt.ensures.says in
+    let text = c.args.text.now in let next = frame_ways text c.args.next.now in let none = rw c.in-Failed.is at c.in_ok-tried-in-Alt.ensures.says in
     said c.pattern-in-Failed.result c.pattern-in-Failed.new.self _ _
-    (second_is text (pattern_of c.args.pat.now) (pattern_of c.in-Alt.first.value) (pattern_of c.in-Alt.second.value) (pattern_of c.deref-in-Alt.result.now) (pattern_of c.deref-in-Failed.result.now)
-    next c.args.at is (ap pattern_of c.deref-in-Alt.ensures) (ap pattern_of c.deref-in-Failed.ensures) none.0)
+    (second_is text (pattern_of c.args.pat.now) (pattern_of c.in-Alt.first.value) (pattern_of c.in-Alt.second.value) (pattern_of c.deref.result.now) (pattern_of c.deref-in-Failed.result.now)
+    next c.args.at is (ap pattern_of c.deref.ensures) (ap pattern_of c.deref-in-Failed.ensures) none.0)
     c.pattern-in-Failed.ensures.says
 
-pub node-returns-in_default-clause-says : goal.node-returns-in_default-clause-says
-node-returns-in_default-clause-says t c =
+pub part-returns-in_default-clause-says : goal.part-returns-in_default-clause-says
+part-returns-in_default-clause-says t c =
     let is : pattern_of c.args.pat.now ≡ alt (pattern_of c.in-Alt.first.value) (pattern_of c.in-Alt.second.value) = ap pattern_of c.in-Alt.is ∙ is_alt c.in-Alt.first c.in-Alt.second in
-    let text = c.args.text.now in
-    let next = frame_ways text c.args.next.now in
-    let first = pattern_of c.deref-in-Alt.result.now in
+    let text = c.args.text.now in let next = frame_ways text c.args.next.now in let first = pattern_of c.deref.result.now in
     let second = pattern_of c.in-Alt.second.value in
-    subst (Says c.in_ok-tried-in-Alt.tried c.pattern-in-Alt.new.self)
-    (λ i held. either_is text (pattern_of c.args.pat.now) (pattern_of c.in-Alt.first.value) second first next c.args.at is (ap pattern_of c.deref-in-Alt.ensures) held i)
-    (said_before c.in_ok-tried-in-Alt.tried c.pattern-in-Alt.new.self (behind (last_ways text first) next c.args.at) (behind (last_ways text second) next c.args.at) c.in_default.not-Failed c.in_ok-tried-in-Alt.ensures.says)
+    subst (Says c.in_ok-tried-in-Alt.tried c.pattern.new.self)
+    (λ i held. either_is text (pattern_of c.args.pat.now) (pattern_of c.in-Alt.first.value) second first next c.args.at is (ap pattern_of c.deref.ensures) held i)
+    (said_before c.in_ok-tried-in-Alt.tried c.pattern.new.self (behind (last_ways text first) next c.args.at) (behind (last_ways text second) next c.args.at) c.in_default.not-Failed c.in_ok-tried-in-Alt.ensures.says)
 
-pub node-returns-in-Group-clause-says : goal.node-returns-in-Group-clause-says
-node-returns-in-Group-clause-says t c =
+pub part-returns-in-Group-clause-says : goal.part-returns-in-Group-clause-says
+part-returns-in-Group-clause-says t c =
     let is : pattern_of c.args.pat.now ≡ group c.in-Group.group (pattern_of c.in-Group.body.value) = ap pattern_of c.in-Group.is ∙ is_group c.in-Group.group c.in-Group.body in
     let text = c.args.text.now in
-    said c.pattern-in-Group.result c.pattern-in-Group.new.self _ _
+    said c.body.result c.body.new.self _ _
     (group_is text (pattern_of c.args.pat.now) (pattern_of c.in-Group.body.value) (pattern_of c.deref-in-Group.result.now) c.in-Group.group
     (frame_ways text c.args.next.now) c.args.at is (ap pattern_of c.deref-in-Group.ensures))
-    c.pattern-in-Group.ensures.says
+    c.body.ensures.says
 
-pub node-returns-in-Some-clause-says : goal.node-returns-in-Some-clause-says
-node-returns-in-Some-clause-says t c =
+pub part-returns-in-Some-clause-says : goal.part-returns-in-Some-clause-says
+part-returns-in-Some-clause-says t c =
     let text = c.args.text.now in
     said c.go_on.result c.go_on.new.self _ _
     (only_way (last_ways text (pattern_of c.args.pat.now)) (frame_ways text c.args.next.now) c.args.at c.in-Some.end c.in-Some.ensures.some) c.go_on.ensures.says
@@ -65,10 +60,7 @@ pattern-returns-clause-says t c =
 
 pub turns-returns-then-turns-gt0-clause-says : goal.turns-returns-then-turns-gt0-clause-says
 turns-returns-then-turns-gt0-clause-says t c =
-    let text = c.args.text.now in
-    let body = c.args.body.now in
-    let turns = c.args.turns in
-    let ways = last_ways text (pattern_of body) in
+    let text = c.args.text.now in let body = c.args.body.now in let turns = c.args.turns in let ways = last_ways text (pattern_of body) in
     let next = frame_ways text c.args.next.now in
     said c.pattern.result c.pattern.new.self _ _
     (λ held. ap (λ rest. behind ways (behind (turns_ways text body rest) next) c.args.at held) c.behind_one.ensures
@@ -77,10 +69,7 @@ turns-returns-then-turns-gt0-clause-says t c =
 
 pub turns-returns-then-is_some-clause-says : goal.turns-returns-then-is_some-clause-says
 turns-returns-then-is_some-clause-says t c =
-    let text = c.args.text.now in
-    let body = c.args.body.now in
-    let turns = c.args.turns in
-    let ways = last_ways text (pattern_of body) in
+    let text = c.args.text.now in let body = c.args.body.now in let turns = c.args.turns in let ways = last_ways text (pattern_of body) in
     let next = frame_ways text c.args.next.now in
     said c.prefer.result c.prefer.new.self _ _
     (λ held. ap (λ rest. preferring turns.greedy (behind ways (behind (turns_ways text body rest) next)) next c.args.at held) c.behind_one.ensures
@@ -89,70 +78,38 @@ turns-returns-then-is_some-clause-says t c =
 
 pub turns-returns-clause-says : goal.turns-returns-clause-says
 turns-returns-clause-says t c =
-    let text = c.args.text.now in
-    let body = c.args.body.now in
-    let turns = c.args.turns in
-    let ways = last_ways text (pattern_of body) in
+    let text = c.args.text.now in let body = c.args.body.now in let turns = c.args.turns in let ways = last_ways text (pattern_of body) in
     let next = frame_ways text c.args.next.now in
     said c.prefer-2.result c.prefer-2.new.self _ _
     (λ held. ap (λ rest. preferring turns.greedy (behind ways (λ end held. if nat_lt c.args.at end then behind (turns_ways text body rest) next end held else [])) next c.args.at held) c.behind_one.ensures
     ∙ any_turn_is text (pattern_of body) next turns.least turns.most turns.greedy c.args.at c.if-turns-gt0.false c.if-is_some.ensures held)
     c.prefer-2.ensures.says
 
-pub repeat-returns-then-turns-clause-says : goal.repeat-returns-then-turns-clause-says
-repeat-returns-then-turns-clause-says t c =
-    let text = c.args.text.now in
-    let next = frame_ways text c.args.next.now in
-    let run = c.in-Some-run_of.run' in
-    said c.longest_first.result c.longest_first.new.self _ _
-    (run_of_is (length text) (last_ways text (pattern_of c.args.body.now)) (step_where text (has_byte c.in-Some.set)) next c.args.turns.least c.args.turns.most c.args.turns.greedy c.args.at (ends true next run.first run.more)
-    (c.in-Some.ensures text) (λ held. rw (← c.if-turns.true) (c.in-Some-run_of.ensures.some c.args.turns.greedy next held)))
-    c.longest_first.ensures.says
+pub repeat-returns-clause-says : goal.repeat-returns-clause-says
+repeat-returns-clause-says t c =
+    let text = c.args.text.now in let next = frame_ways text c.args.next.now in let run = c.in-Some-run_of.run' in let turns = c.args.turns in
+    said c.ends.result c.ends.new.self _ _
+    (run_of_is (length text) (last_ways text (pattern_of c.args.body.now)) (step_where text (has_byte c.in-Some.set)) next turns.least turns.most turns.greedy c.args.at (ends turns.greedy next run.first run.more)
+    (c.in-Some.ensures text) (c.in-Some-run_of.ensures.some turns.greedy next))
+    c.ends.ensures.says
 
-pub repeat-returns-else-turns-clause-says : goal.repeat-returns-else-turns-clause-says
-repeat-returns-else-turns-clause-says t c =
-    let text = c.args.text.now in
-    let next = frame_ways text c.args.next.now in
-    let run = c.in-Some-run_of.run' in
-    said c.shortest_first.result c.shortest_first.new.self _ _
-    (run_of_is (length text) (last_ways text (pattern_of c.args.body.now)) (step_where text (has_byte c.in-Some.set)) next c.args.turns.least c.args.turns.most c.args.turns.greedy c.args.at (ends false next run.first run.more)
-    (c.in-Some.ensures text) (λ held. rw (← c.if-turns.false) (c.in-Some-run_of.ensures.some c.args.turns.greedy next held)))
-    c.shortest_first.ensures.says
-
-pub longest_first-ends-preserved : goal.longest_first-ends-preserved
-longest_first-ends-preserved t c =
-    let next = frame_ways c.args.text.now c.args.next.now in
-    let none = rw c.in-Failed.is at c.in_ok-tried.ensures.says in
+pub ends-ends-preserved : goal.ends-ends-preserved
+ends-ends-preserved t c =
+    let next = frame_ways c.args.text.now c.args.next.now in let left = c.ends.left in let none = rw c.in-Failed.is at c.in_ok-tried.ensures.says in
+    let others = c.others-left.ensures in
     record {
       unset = none.1;
       steps = omega (arith, c.in_ok-tried.ensures.steps, c.ends.invariant.steps);
-      fewer = omega (arith, c.ends.invariant.fewer);
-      left = λ held. longest_gone next c.args.run.first c.ends.more held c.ends-test.true (none.0 held) ∙ c.ends.invariant.left held;
+      within = within_others c.args.greedy left.first left.more _ _ _ c.ends-test.true others.first others.more c.ends.invariant.within;
+      left = λ held. rw (others.first, others.more) (ends_gone c.args.greedy next left.first left.more held c.ends-test.true (rw (← c.end.ensures) (none.0 held))) ∙ c.ends.invariant.left held;
     }
 
-pub longest_first-returns-in_default-clause-says : goal.longest_first-returns-in_default-clause-says
-longest_first-returns-in_default-clause-says t c =
-    let next = frame_ways c.args.text.now c.args.next.now in
-    let at = c.args.run.first in
-    let more = c.ends.more in
-    subst (Says c.in_ok-tried.tried c.go_on.new.self) (λ i held. (longest_first next at more held c.ends-test.true ∙ c.ends.invariant.left held) i)
-    (said_before c.in_ok-tried.tried c.go_on.new.self (next (at + more)) (ends true next at (more - 1)) c.in_default.not-Failed c.in_ok-tried.ensures.says)
+pub ends-returns-in_default-clause-says : goal.ends-returns-in_default-clause-says
+ends-returns-in_default-clause-says t c =
+    let next = frame_ways c.args.text.now c.args.next.now in let greedy = c.args.greedy in let left = c.ends.left in
+    subst (Says c.in_ok-tried.tried c.look.new.self) (λ i held. (ends_are greedy next left.first left.more held c.ends-test.true ∙ c.ends.invariant.left held) i)
+    (said_before c.in_ok-tried.tried c.look.new.self (next (first_end greedy left.first left.more)) (ends greedy next (other_first greedy left.first) (left.more - 1)) c.in_default.not-Failed
+    (rw c.end.ensures at c.in_ok-tried.ensures.says))
 
-pub shortest_first-ends-preserved : goal.shortest_first-ends-preserved
-shortest_first-ends-preserved t c =
-    let next = frame_ways c.args.text.now c.args.next.now in
-    let none = rw c.in-Failed.is at c.in_ok-tried.ensures.says in
-    record {
-      unset = none.1;
-      steps = omega (arith, c.in_ok-tried.ensures.steps, c.ends.invariant.steps);
-      same_end = omega (arith, c.ends.invariant.same_end, c.ends-test.true);
-      left = λ held. shortest_gone next c.ends.at c.ends.more held c.ends-test.true (none.0 held) ∙ c.ends.invariant.left held;
-    }
-
-pub shortest_first-returns-in_default-clause-says : goal.shortest_first-returns-in_default-clause-says
-shortest_first-returns-in_default-clause-says t c =
-    let next = frame_ways c.args.text.now c.args.next.now in
-    let at = c.ends.at in
-    let more = c.ends.more in
-    subst (Says c.in_ok-tried.tried c.go_on.new.self) (λ i held. (shortest_first next at more held c.ends-test.true ∙ c.ends.invariant.left held) i)
-    (said_before c.in_ok-tried.tried c.go_on.new.self (next at) (ends false next (at + 1) (more - 1)) c.in_default.not-Failed c.in_ok-tried.ensures.says)
+pub look-returns-then-not-may_begin-clause-says : goal.look-returns-then-not-may_begin-clause-says
+look-returns-then-not-may_begin-clause-says t c = let lead = rw c.in-Some.is at c.requires.lead in (lead c.args.at (c.may_begin.ensures c.if-not-may_begin.true), c.requires.unset)
