@@ -1,4 +1,4 @@
-ghost use Rattle.std.specs.Prelude.{◌≡◌, ◌∷◌, ◌++◌, [], map, OnOk};
+ghost use Rattle.std.specs.Prelude.{◌≡◌, ◌∷◌, ◌++◌, [], map, OnErr, OnOk};
 ghost use Rattle.hc_serve.specs.Unread.{loaded_of};
 
 use hc_base::{NoMemory, Text};
@@ -26,8 +26,9 @@ impl NoFiles {
     }
 
     fn add(&mut self, dir: &[u8], allowed: Allowed) -> Result<(), NoMemory>
-        ensures { OnOk result (map loaded_of self.new.loaded.items
+        ensures added { OnOk result (map loaded_of self.new.loaded.items
             ≡ map loaded_of self.old.loaded.items ++ (record { dir = dir.now; allowed = allowed }) ∷ []) }
+        ensures kept { OnErr result (self.new.loaded.items ≡ self.old.loaded.items) }
     {
         let dir = Text::copy_of(*self.loaded.allocator(), dir)?;
         self.loaded.push(Asking { dir, allowed })?;

@@ -1,6 +1,6 @@
 //! What AllowOverride allows, and where the `.htaccess` of a directory stands among its sections.
 
-ghost use Rattle.std.specs.Prelude.{◌≡◌, ◌∷◌, ◌++◌, [], map, OnOk};
+ghost use Rattle.std.specs.Prelude.{◌≡◌, ◌∷◌, ◌++◌, [], map, OnErr, OnOk};
 ghost use Rattle.hc_tests_requests.specs.Loads.{loaded_of};
 
 use crate::answers::request;
@@ -40,6 +40,7 @@ impl OneFile {
         ensures file { self.new.file ≡ self.old.file }
         ensures loads { OnOk result (map loaded_of self.new.loads.items
             ≡ map loaded_of self.old.loads.items ++ (record { dir = dir.now; allowed = allowed }) ∷ []) }
+        ensures kept { OnErr result (self.new.loads.items ≡ self.old.loads.items) }
     {
         let dir = Text::copy_of(*self.loads.allocator(), dir)?;
         self.loads.push(Loads { dir, allowed })?;
