@@ -1,14 +1,15 @@
 -- Texts with parts that are filled in where they are used.
 -- Apache manual, mod_rewrite, "Test String" and "Substitution"; mod_alias, RedirectMatch; "Expressions in Apache HTTP
 -- Server". What is kept of other signs is our own choice.
-use Rattle.std.specs.Prelude.{ℕ, zero, suc, ◌+◌, ◌-◌, ◌==◌, ◌&&◌, List, [], ◌∷◌, length, Bool, Option, Some, None, option_map, Result, Ok, Err, if◌then◌else◌}
+use Rattle.std.specs.Prelude.{ℕ, zero, suc, ◌+◌, ◌-◌, ◌==◌, ◌&&◌, List, [], ◌∷◌, length, if◌then◌else◌}
+use Rattle.std.specs.Prelude.{Option, Some, None, option_map, Result, Ok, Err}
 use Rattle.std.specs.Char.{is_ascii_digit}
 use Rattle.hc_base.specs.Bytes.{backslash, brace_close, brace_open, digit_zero, dollar, percent}
 use Rattle.hc_base.specs.Rules.{rule}
 use Rattle.hc_base.specs.declared.codes.TheConstants.{UNSUPPORTED_VARIABLE}
 use Rattle.hc_base.specs.declared.fault.AtByte.{AtByte}
 use Rattle.hc_model.specs.declared.template.Piece.{Piece}
-use Rattle.hc_model.specs.declared.template.Piece.TheVariants.{Bytes, CondGroup, Group, Var}
+use Rattle.hc_model.specs.declared.template.Piece.TheVariants.{CondGroup, Group, Var}
 use Rattle.hc_template.specs.Pieces.{with_byte}
 use Rattle.hc_template.specs.Variables.{variable_named}
 use Rattle.hc_template.specs.declared.signs.Signs.{Signs}

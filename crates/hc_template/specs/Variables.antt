@@ -1,12 +1,11 @@
 -- The variables that a text may name, and their values.
 -- Apache manual, mod_rewrite, RewriteCond; "Expressions in Apache HTTP Server". Which of them an expression may name is
 -- our own choice.
-use Rattle.std.specs.Prelude.{ℕ, ◌==◌, List, [], ◌∷◌, ◌++◌, Bool, Option, Some, None, option_map, unwrap_or, codes, decimal, if◌then◌else◌}
+use Rattle.std.specs.Prelude.{ℕ, ◌==◌, List, [], ◌∷◌, ◌++◌, Option, Some, None, option_map, unwrap_or, codes, decimal, if◌then◌else◌}
 use Rattle.std.specs.List.{find, list_any}
 use Rattle.std.specs.Str.{str_eq_ignore_ascii_case}
 use Rattle.hc_addr.specs.Printed.{printed}
 use Rattle.hc_base.specs.Bytes.{colon}
-use Rattle.hc_model.specs.declared.request.Caller.{Caller}
 use Rattle.hc_model.specs.declared.request.Header.{Header}
 use Rattle.hc_model.specs.declared.request.Request.{Request}
 use Rattle.hc_model.specs.declared.request.Scheme.{Scheme}

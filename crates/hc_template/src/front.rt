@@ -1,9 +1,10 @@
 //! What stands at a place of a template.
-ghost use Rattle.std.specs.Prelude.{◌≡◌, ◌+◌, ◌-◌, ◌<◌, [], ◌∷◌, drop, length, option_map, position, IfSome, MatchOption};
+ghost use Rattle.std.specs.Prelude.{◌≡◌, ◌+◌, ◌-◌, ◌<◌, [], ◌∷◌, drop, length, option_map};
+ghost use Rattle.std.specs.Prelude.{position, IfSome, MatchOption};
 ghost use Rattle.hc_base.specs.Bytes.{brace_open};
 ghost use Rattle.hc_template.specs.Fronts.{closes_name, part_of};
 ghost use Rattle.hc_template.specs.Reading as definition;
-ghost use Rattle.hc_template.specs.Reading.{digit_of, dollar_sign, escape_sign, name_part, name_sign, name_up_to};
+ghost use Rattle.hc_template.specs.Reading.{dollar_sign, escape_sign, name_part, name_sign, name_up_to};
 ghost use Rattle.hc_template.specs.Reading.{percent_sign, template, with_part};
 
 use crate::signs::Signs;

@@ -1,6 +1,5 @@
 ghost use Rattle.std.specs.Prelude.{◌≡◌, [], ◌∷◌, ◌++◌, IfOk, OnOk};
 ghost use Rattle.hc_template.specs.Fronts.{Adds, part_of, with_run};
-ghost use Rattle.hc_template.specs.Pieces.{with_byte};
 
 use crate::front::Front;
 use hc_base::{AtByte, Fault, List, NoMemory, Text};
@@ -40,7 +39,8 @@ impl Pieces {
     }
 
     fn add_piece(&mut self, piece: Piece) -> Result<(), NoMemory>
-        ensures done { OnOk result (self.new.done ≡ (self.old.done ++ with_run self.old.run.items []) ++ piece ∷ []) }
+        ensures done { OnOk result (
+            self.new.done ≡ (self.old.done ++ with_run self.old.run.items []) ++ piece ∷ []) }
         ensures run { OnOk result (self.new.run.items ≡ []) }
     {
         self.end_run()?;

@@ -37,17 +37,12 @@ fn written_port(alloc: Global, port: u16) -> Result<String, NoMemory>
 
 /// Adds a colon and the port in decimal, unless it is the scheme's default. `NoMemory` where memory is
 /// refused.
-pub fn push_port(
-    alloc: Global,
-    out: &mut Vec<u8>,
-    scheme: Scheme,
-    port: u16,
-) -> Result<(), NoMemory>
+pub fn push_port(out: &mut Vec<u8>, scheme: Scheme, port: u16) -> Result<(), NoMemory>
     ensures { OnOk result (out.new.items ≡ out.old.items ++ port_part scheme port) }
 {
     if port == default_port(scheme) {
         return Ok(());
     }
-    let text = written_port(alloc, port)?;
+    let text = written_port(*out.allocator(), port)?;
     out.extend_from_slice(text.as_bytes())
 }

@@ -95,9 +95,8 @@ fn header_value<'h>(headers: &'h [Header], name: &[u8]) -> &'h [u8]
 fn push_host(out: &mut Vec<u8>, request: &Request) -> Result<(), NoMemory>
     ensures { OnOk result (out.new.items ≡ out.old.items ++ host_with_port request.now) }
 {
-    let alloc = *out.allocator();
     out.extend_from_slice(request.host.as_bytes())?;
-    push_port(alloc, out, request.scheme, request.port)
+    push_port(out, request.scheme, request.port)
 }
 
 fn push_address(out: &mut Vec<u8>, address: Addr) -> Result<(), NoMemory>

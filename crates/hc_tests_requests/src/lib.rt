@@ -33,4 +33,6 @@ mod session;
 #[cfg(test)]
 mod target;
 #[cfg(test)]
+mod templates;
+#[cfg(test)]
 mod told;
