@@ -1,3 +1,4 @@
 pub mod ReadBehind
 pub mod Names
+pub mod Unclosed
 pub mod Runs

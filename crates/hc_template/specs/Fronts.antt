@@ -1,5 +1,5 @@
 -- What was read of a template, before what is left of its text.
-use Rattle.std.specs.Prelude.{◌≡◌, ℕ, ◌==◌, Bool, List, [], ◌∷◌, ◌++◌, Result, Ok, Err}
+use Rattle.std.specs.Prelude.{◌≡◌, ℕ, ◌==◌, Bool, false, List, [], ◌∷◌, ◌++◌, Result, Ok, Err}
 use Rattle.hc_base.specs.Bytes.{brace_close}
 use Rattle.hc_base.specs.declared.fault.AtByte.{AtByte}
 use Rattle.hc_base.specs.declared.fault.Fault.{Fault}
@@ -11,6 +11,7 @@ use Rattle.hc_template.specs.Reading.{Part, byte, piece, refused, with_part}
 use Rattle.hc_template.specs.declared.front.Front.{Front}
 use Rattle.hc_template.specs.declared.front.Front.TheVariants as front
 use Rattle.hc_template.specs.declared.pieces.Pieces.{Pieces}
+use Rattle.hc_template.specs.declared.signs.Signs.{Signs}
 
 abbrev pub part_of : Front → Part
 part_of (front.Byte b) = byte b
@@ -21,6 +22,9 @@ part_of (front.Refused broken) = refused broken
 
 abbrev pub closes_name : ℕ → Bool
 closes_name b = b == brace_close
+
+abbrev pub without_names : Signs → Signs
+without_names signs = record { groups = signs.groups; conditions = signs.conditions; names = false; escapes = signs.escapes }
 
 -- Bytes before pieces.
 abbrev pub with_run : List ℕ → List Piece → List Piece

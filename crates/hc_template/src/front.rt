@@ -28,17 +28,19 @@ pub(crate) enum Front {
     Refused(AtByte),
 }
 
-/// What stands first in a text, and what follows it.
+/// What stands first in a text, what follows it, and which signs may stand there: a name that no `}` ends
+/// is looked for but once.
 #[derive(Drop)]
 pub(crate) struct Sign<'t> {
     pub(crate) front: Front,
     pub(crate) behind: &'t [u8],
+    pub(crate) signs: Signs,
 }
 
 /// The first sign of a text, if there is one.
 pub(crate) fn first_sign(signs: Signs, text: &[u8]) -> Option<Sign<'_>>
     ensures value { MatchOption result (text.now ≡ []) (λ sign.
-        template signs text.now ≡ with_part (part_of sign.front) (template signs sign.behind.now)) }
+        template signs text.now ≡ with_part (part_of sign.front) (template sign.signs sign.behind.now)) }
     ensures shorter { IfSome result (λ sign. length sign.behind.now < length text.now) }
 {
     match text {
@@ -50,14 +52,16 @@ pub(crate) fn first_sign(signs: Signs, text: &[u8]) -> Option<Sign<'_>>
 fn sign_at(signs: Signs, byte: u8, rest: &[u8]) -> Sign<'_>
     ensures front { part_of result.front ≡ (definition.sign_at signs byte rest.now).part }
     ensures behind { result.behind.now ≡ drop ((definition.sign_at signs byte rest.now).length - 1) rest.now }
+    ensures signs { template result.signs result.behind.now ≡ template signs result.behind.now }
 {
     match byte {
-        b'\\' if signs.escapes => escape_sign(rest),
+        b'\\' if signs.escapes => escape_sign(signs, rest),
         b'$' => dollar_sign(signs, rest),
         b'%' => percent_sign(signs, rest),
         _ => Sign {
             front: Front::Byte(byte),
             behind: rest,
+            signs,
         },
     }
 }
@@ -66,15 +70,18 @@ fn sign_at(signs: Signs, byte: u8, rest: &[u8]) -> Sign<'_>
 fn dollar_sign(signs: Signs, rest: &[u8]) -> Sign<'_>
     ensures front { part_of result.front ≡ (dollar_sign signs rest.now).part }
     ensures behind { result.behind.now ≡ drop ((dollar_sign signs rest.now).length - 1) rest.now }
+    ensures signs { result.signs ≡ signs }
 {
     match rest {
         [digit, behind @ ..] if signs.groups && digit.is_ascii_digit() => Sign {
             front: Front::Group(digit - b'0'),
             behind,
+            signs,
         },
         _ => Sign {
             front: Front::Byte(b'$'),
             behind: rest,
+            signs,
         },
     }
 }
@@ -83,51 +90,60 @@ fn dollar_sign(signs: Signs, rest: &[u8]) -> Sign<'_>
 fn percent_sign(signs: Signs, rest: &[u8]) -> Sign<'_>
     ensures front { part_of result.front ≡ (percent_sign signs rest.now).part }
     ensures behind { result.behind.now ≡ drop ((percent_sign signs rest.now).length - 1) rest.now }
+    ensures signs { template result.signs result.behind.now ≡ template signs result.behind.now }
 {
     match rest {
         [digit, behind @ ..] if signs.conditions && digit.is_ascii_digit() => Sign {
             front: Front::Condition(digit - b'0'),
             behind,
+            signs,
         },
-        [b'{', behind @ ..] if signs.names => name_sign(rest, behind),
+        [b'{', behind @ ..] if signs.names => name_sign(signs, rest, behind),
         _ => Sign {
             front: Front::Byte(b'%'),
             behind: rest,
+            signs,
         },
     }
 }
 
 // Behind a backslash: a plain byte. The last one is a byte itself.
-fn escape_sign(rest: &[u8]) -> Sign<'_>
+fn escape_sign(signs: Signs, rest: &[u8]) -> Sign<'_>
     ensures front { part_of result.front ≡ (escape_sign rest.now).part }
     ensures behind { result.behind.now ≡ drop ((escape_sign rest.now).length - 1) rest.now }
+    ensures signs { result.signs ≡ signs }
 {
     match rest {
         [byte, behind @ ..] => Sign {
             front: Front::Byte(*byte),
             behind,
+            signs,
         },
         [] => Sign {
             front: Front::Byte(b'\\'),
             behind: rest,
+            signs,
         },
     }
 }
 
-// Behind `%{`, where that stands before these bytes.
-fn name_sign<'t>(rest: &'t [u8], named: &'t [u8]) -> Sign<'t>
+// Behind `%{`, where that stands before these bytes. Where no `}` ends the name, none ends another behind it.
+fn name_sign<'t>(signs: Signs, rest: &'t [u8], named: &'t [u8]) -> Sign<'t>
     requires { rest.now ≡ brace_open ∷ named.now }
     ensures front { part_of result.front ≡ (name_sign (name_up_to named.now)).part }
     ensures behind { result.behind.now ≡ drop ((name_sign (name_up_to named.now)).length - 1) rest.now }
+    ensures signs { template result.signs result.behind.now ≡ template signs result.behind.now }
 {
     match split_name(named) {
         Some((name, behind)) => Sign {
             front: named_front(name),
             behind,
+            signs,
         },
         None => Sign {
             front: Front::Byte(b'%'),
             behind: rest,
+            signs: signs.without_names(),
         },
     }
 }

@@ -16,6 +16,7 @@ pub(crate) struct Pieces {
 }
 
 impl Pieces {
+    /// Nothing was read so far.
     pub(crate) fn new(alloc: Global) -> Pieces
         ensures done { result.done ≡ [] }
         ensures run { result.run.items ≡ [] }
@@ -26,6 +27,7 @@ impl Pieces {
         }
     }
 
+    /// Adds a part, or answers its refusal.
     pub(crate) fn add(&mut self, front: Front) -> Result<(), Fault<AtByte>>
         ensures { Adds result self.old self.new (part_of front) }
     {
@@ -47,6 +49,7 @@ impl Pieces {
         self.done.push(piece)
     }
 
+    // The bytes behind the pieces become one.
     fn end_run(&mut self) -> Result<(), NoMemory>
         ensures done { OnOk result (self.new.done ≡ self.old.done ++ with_run self.old.run.items []) }
         ensures run { OnOk result (self.new.run.items ≡ []) }
@@ -58,6 +61,7 @@ impl Pieces {
         self.done.push(Piece::Bytes(Text::from(run)))
     }
 
+    /// The pieces of the whole text.
     pub(crate) fn into_template(self) -> Result<Template, NoMemory>
         ensures { IfOk result (λ pieces. pieces ≡ self.done ++ with_run self.run.items []) }
     {

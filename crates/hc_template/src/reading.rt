@@ -17,10 +17,16 @@ pub fn read_template(alloc: Global, text: &[u8], signs: Signs) -> Result<Templat
 {
     let mut pieces = Pieces::new(alloc);
     let mut rest = text;
-    while let Some(sign) = first_sign(signs, rest) {
-        let Sign { front, behind } = sign;
+    let mut left = signs;
+    while let Some(sign) = first_sign(left, rest) {
+        let Sign {
+            front,
+            behind,
+            signs: later,
+        } = sign;
         pieces.add(front)?;
         rest = behind;
+        left = later;
     }
     Ok(pieces.into_template()?)
 }
