@@ -1,6 +1,6 @@
 pub mod Tests
 pub mod FoundView
-pub mod Filled
+pub mod Filling
 pub mod Locations
 pub mod Mapping
 pub mod ServersView

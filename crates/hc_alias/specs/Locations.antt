@@ -1,33 +1,21 @@
 -- Where a redirect sends a request.
 -- Apache manual, mod_alias, Redirect; what it leaves open is our own choice.
-use Rattle.std.specs.Prelude.{ℕ, ◌==◌, List, [], ◌∷◌, ◌++◌, length, nat_le, nat_lt, codes, decimal}
+use Rattle.std.specs.Prelude.{ℕ, ◌==◌, List, [], ◌∷◌, ◌++◌, length, nat_le, nat_lt, codes}
 use Rattle.std.specs.Prelude.{Bool, ◌&&◌, ◌||◌, if◌then◌else◌}
 use Rattle.std.specs.List.{list_any}
-use Rattle.hc_base.specs.Bytes.{colon, is_question, question}
+use Rattle.hc_base.specs.Bytes.{is_question, question}
 use Rattle.hc_base.specs.Paths.{begins_with_slash}
 use Rattle.hc_target.specs.Escapes.{escaped}
 use Rattle.hc_model.specs.declared.mapping.Redirect.{Redirect}
 use Rattle.hc_model.specs.declared.outcome.Outcome.{Outcome}
 use Rattle.hc_model.specs.declared.outcome.Outcome.TheVariants as outcome
 use Rattle.hc_model.specs.declared.request.Caller.{Caller}
-use Rattle.hc_model.specs.declared.request.Scheme.{Scheme}
-use Rattle.hc_model.specs.declared.request.Scheme.TheVariants.{Http, Https}
-use Rattle.hc_alias.specs.Filled.{filled}
+use Rattle.hc_template.specs.Filled.{filled}
+use Rattle.hc_template.specs.Variables.{port_part, scheme_name}
+use Rattle.hc_alias.specs.Filling.{filling_with}
 use Rattle.hc_alias.specs.Tests.{Found}
 
 -- ---- the server's own name
-
-abbrev pub scheme_name : Scheme → List ℕ
-scheme_name Http = codes "http"
-scheme_name Https = codes "https"
-
-abbrev pub default_port : Scheme → ℕ
-default_port Http = 80
-default_port Https = 443
-
--- The scheme's default port is left out.
-abbrev pub port_part : Scheme → ℕ → List ℕ
-port_part scheme port = if port == default_port scheme then [] else colon ∷ decimal port
 
 abbrev pub origin : Caller → List ℕ
 origin caller =
@@ -50,7 +38,7 @@ location_to caller target rest query = absolute caller target ++ escaped rest ++
 -- The target with its groups, what follows the prefix, escaped, and the query.
 abbrev pub location : Caller → Redirect → Found → List ℕ → List ℕ
 location caller redirect found query =
-    location_to caller (filled found.groups redirect.to) found.rest query
+    location_to caller (filled (filling_with found.groups) redirect.to) found.rest query
 
 -- ---- the answer
 

@@ -14,7 +14,8 @@ use Rattle.hc_model.specs.declared.spot.Spot.{Spot}
 use Rattle.hc_alias.specs.declared.mapping.Away.{Away}
 use Rattle.hc_alias.specs.declared.mapping.Mapped.{Mapped}
 use Rattle.hc_alias.specs.declared.mapping.Mapped.TheVariants as mapped
-use Rattle.hc_alias.specs.Filled.{filled}
+use Rattle.hc_template.specs.Filled.{filled}
+use Rattle.hc_alias.specs.Filling.{filling_with}
 use Rattle.hc_alias.specs.Locations.{sent_by}
 use Rattle.hc_vhost.specs.Servers.{servers_of}
 use Rattle.hc_alias.specs.Tests.{Found, first_taking}
@@ -41,7 +42,7 @@ abbrev pub alias_spot : Alias → Spot
 alias_spot alias = record { place = alias.place; span = alias.span }
 
 abbrev pub named_by : Alias × Found → Mapped
-named_by taken = mapped.Name (filled taken.1.groups taken.0.to ++ taken.1.rest) (Some (alias_spot taken.0))
+named_by taken = mapped.Name (filled (filling_with taken.1.groups) taken.0.to ++ taken.1.rest) (Some (alias_spot taken.0))
 
 abbrev pub maps_of : List Server → List Alias
 maps_of servers = flat_map (λ server. server.maps) servers

@@ -2,7 +2,7 @@
 //! Filesystem Locations").
 #![tactic(auto)]
 
-mod filled;
+mod filling;
 mod locations;
 mod mapping;
 mod tests;

@@ -1,55 +1,15 @@
-ghost use Rattle.std.specs.Prelude.{◌≡◌, ◌∷◌, ◌++◌, ◌≤◌, IfOk, OnOk, codes, decimal};
-ghost use Rattle.std.specs.String.{string_bytes};
-ghost use Rattle.hc_base.specs.Bytes.{colon};
+ghost use Rattle.std.specs.Prelude.{◌≡◌, ◌++◌, IfOk, OnOk};
 ghost use Rattle.hc_alias.specs.FoundView.{found_of};
 ghost use Rattle.hc_alias.specs.Locations as definition;
-ghost use Rattle.hc_alias.specs.Locations.{default_port, is_redirection, origin, port_part, scheme_name};
-ghost use Rattle.hc_alias.specs.Locations.{location_to, query_part};
+ghost use Rattle.hc_alias.specs.Locations.{is_redirection, location_to, origin, query_part};
 
-use crate::filled::filled;
 use crate::tests::Found;
 use hc_base::paths::begins_with_slash;
 use hc_base::{NoMemory, Text};
-use hc_model::{Caller, Outcome, Redirect, Scheme};
+use hc_model::{Caller, Outcome, Redirect};
 use hc_target::escape_path;
+use hc_template::{expand, push_port, scheme_name};
 use std::alloc::Global;
-
-fn scheme_name(scheme: Scheme) -> &'static [u8]
-    ensures { result.now ≡ scheme_name scheme }
-{
-    match scheme {
-        Scheme::Http => b"http",
-        Scheme::Https => b"https",
-    }
-}
-
-/// The port that is left out of a location.
-fn default_port(scheme: Scheme) -> u16
-    ensures { result ≡ default_port scheme }
-{
-    match scheme {
-        Scheme::Http => 80,
-        Scheme::Https => 443,
-    }
-}
-
-/// A colon and the port in decimal.
-fn written_port(alloc: Global, port: u16) -> Result<String, NoMemory>
-    ensures { IfOk result (λ text. string_bytes text ≡ colon ∷ decimal port) }
-{
-    format!(in alloc; ":{port}")
-}
-
-/// The scheme's default port is left out.
-fn push_port(alloc: Global, out: &mut Vec<u8>, scheme: Scheme, port: u16) -> Result<(), NoMemory>
-    ensures { OnOk result (out.new.items ≡ out.old.items ++ port_part scheme port) }
-{
-    if port == default_port(scheme) {
-        return Ok(());
-    }
-    let text = written_port(alloc, port)?;
-    out.extend_from_slice(text.as_bytes())
-}
 
 /// The server's own name, with its scheme.
 fn origin(alloc: Global, caller: &Caller) -> Result<Vec<u8>, NoMemory>
@@ -59,7 +19,7 @@ fn origin(alloc: Global, caller: &Caller) -> Result<Vec<u8>, NoMemory>
     let mut text = scheme_name(scheme).to_vec(alloc)?;
     text.extend_from_slice(b"://")?;
     text.extend_from_slice(caller.name.as_bytes())?;
-    push_port(alloc, &mut text, scheme, caller.request.port)?;
+    push_port(&mut text, scheme, caller.request.port)?;
     Ok(text)
 }
 
@@ -113,8 +73,8 @@ fn location(
     ensures { IfOk result (λ text.
         text ≡ definition.location caller.now redirect.now (found_of found.now) query.now) }
 {
-    let target = filled(alloc, redirect.to.as_slice(), found)?;
-    location_to(alloc, caller, &target, found.rest(), query)
+    let target = expand(alloc, redirect.to.as_slice(), found)?;
+    location_to(alloc, caller, target.as_bytes(), found.rest(), query)
 }
 
 /// The status is one of a redirect.

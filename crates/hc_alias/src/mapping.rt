@@ -6,11 +6,11 @@ ghost use Rattle.hc_alias.specs.Mapping.{aliased, away, maps_of, named_by, redir
 ghost use Rattle.hc_vhost.specs.Servers.{IsHostOf, servers_of};
 ghost use Rattle.hc_alias.specs.ServersView.{servers_view};
 
-use crate::filled::filled;
 use crate::locations::sent_by;
 use crate::tests::{Found, first_taking};
 use hc_base::{NoMemory, Place, Span, Text};
 use hc_model::{Alias, Caller, Config, HostId, Outcome, Redirect, Server, Spot};
+use hc_template::expand;
 use hc_vhost::server_at;
 use std::alloc::Global;
 
@@ -172,7 +172,7 @@ fn aliased(alloc: Global, list: &[Alias], path: &[u8]) -> Result<Option<Mapped>,
 fn named_by(alloc: Global, alias: &Alias, found: &Found<'_>) -> Result<Mapped, NoMemory>
     ensures { IfOk result (λ name. name ≡ named_by (alias.now, found_of found.now)) }
 {
-    let mut name = filled(alloc, alias.to.as_slice(), found)?;
+    let mut name = expand(alloc, alias.to.as_slice(), found)?.into_vec();
     name.extend_from_slice(found.rest())?;
     Ok(Mapped::Name {
         name: Text::from(name),

@@ -1,6 +1,5 @@
 pub mod Rows
 pub mod Targets
-pub mod TargetViews
 pub mod Statuses
 pub mod Requires
 pub mod RequireViews

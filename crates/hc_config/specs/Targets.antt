@@ -1,10 +1,10 @@
 -- Where aliases and redirects look, and where they lead.
 -- Apache manual, mod_alias: AliasMatch, Redirect, RedirectMatch. What is kept for other signs is our
 -- own choice.
-use Rattle.std.specs.Prelude.{ℕ, ◌-◌, ◌==◌, List, [], ◌∷◌, ◌||◌, ◌&&◌, Bool, false, if◌then◌else◌, Result, Ok, Err, length, take, nat_lt}
-use Rattle.std.specs.Char.{is_ascii_digit}
+use Rattle.std.specs.Prelude.{ℕ, ◌-◌, ◌==◌, List, [], ◌∷◌, ◌||◌, ◌&&◌, Bool, true, false, length, take, nat_lt}
+use Rattle.std.specs.Prelude.{if◌then◌else◌, Result, Ok, Err}
 use Rattle.std.specs.List.{list_any}
-use Rattle.hc_base.specs.Bytes.{ampersand, backslash, digit_zero, dollar}
+use Rattle.hc_base.specs.Bytes.{ampersand, backslash}
 use Rattle.hc_base.specs.Paths.{begins_with_slash, ends_with_slash}
 use Rattle.hc_base.specs.Rules.{rule}
 use Rattle.hc_base.specs.declared.codes.TheConstants.{WRONG_ARGUMENTS}
@@ -12,8 +12,10 @@ use Rattle.hc_base.specs.declared.fault.AtByte.{AtByte}
 use Rattle.hc_model.specs.declared.mapping.PathTest.{PathTest}
 use Rattle.hc_model.specs.declared.mapping.PathTest.TheVariants.{Prefix, Search}
 use Rattle.hc_model.specs.declared.template.Piece.{Piece}
-use Rattle.hc_model.specs.declared.template.Piece.TheVariants.{Bytes, CondGroup, Group, Lookup', Var}
+use Rattle.hc_model.specs.declared.template.Piece.TheVariants.{Bytes}
 use Rattle.hc_pattern.specs.Reading.{parse_pattern}
+use Rattle.hc_template.specs.Reading.{template}
+use Rattle.hc_template.specs.declared.signs.Signs.{Signs}
 use Rattle.hc_config.specs.declared.targets.PathForm.{PathForm}
 use Rattle.hc_config.specs.declared.targets.PathForm.TheVariants.{Plain, Match}
 
@@ -41,29 +43,16 @@ without_final_slash path = if nat_lt 1 (length path) && ends_with_slash path the
 
 -- ---- targets
 
--- A byte before pieces.
-abbrev pub with_byte : ℕ → List Piece → List Piece
-with_byte b [] = Bytes (b ∷ []) ∷ []
-with_byte b (Bytes bytes ∷ pieces) = Bytes (b ∷ bytes) ∷ pieces
-with_byte b (Group number ∷ pieces) = Bytes (b ∷ []) ∷ Group number ∷ pieces
-with_byte b (CondGroup number ∷ pieces) = Bytes (b ∷ []) ∷ CondGroup number ∷ pieces
-with_byte b (Var var ∷ pieces) = Bytes (b ∷ []) ∷ Var var ∷ pieces
-with_byte b (Lookup' map key keys fallback fallbacks ∷ pieces) = Bytes (b ∷ []) ∷ Lookup' map key keys fallback fallbacks ∷ pieces
-
 -- `$0` to `$9` stand for groups, and all other bytes for themselves.
-abbrev pub template_of : List ℕ → List Piece
-template_of [] = []
-template_of (b ∷ []) = Bytes (b ∷ []) ∷ []
-template_of (b ∷ c ∷ bs) =
-    if (b == dollar) && is_ascii_digit c then Group (c - digit_zero) ∷ template_of bs
-    else with_byte b (template_of (c ∷ bs))
+abbrev pub groups_alone : Signs
+groups_alone = record { groups = true; conditions = false; names = false; escapes = false }
 
 -- Signs of what is not supported.
 abbrev pub is_other_sign : ℕ → Bool
 is_other_sign b = (b == ampersand) || (b == backslash)
 
 abbrev pub group_target : List ℕ → Result (List Piece) AtByte
-group_target word = if list_any is_other_sign word then Err wrong else Ok (template_of word)
+group_target word = if list_any is_other_sign word then Err wrong else template groups_alone word
 
 -- A word as a target, or the rule that it breaks: as it stands, or with groups.
 abbrev pub target_by : PathForm → List ℕ → Result (List Piece) AtByte

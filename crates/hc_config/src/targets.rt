@@ -1,17 +1,17 @@
-ghost use Rattle.std.specs.Prelude.{◌≡◌, ◌<◌, [], ◌∷◌, ◌++◌, length, IfOk, OnOk};
+ghost use Rattle.std.specs.Prelude.{◌≡◌, [], ◌∷◌, IfOk};
 ghost use Rattle.std.specs.List.{list_any};
 ghost use Rattle.hc_base.specs.Gives.{Gives};
 ghost use Rattle.hc_base.specs.Paths.{begins_with_slash};
 ghost use Rattle.hc_model.specs.declared.template.Piece.TheVariants.{Bytes};
 ghost use Rattle.hc_config.specs.Targets.{group_target, is_other_sign, own_target_by, prefix_test, search_test};
-ghost use Rattle.hc_config.specs.Targets.{target_by, template_of, test_by, without_final_slash};
-ghost use Rattle.hc_config.specs.TargetViews.{left_by, template_by, with_run};
+ghost use Rattle.hc_config.specs.Targets.{target_by, test_by, without_final_slash};
 
 use crate::effect::{EffectFault, REFUSED};
 use hc_base::paths::{begins_with_slash, ends_with_slash};
 use hc_base::{CowStr, List, NoMemory, Text};
 use hc_model::{PathTest, Piece, Regex, Template};
 use hc_pattern::parse_pattern;
+use hc_template::{Signs, read_template};
 use std::alloc::Global;
 
 /// How an alias or a redirect says its paths and its target.
@@ -98,6 +98,14 @@ fn text_alone(alloc: Global, text: &[u8]) -> Result<Template, NoMemory>
     target.copy()
 }
 
+// `$0` to `$9` stand for groups, and all other bytes for themselves.
+const GROUPS_ALONE: Signs = Signs {
+    groups: true,
+    conditions: false,
+    names: false,
+    escapes: false,
+};
+
 // A target in which `$0` to `$9` stand for groups.
 fn group_target(alloc: Global, text: &[u8]) -> Result<Template, EffectFault>
     ensures { Gives result (group_target text.now) }
@@ -105,7 +113,7 @@ fn group_target(alloc: Global, text: &[u8]) -> Result<Template, EffectFault>
     if has_other_sign(text) {
         return Err(REFUSED);
     }
-    Ok(template_of(alloc, text)?)
+    read_template(alloc, text, GROUPS_ALONE)
 }
 
 fn has_other_sign(bytes: &[u8]) -> bool
@@ -118,68 +126,6 @@ fn is_other_sign(byte: u8) -> bool
     ensures { result ≡ is_other_sign byte }
 {
     byte == b'&' || byte == b'\\'
-}
-
-fn template_of(alloc: Global, text: &[u8]) -> Result<Template, NoMemory>
-    ensures { IfOk result (λ pieces. pieces ≡ template_of text.now) }
-{
-    let mut pieces = List::new(alloc);
-    let mut run = Vec::new(alloc);
-    let mut rest = text;
-    while !rest.is_empty() {
-        match next_of(rest) {
-            Next::Group { number, behind } => {
-                push_run(&mut pieces, run)?;
-                pieces.push(Piece::Group(number))?;
-                run = Vec::new(alloc);
-                rest = behind;
-            }
-            Next::Byte { byte, behind } => {
-                run.push(byte)?;
-                rest = behind;
-            }
-        }
-    }
-    push_run(&mut pieces, run)?;
-    Ok(pieces)
-}
-
-// What comes first in a target, and what follows it.
-#[derive(Clone, Copy)]
-pub(crate) enum Next<'t> {
-    Group { number: u8, behind: &'t [u8] },
-    Byte { byte: u8, behind: &'t [u8] },
-}
-
-fn next_of(text: &[u8]) -> Next
-    requires { 0 < length text.now }
-    ensures value { template_of text.now ≡ template_by result }
-    ensures shorter { length (left_by result) < length text.now }
-{
-    match text {
-        [b'$', digit, behind @ ..] if digit.is_ascii_digit() => Next::Group {
-            number: digit - b'0',
-            behind,
-        },
-        [byte, behind @ ..] => Next::Byte {
-            byte: *byte,
-            behind,
-        },
-        [] => Next::Byte {
-            byte: 0,
-            behind: text,
-        },
-    }
-}
-
-// Bytes that stand beside each other are one piece.
-fn push_run(pieces: &mut Template, run: Vec<u8>) -> Result<(), NoMemory>
-    ensures { OnOk result (pieces.new ≡ pieces.old ++ with_run run.items []) }
-{
-    if run.is_empty() {
-        return Ok(());
-    }
-    pieces.push(Piece::Bytes(Text::from(run)))
 }
 
 /// A final slash is dropped, but for `/`.

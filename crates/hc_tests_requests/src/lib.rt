@@ -35,6 +35,8 @@ mod session;
 #[cfg(test)]
 mod target;
 #[cfg(test)]
+mod templates;
+#[cfg(test)]
 mod told;
 #[cfg(test)]
 mod trees;

@@ -1,0 +1,4 @@
+pub mod Tokens
+pub mod Syntax
+pub mod Reading
+pub mod Values
