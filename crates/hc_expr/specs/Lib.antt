@@ -1,4 +1,5 @@
 pub mod Tokens
+pub mod TokenViews
 pub mod Syntax
-pub mod Reading
-pub mod Values
+pub mod Spots
+pub mod TreeViews
