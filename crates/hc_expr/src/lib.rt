@@ -3,8 +3,14 @@
 #![tactic(auto)]
 
 mod build;
+mod hold;
 mod operand;
+mod parts;
+mod read;
 mod syntax;
 mod test;
 mod token;
 mod tree;
+
+pub use hold::holds;
+pub use read::{ExprFault, parse_expr};
