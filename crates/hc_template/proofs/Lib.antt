@@ -1,0 +1,3 @@
+pub mod ReadBehind
+pub mod Names
+pub mod Runs
