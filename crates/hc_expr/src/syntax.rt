@@ -34,10 +34,7 @@ fn behind_awaited(depth: usize, token: Token) -> Option<Spot>
             depth,
             awaited: false,
         }),
-        Token::Closes => None,
-        Token::Ands => None,
-        Token::Ors => None,
-        Token::Broken => None,
+        Token::Closes | Token::Ands | Token::Ors | Token::Broken => None,
     }
 }
 
@@ -48,18 +45,11 @@ fn behind_operand(depth: usize, token: Token) -> Option<Spot>
 {
     match token {
         Token::Closes => closed(depth),
-        Token::Ands => Some(Spot {
+        Token::Ands | Token::Ors => Some(Spot {
             depth,
             awaited: true,
         }),
-        Token::Ors => Some(Spot {
-            depth,
-            awaited: true,
-        }),
-        Token::Opens => None,
-        Token::Negates => None,
-        Token::Test(_) => None,
-        Token::Broken => None,
+        Token::Opens | Token::Negates | Token::Test(_) | Token::Broken => None,
     }
 }
 
