@@ -74,7 +74,8 @@ fn and_read(
     first: Result<Expr, ExprFault>,
     second: Result<Expr, ExprFault>,
 ) -> Result<Expr, ExprFault>
-    ensures { (a b : Result Expr AtByte) → Gives first a → Gives second b → Gives result (made_of_two expr.And a b) }
+    ensures { (a b : Result Expr AtByte) → Gives first a → Gives second b
+        → Gives result (made_of_two expr.And a b) }
 {
     match both_of(first, second) {
         Ok((first, second)) => {
@@ -90,7 +91,8 @@ fn or_read(
     first: Result<Expr, ExprFault>,
     second: Result<Expr, ExprFault>,
 ) -> Result<Expr, ExprFault>
-    ensures { (a b : Result Expr AtByte) → Gives first a → Gives second b → Gives result (made_of_two expr.Or a b) }
+    ensures { (a b : Result Expr AtByte) → Gives first a → Gives second b
+        → Gives result (made_of_two expr.Or a b) }
 {
     match both_of(first, second) {
         Ok((first, second)) => {
