@@ -3,7 +3,6 @@
 -- nothing else is looked for; else the smallest code counts, and of equal ones the first.
 use Rattle.std.specs.Prelude.{ℕ, List, [], ◌∷◌, Bool, true, false, Option, Some, None, Result, Ok, Err, nat_lt, if◌then◌else◌}
 use Rattle.hc_addr.specs.Networks.{net_of}
-use Rattle.hc_addr.specs.declared.net.BadAddress.{BadAddress}
 use Rattle.hc_addr.specs.declared.net.Net.{Net}
 use Rattle.hc_base.specs.Rules.{rule}
 use Rattle.hc_base.specs.declared.codes.TheConstants.{BAD_ADDRESS, BAD_EXPRESSION, UNSUPPORTED_VARIABLE}
@@ -62,9 +61,9 @@ constant false = expr.No
 
 abbrev pub test_read : Test → Result Expr AtByte
 test_read (always value) = Ok (constant value)
-test_read (same negated left right) = negated_where negated (made_of_two expr.Same (operand_of left) (operand_of right))
-test_read (search negated left pattern nocase) =
-    negated_where negated (made_of_two expr.Search (operand_of left) (parse_pattern pattern nocase))
+test_read (same differs left right) = negated_where differs (made_of_two expr.Same (operand_of left) (operand_of right))
+test_read (search differs left pattern nocase) =
+    negated_where differs (made_of_two expr.Search (operand_of left) (parse_pattern pattern nocase))
 test_read (network left text) = made_of_two expr.IpMatch (operand_of left) (network_of text)
 
 abbrev pub tree_read : Tree → Result Expr AtByte

@@ -7,14 +7,14 @@ use Rattle.hc_expr.specs.Tokens.{Test, Token, ands, broken, closes, negates, ope
 
 -- So many parentheses are open; `!`, `(` or a test is awaited, or else `&&`, `||`, `)` or the end.
 abbrev pub is_expression : ℕ → Bool → List Token → Bool
-is_expression open true (opens ∷ tokens) = is_expression (open + 1) true tokens
-is_expression open true (negates ∷ tokens) = is_expression open true tokens
-is_expression open true (test t ∷ tokens) = is_expression open false tokens
-is_expression (suc open) false (closes ∷ tokens) = is_expression open false tokens
-is_expression open false (ands ∷ tokens) = is_expression open true tokens
-is_expression open false (ors ∷ tokens) = is_expression open true tokens
+is_expression depth true (opens ∷ tokens) = is_expression (depth + 1) true tokens
+is_expression depth true (negates ∷ tokens) = is_expression depth true tokens
+is_expression depth true (test t ∷ tokens) = is_expression depth false tokens
+is_expression (suc depth) false (closes ∷ tokens) = is_expression depth false tokens
+is_expression depth false (ands ∷ tokens) = is_expression depth true tokens
+is_expression depth false (ors ∷ tokens) = is_expression depth true tokens
 is_expression zero false [] = true
-is_expression open awaited tokens = false
+is_expression depth awaited tokens = false
 
 -- ---- its tree, from the last token on
 

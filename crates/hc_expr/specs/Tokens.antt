@@ -1,16 +1,20 @@
 -- The signs and tests of an expression.
 -- Apache manual, "Expressions in Apache HTTP Server". Which of its forms are read is our own choice.
-use Rattle.std.specs.Prelude.{ℕ, zero, suc, ◌-◌, ◌==◌, ◌&&◌, ◌||◌, List, [], ◌∷◌, length, Bool, true, false, not, Option, Some, None, option_and_then, option_map, if◌then◌else◌, codes, drop, take}
+use Rattle.std.specs.Prelude.{ℕ, zero, suc, ◌==◌, ◌||◌, List, [], ◌∷◌, length, Bool, true, false, Option, Some, None, nat_eq, option_and_then, option_map, if◌then◌else◌, codes, drop, take}
 use Rattle.std.specs.Char.{is_ascii_alphanumeric, is_ascii_digit}
-use Rattle.std.specs.List.{prefix_len}
+use Rattle.std.specs.List.{prefix_len, starts_with}
 use Rattle.std.specs.Str.{bytes_eq}
-use Rattle.hc_base.specs.Bytes.{begins_with, brace_close, brace_open, percent, slash}
+use Rattle.hc_base.specs.Bytes.{brace_close, slash}
 use Rattle.hc_base.specs.Lines.{is_blank}
 
 -- ---- what a text begins with, and what is behind it
 
 abbrev pub Begins : Type 0 → Type 0
 Begins A = List ℕ → Option (A × List ℕ)
+
+-- Whether a text begins with this sign.
+abbrev pub begins_with : List ℕ → List ℕ → Bool
+begins_with sign text = starts_with nat_eq text sign
 
 -- What stands up to the first byte of this kind, and what is behind that byte.
 abbrev pub up_to : ℕ → Begins (List ℕ)
@@ -56,11 +60,11 @@ abbrev pub either : {A : Type 0} → Option A → Option A → Option A
 either (Some found) other = Some found
 either None other = other
 
-abbrev pub as : {A B : Type 0} → (A → B) → Option (A × List ℕ) → Option (B × List ℕ)
-as make found = option_map (λ found. (make found.0, found.1)) found
+abbrev pub made : {A B : Type 0} → (A → B) → Option (A × List ℕ) → Option (B × List ℕ)
+made make found = option_map (λ found. (make found.0, found.1)) found
 
 abbrev pub operand_at : Begins Operand
-operand_at text = either (as variable (variable_at text)) (either (as quoted (quoted_at text)) (as digits (digits_at text)))
+operand_at text = either (made variable (variable_at text)) (either (made quoted (quoted_at text)) (made digits (digits_at text)))
 
 -- ---- tests
 
@@ -82,13 +86,13 @@ abbrev pub pattern_at : Begins (List ℕ × Bool)
 pattern_at text = if begins_with (codes "/") text then behind with_flag (up_to slash (drop 1 text)) else None
 
 abbrev pub same_at : Bool → Operand → List ℕ → Option (Test × List ℕ)
-same_at negated left text = as (λ right. same negated left right) (operand_at (past_blanks text))
+same_at negated left text = made (λ right. same negated left right) (operand_at (past_blanks text))
 
 abbrev pub search_at : Bool → Operand → List ℕ → Option (Test × List ℕ)
-search_at negated left text = as (λ found. search negated left found.0 found.1) (pattern_at (past_blanks text))
+search_at negated left text = made (λ found. search negated left found.0 found.1) (pattern_at (past_blanks text))
 
 abbrev pub network_at : Operand → List ℕ → Option (Test × List ℕ)
-network_at left text = as (λ net. network left net) (quoted_at (past_blanks text))
+network_at left text = made (λ net. network left net) (quoted_at (past_blanks text))
 
 -- By the sign between the operands. A longer sign comes before one that it begins with.
 abbrev pub compared_at : Operand → List ℕ → Option (Test × List ℕ)

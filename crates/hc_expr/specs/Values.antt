@@ -1,6 +1,6 @@
 -- Whether an expression holds.
 -- Apache manual, "Expressions in Apache HTTP Server".
-use Rattle.std.specs.Prelude.{ℕ, List, [], Bool, true, false, not, ◌&&◌, ◌||◌, is_some, Option, Some, None}
+use Rattle.std.specs.Prelude.{ℕ, List, Bool, true, false, not, ◌&&◌, ◌||◌, is_some, Option, Some, None}
 use Rattle.std.specs.Str.{bytes_eq}
 use Rattle.hc_addr.specs.Addresses.{addr_of}
 use Rattle.hc_addr.specs.Networks.{holds_in}
@@ -10,13 +10,9 @@ use Rattle.hc_model.specs.declared.expression.Expr.{Expr, fold-Expr}
 use Rattle.hc_model.specs.declared.expression.Expr.TheOpen.{Expr-F}
 use Rattle.hc_model.specs.declared.request.View.{View}
 use Rattle.hc_model.specs.declared.template.Piece.{Piece}
-use Rattle.hc_template.specs.Filled.{Filling, filled}
-use Rattle.hc_template.specs.Variables.{variable_value}
+use Rattle.hc_template.specs.Filled.{filled}
+use Rattle.hc_template.specs.ViewFilling.{filling_of}
 use Rattle.hc_ways.specs.Kept.{first_match}
-
--- No group is set in an expression.
-abbrev pub filling_of : View → Filling
-filling_of view = record { group = λ number. []; condition = λ number. []; variable = variable_value view }
 
 abbrev pub text_of : View → List Piece → List ℕ
 text_of view pieces = filled (filling_of view) pieces

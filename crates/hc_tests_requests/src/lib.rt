@@ -13,6 +13,8 @@ mod configs;
 #[cfg(test)]
 mod dialogue;
 #[cfg(test)]
+mod expressions;
+#[cfg(test)]
 mod hosts;
 #[cfg(test)]
 mod include;
