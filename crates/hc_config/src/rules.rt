@@ -137,7 +137,8 @@ fn judge_as(kind: RowKind, among: &Among) -> Result<Effect, EffectFault>
 
 // A Require line of a kind that is not known.
 fn unknown_kind(kind: RowKind, among: &Among) -> Result<bool, NoMemory>
-    ensures { IfOk result (λ is. is ≡ unknown_kind (read_words (spelling_of kind.wording) (among_of among.now).entry.rest)) }
+    ensures { IfOk result (λ is. is
+        ≡ unknown_kind (read_words (spelling_of kind.wording) (among_of among.now).entry.rest)) }
 {
     match read_as(among.alloc, kind.wording, among.entry.rest) {
         Ok(words) => Ok(has_unknown_kind(&words)),
