@@ -1,3 +1,4 @@
 pub mod Places
 pub mod Networks
 pub mod Gathering
+pub mod Closing

@@ -5,7 +5,7 @@ ghost use Rattle.hc_config.specs.Directives.{auth_merging, require, require_cont
 ghost use Rattle.hc_config.specs.Requires.{all_need, asked_by, has_unknown_kind, is_form, is_none_of, is_word, kind_named};
 ghost use Rattle.hc_config.specs.Requires.{line_of, merging_named, need_of, negated_rule, negation_rule, nets_of};
 ghost use Rattle.hc_config.specs.RequireViews.{line_view};
-ghost use Rattle.hc_config.specs.declared.requires.Kind.TheVariants as kind;
+ghost use Rattle.hc_config.specs.declared.requiring.Kind.TheVariants as kind;
 
 use crate::among::{Among, place_of};
 use crate::containers::Container;
