@@ -3,6 +3,7 @@ use Rattle.std.proofs.Common.{◌≡◌, ℕ, ◌+◌, ◌-◌, List, [], ◌∷
 use Rattle.std.specs.List.{slice_get}
 use Rattle.std.proofs.lemmas.List.{length-map, length_push}
 use Rattle.hc_base.specs.declared.fault.NoMemory.{NoMemory}
+use Rattle.hc_config.specs.Levels as definition
 use Rattle.hc_config.specs.Levels.{closed_by, innermost_closed, last_of, with_closed, without_last}
 use Rattle.hc_config.specs.LevelViews.{around_of, standing_of}
 use Rattle.hc_config.specs.declared.gathered.Gathered.{Gathered}
@@ -27,27 +28,24 @@ module _ {A B : Type 0} (f : A → B) (x : A) where
   front_is : (xs : List A) → without_last (map f (xs ++ x ∷ [])) ≡ map f xs
   front_is xs = ap (λ n. take n (map f (xs ++ x ∷ []))) (count xs) ∙ front xs
 
+-- What is left once an opening is closed.
+abbrev left : Around → Gathered → List definition.Around → definition.Standing
+left around so_far rest = record { so_far = so_far; held = around.held.items; around = rest }
+
+abbrev closed_in : Standing → Around → Gathered
+closed_in standing around = with_closed around.opening around.opening.opened standing.so_far around.gathered
+
 closed_last : (standing : Standing) (before : List Around) (around : Around) → standing.around.items ≡ before ++ around ∷ []
-    → innermost_closed (standing_of standing) ≡ record {
-      so_far = with_closed around.opening around.opening.opened standing.so_far around.gathered;
-      held = around.held.items;
-      around = map around_of before;
-    }
+    → innermost_closed (standing_of standing) ≡ left around (closed_in standing around) (map around_of before)
 closed_last standing before around is =
-    let left = λ rest. record {
-      so_far = with_closed around.opening around.opening.opened standing.so_far around.gathered;
-      held = around.held.items;
-      around = rest;
-    } in
     ap (λ items. closed_by (standing_of standing) (last_of (map around_of items))) is
     ∙ ap (closed_by (standing_of standing)) (last_is around_of around before)
-    ∙ ap (λ items. left (without_last (map around_of items))) is
-    ∙ ap left (front_is around_of around before)
+    ∙ ap (λ items. left around (closed_in standing around) (without_last (map around_of items))) is
+    ∙ ap (left around (closed_in standing around)) (front_is around_of around before)
 
 pub on_closed : (result : Result Unit NoMemory) (standing : Standing) (before : List Around) (around : Around) (closed : Gathered)
-    → standing.around.items ≡ before ++ around ∷ []
-    → OnOk result (closed ≡ with_closed around.opening around.opening.opened standing.so_far around.gathered)
-    → OnOk result (record { so_far = closed; held = around.held.items; around = map around_of before } ≡ innermost_closed (standing_of standing))
+    → standing.around.items ≡ before ++ around ∷ [] → OnOk result (closed ≡ closed_in standing around)
+    → OnOk result (left around closed (map around_of before) ≡ innermost_closed (standing_of standing))
 on_closed (Err fault) standing before around closed is closed_is = closed_is
 on_closed (Ok _) standing before around closed is closed_is =
-    ap (λ so_far. record { so_far = so_far; held = around.held.items; around = map around_of before }) closed_is ∙ sym (closed_last standing before around is)
+    ap (λ so_far. left around so_far (map around_of before)) closed_is ∙ sym (closed_last standing before around is)
