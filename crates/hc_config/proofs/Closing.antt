@@ -2,7 +2,6 @@
 use Rattle.std.proofs.Common.{◌≡◌, ℕ, ◌+◌, ◌-◌, List, [], ◌∷◌, ◌++◌, length, map, take, Result, Ok, Err, Some, OnOk, refl, ap, sym, ◌∙◌, arith}
 use Rattle.std.specs.List.{slice_get}
 use Rattle.std.proofs.lemmas.List.{length-map, length_push}
-use Rattle.hc_base.specs.declared.fault.NoMemory.{NoMemory}
 use Rattle.hc_config.specs.Levels as definition
 use Rattle.hc_config.specs.Levels.{closed_by, innermost_closed, last_of, with_closed, without_last}
 use Rattle.hc_config.specs.LevelViews.{around_of, standing_of}
@@ -43,7 +42,7 @@ closed_last standing before around is =
     ∙ ap (λ items. left around (closed_in standing around) (without_last (map around_of items))) is
     ∙ ap (left around (closed_in standing around)) (front_is around_of around before)
 
-pub on_closed : (result : Result Unit NoMemory) (standing : Standing) (before : List Around) (around : Around) (closed : Gathered)
+pub on_closed : {R : Type 0} (result : Result Unit R) (standing : Standing) (before : List Around) (around : Around) (closed : Gathered)
     → standing.around.items ≡ before ++ around ∷ [] → OnOk result (closed ≡ closed_in standing around)
     → OnOk result (left around closed (map around_of before) ≡ innermost_closed (standing_of standing))
 on_closed (Err fault) standing before around closed is closed_is = closed_is

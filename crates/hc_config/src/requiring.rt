@@ -1,4 +1,5 @@
 ghost use Rattle.std.specs.Prelude.{◌≡◌};
+ghost use Rattle.std.specs.List.{list_any};
 ghost use Rattle.hc_base.specs.Gives.{Gives};
 ghost use Rattle.hc_config.specs.Among.{among_of};
 ghost use Rattle.hc_config.specs.Directives.{auth_merging, require, require_container};
@@ -68,7 +69,7 @@ fn is_word(fixed: &str, word: &CowStr) -> bool
 }
 
 fn asked_by(alloc: Global, container: Option<Container>, line: Line) -> Result<Need, EffectFault>
-    ensures { Gives result (asked_by container (line_view line)) }
+    ensures { Gives result (asked_by container (line_view line.entry)) }
 {
     let [word, words @ ..] = line.words else {
         return Err(REFUSED);
@@ -150,11 +151,17 @@ fn need_of(alloc: Global, kind: Kind, words: &[CowStr]) -> Result<Need, EffectFa
 fn all_need(words: &[CowStr]) -> Need
     ensures { result ≡ all_need words.now }
 {
-    if words.iter().any(|word| is_word("granted", word)) {
+    if has_word("granted", words) {
         Need::Granted
     } else {
         Need::Denied
     }
+}
+
+fn has_word(fixed: &str, words: &[CowStr]) -> bool
+    ensures { result ≡ list_any (is_word fixed.now) words.now }
+{
+    words.iter().any(|word| is_word(fixed, word))
 }
 
 #[tactic(auto, using(crate::proofs::Networks::one_net_more))]
