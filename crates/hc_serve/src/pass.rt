@@ -220,7 +220,6 @@ fn copy_of(event: &Event) -> Result<Event, NoMemory>
 }
 
 // Who may pass.
-#[tactic(auto, unfolding(crate::specs::Passing::admitted), using(hc_steps::proofs::Going::telling))]
 fn admitted(asked: &Asked<'_>, log: &mut Log, here: Here) -> Result<Here, Stop>
     ensures { Ran result log.old log.new
         (run (admitted (site_of asked.now) here) (shown_by asked.now.world.now.files)) }

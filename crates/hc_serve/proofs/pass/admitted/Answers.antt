@@ -1,0 +1,6 @@
+use Rattle.hc_serve.specs.Passing.{admitted}
+use Rattle.hc_serve.proofs.pass.admitted.Goals as goal
+
+pub returns : goal.returns
+unfolding admitted
+returns c = rw c.authorized-value.ensures at c.admitted_by.ensures
