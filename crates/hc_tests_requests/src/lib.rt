@@ -13,8 +13,6 @@ mod configs;
 #[cfg(test)]
 mod dialogue;
 #[cfg(test)]
-mod expressions;
-#[cfg(test)]
 mod hosts;
 #[cfg(test)]
 mod include;
@@ -37,8 +35,4 @@ mod session;
 #[cfg(test)]
 mod target;
 #[cfg(test)]
-mod templates;
-#[cfg(test)]
 mod told;
-#[cfg(test)]
-mod trees;

@@ -10,7 +10,8 @@ const V4: Addr = Addr::V4(0x0A01_0203);
 
 const V6: Addr = Addr::V6(0x0A01_0203);
 
-fn request(alloc: Global, client: Addr) -> Result<Request, NoMemory> {
+/// A request of this client.
+pub fn request(alloc: Global, client: Addr) -> Result<Request, NoMemory> {
     Ok(Request {
         method: Text::copy_of(alloc, b"GET")?,
         scheme: Scheme::Https,

@@ -1,6 +1,7 @@
 //! What trees of authorization say, also those that no configuration gives.
 
-use crate::answers::request;
+use crate::expressions::request;
+use hc_addr::Addr;
 use hc_authz::{Tri, join, value};
 use hc_base::{List, NoMemory, Place, Text};
 use hc_model::{Caller, Merging, Need, ReqTree};
@@ -84,7 +85,7 @@ fn each_made(alloc: Global, shapes: &[Shape]) -> Result<List<ReqTree>, NoMemory>
 
 fn caller(alloc: Global) -> Result<Caller, NoMemory> {
     Ok(Caller {
-        request: request(alloc, "h", "/")?,
+        request: request(alloc, Addr::V4(1))?,
         name: Text::new(alloc),
     })
 }
