@@ -11,7 +11,7 @@ use Rattle.hc_config.specs.declared.levels.Standing.{Standing}
 
 module _ {A B : Type 0} (f : A → B) (x : A) where
   count : (xs : List A) → length (map f (xs ++ x ∷ [])) - 1 ≡ length xs
-  count xs = omega (arith, length-map f (xs ++ x ∷ []), length_push xs x)
+  count xs = omega (arith, length-map (xs ++ x ∷ []) f, length_push xs x)
 
   at_end : (xs : List A) → slice_get (map f (xs ++ x ∷ [])) (length xs) ≡ Some (f x)
   at_end [] = refl

@@ -1,5 +1,8 @@
 -- One entry more, or the rule that it breaks.
-use Rattle.std.proofs.Common.{◌≡◌, ℕ, ◌+◌, List, [], ◌∷◌, ◌++◌, take, drop, Option, Ok, Err, ap, sym, ◌∙◌}
+use Rattle.std.proofs.Common.{◌≡◌, ℕ, ◌+◌, List, [], ◌∷◌, ◌++◌, take, drop, Option, Result, Ok, Err, ap, sym, ◌∙◌}
+use Rattle.hc_base.specs.Gives.{Gives}
+use Rattle.hc_base.specs.declared.fault.Fault.{Fault}
+use Rattle.hc_base.specs.declared.fault.Fault.TheVariants.{NoMemory, Refused}
 use Rattle.hc_base.specs.declared.place.Refusal.{Refusal}
 use Rattle.hc_model.specs.declared.entry.Entry.{Entry}
 use Rattle.hc_config.specs.Configuration.{gathered_from, gathered_next, goes_on, with_effect}
@@ -26,3 +29,8 @@ module _ (all rest : List Entry) (place : ℕ) (entry : Entry) (standing : Stand
 
   pub gathered_refused : (refusal : Refusal) → with_effect standing effect ≡ Err refusal → gathered_from standing (take place all) (drop place all) ≡ Err refusal
   gathered_refused refusal is = gathered_by ∙ ap (goes_on (λ later. gathered_from later (take (place + 1) all) rest)) is
+
+  pub gathered_faulted : (fault : Fault Refusal) (whole : Result Standing Refusal) → whole ≡ gathered_from standing (take place all) (drop place all)
+      → Gives (Err fault) (with_effect standing effect) → Gives (Err fault) whole
+  gathered_faulted (Refused refusal) whole is given = is ∙ gathered_refused refusal given
+  gathered_faulted NoMemory whole is given = tt
