@@ -31,4 +31,4 @@ returns-in_err-perform-in-Ok c =
     let whole = gathered_from nothing_standing [] all in
     let exit = err_from_is_err_and c.from_residual.result c.from_residual.ensures.1 in
     subst (λ result. Gives (gathered_view result) whole) (sym (exit.1 ∙ ap Err exit.2))
-    (gathered_faulted all rest place entry (standing_of c.loop-place.standing) c.context.result c.container.result c.in-Ok.effect here c.context.ensures c.container.ensures c.in-Ok.ensures c.in_err-perform-in-Ok.field-0 whole (held.0 ∙ ap (gathered_from _ _) (sym held.1)) c.in_err-perform-in-Ok.ensures)
+    (gathered_faulted all rest place entry (standing_of c.loop-place.standing) c.context.result c.container.result c.in-Ok.effect here c.context.ensures c.container.ensures c.in-Ok.ensures c.in_err-perform-in-Ok.field-0.0 whole (held.0 ∙ ap (gathered_from _ _) (sym held.1)) c.in_err-perform-in-Ok.ensures)
