@@ -1,7 +1,6 @@
 //! What AllowOverride allows, and where the `.htaccess` of a directory stands among its sections.
 
-ghost use Rattle.std.specs.Prelude.{◌≡◌, ◌∷◌, ◌++◌, [], map, OnErr, OnOk};
-ghost use Rattle.hc_tests_requests.specs.Loads.{loaded_of};
+ghost use Rattle.std.specs.Prelude.{◌≡◌, ◌∷◌, ◌++◌, [], OnErr, OnOk};
 
 use crate::answers::request;
 use crate::configs::{config_of, world_of};
@@ -38,8 +37,8 @@ pub struct OneFile {
 impl OneFile {
     fn add(&mut self, dir: &[u8], allowed: Allowed) -> Result<(), NoMemory>
         ensures file { self.new.file ≡ self.old.file }
-        ensures loads { OnOk result (map loaded_of self.new.loads.items
-            ≡ map loaded_of self.old.loads.items ++ (record { dir = dir.now; allowed = allowed }) ∷ []) }
+        ensures loads { OnOk result (self.new.loads.items
+            ≡ self.old.loads.items ++ (record { dir = dir.now; allowed = allowed }) ∷ []) }
         ensures kept { OnErr result (self.new.loads.items ≡ self.old.loads.items) }
     {
         let dir = Text::copy_of(*self.loads.allocator(), dir)?;
@@ -49,12 +48,13 @@ impl OneFile {
 }
 
 impl Overrides for OneFile {
-    ghost use Rattle.std.specs.Prelude.{map};
-    ghost use Rattle.hc_tests_requests.specs.Loads.{loaded_of, read_at};
+    ghost use Rattle.std.specs.Prelude.{map, if◌then◌else◌};
+    ghost use Rattle.std.specs.Str.{bytes_eq};
+    ghost use Rattle.hc_model.specs.Overrides.{file, none};
 
-    ghost reading = { λ it dir allowed. read_at it.file dir };
+    ghost reading = { λ it dir allowed. if bytes_eq it.file.dir dir then file it.file else none };
 
-    ghost loaded = { λ it. map loaded_of it.loads.items };
+    ghost loaded = { λ it. map (λ loads. record { dir = loads.dir; allowed = loads.allowed }) it.loads.items };
 
     fn load(&mut self, dir: &[u8], allowed: Allowed) -> Result<(), AtFault> {
         self.add(dir, allowed)?;
