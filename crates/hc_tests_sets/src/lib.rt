@@ -1,5 +1,5 @@
-//! Tests of the crates of texts and sets: addresses, patterns and matches, automata and what they are
-//! made of. Tables of cases, whose answers come from the
+//! Tests of the crates of texts and sets: addresses, patterns and matches, templates, expressions, trees
+//! of authorization, automata and what they are made of. Tables of cases, whose answers come from the
 //! manual or from our own rules, and never from the code.
 #![tactic(auto)]
 
@@ -7,6 +7,8 @@
 mod addr;
 #[cfg(test)]
 mod dfa;
+#[cfg(test)]
+mod expressions;
 #[cfg(test)]
 mod groups;
 #[cfg(test)]
@@ -19,3 +21,7 @@ mod matches;
 mod patterns;
 #[cfg(test)]
 mod regset;
+#[cfg(test)]
+mod templates;
+#[cfg(test)]
+mod trees;

@@ -1,0 +1,18 @@
+-- How the tree of a section stands to those before it.
+-- Apache manual, mod_authz_core, AuthMerging.
+use Rattle.std.specs.Prelude.{List, [], ◌∷◌, Option, Some, None}
+use Rattle.hc_model.specs.declared.authorization.Merging.{Merging}
+use Rattle.hc_model.specs.declared.authorization.Merging.TheVariants.{Off, And, Or}
+use Rattle.hc_model.specs.declared.authorization.ReqTree.{ReqTree}
+use Rattle.hc_model.specs.declared.authorization.ReqTree.TheVariants.{All, AnyOf}
+
+abbrev pub joined : ReqTree → ReqTree → Merging → ReqTree
+joined before own Off = own
+joined before own And = All (before ∷ own ∷ [])
+joined before own Or = AnyOf (before ∷ own ∷ [])
+
+-- A section without Require changes nothing; where there is no tree so far, its own counts.
+abbrev pub joined_behind : Option ReqTree → Option ReqTree → Merging → Option ReqTree
+joined_behind before None how = before
+joined_behind None (Some own) how = Some own
+joined_behind (Some before) (Some own) how = Some (joined before own how)

@@ -1,0 +1,5 @@
+-- Each function of the code has the definition of the same name, with `view result ≡ definition (view argument)`.
+pub mod Common
+pub mod TokenLemmas
+pub mod SyntaxLemmas
+pub mod Building

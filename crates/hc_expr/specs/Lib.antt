@@ -1,0 +1,7 @@
+pub mod Tokens
+pub mod TokenViews
+pub mod Syntax
+pub mod Spots
+pub mod TreeViews
+pub mod Reading
+pub mod Values

@@ -1,0 +1,16 @@
+//! The expressions of `<If>` (Apache manual, "Expressions in Apache HTTP Server"): read, and
+//! evaluated for a request.
+#![tactic(auto)]
+
+mod build;
+mod hold;
+mod operand;
+mod parts;
+mod read;
+mod syntax;
+mod test;
+mod token;
+mod tree;
+
+pub use hold::holds;
+pub use read::{ExprFault, parse_expr};

@@ -1,0 +1,4 @@
+pub mod ReadBehind
+pub mod Names
+pub mod Unclosed
+pub mod Runs
