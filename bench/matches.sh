@@ -22,7 +22,7 @@ cat > "$room/crates.txt" << 'CRATES'
 hc_base:
 hc_pattern: hc_base
 hc_ways: hc_base hc_pattern
-hc_match: hc_base hc_pattern hc_ways
+hc_match: hc_base hc_pattern hc_ways memchr
 matches: hc_base hc_match hc_pattern
 CRATES
 cat > "$room/crates/matches/src/main.rt" << 'PROGRAM'

@@ -9,6 +9,7 @@ pub use Rattle.hc_match.specs.Pairs.{AllFail, Fails, HasEnded, Stands, kept_now,
 pub use Rattle.hc_match.specs.Program.{Compiles, Extends, HasMeaning, IsAdded, IsMeaning, Kept, Meaning, NamesBelow, closed_at, keeping_held, kept_ways, opened, step_ways, turn_step, nothing_kept, kept_past, Means}
 pub use Rattle.hc_match.specs.Runs.{ends, first_end, further_turns, other_first, run_length}
 pub use Rattle.hc_match.specs.Settings.{held_over}
+pub use Rattle.hc_match.specs.Single.{is_first}
 pub use Rattle.hc_match.specs.declared.paths.Passed.{Passed}
 pub use Rattle.hc_match.specs.declared.program.Step.{Step}
 pub use Rattle.hc_pattern.proofs.Nodes.{is_alt, is_byte, is_cat, is_class, is_empty, is_finish, is_group, is_repeat, is_start}

@@ -6,6 +6,7 @@
 -- the next pair and in what is still to be tried, whatever is kept (specs/Pairs). A stack whose top is
 -- the `Vec`'s end is a `fold`, and `fold-append` its one lemma.
 pub mod Common
+pub mod Fronts
 pub mod Places
 pub mod Saying
 pub mod Starts

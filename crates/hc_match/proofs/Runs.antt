@@ -1,45 +1,52 @@
 -- The ways of a repeat of one byte are the ends of its run, in order.
-use Rattle.hc_match.proofs.Common.{◌≡◌, ◌≤◌, first_end, other_first, inl, inr, slice_get_past, ℕ, zero, suc, ◌+◌, ◌-◌, ◌<◌, Bool, true, false, List, [], ◌++◌, length, if◌then◌else◌, nat_lt, Option, Some, None, slice_get, refl, ap, sym, ◌∙◌, arith, append_assoc, lt-ltb, le-ltb, none-some, same_Some, Ways, any_turns, behind, meets, moving, none, preferred, repeated, step_where, stop, turns_then, turns_up_to, Held, behind-behind, behind-preferred, turn_or_next, append-nil, ends, further_turns, run_length}
-use Rattle.std.specs.List.{filter, flat_map}
-use Rattle.std.specs.Prelude.{min, ◌^◌, ◌==◌}
-use Rattle.std.proofs.lemmas.Nat.Bits.{bit_at_ones}
-use Rattle.hc_pattern.specs.Bits.{has_byte}
-use Rattle.hc_pattern.specs.declared.set.ByteSet.{ByteSet}
+use Rattle.hc_match.proofs.Common.{◌≡◌, ◌≤◌, ◌⊎◌, first_end, other_first, inl, inr, slice_get_past, slice_get-get_or, get_or, take, drop, ℕ, zero, suc, ◌+◌, ◌-◌, ◌<◌, Bool, true, false, List, [], ◌++◌, length, if◌then◌else◌, nat_lt, Option, Some, None, slice_get, refl, ap, sym, ◌∙◌, arith, append_assoc, lt-ltb, none-some, same_Some, Ways, any_turns, behind, meets, moving, none, preferred, repeated, step_where, stop, turns_then, turns_up_to, Held, behind-behind, behind-preferred, turn_or_next, append-nil, ends, further_turns, run_length}
+use Rattle.std.specs.List.{filter, flat_map, prefix_len}
+use Rattle.std.proofs.Math.Seq.{drop-cons}
+use Rattle.std.proofs.lemmas.List.{drop_all}
 use Rattle.std.proofs.lemmas.Bool.{cases_lt}
 
 -- ---- the length
 
-pub one_fits : (text : List ℕ) (test : ℕ → Bool) (at count most all : ℕ) → count < most → true ≡ meets test (slice_get text (at + count))
-    → count + run_length text test (at + count) (most - count) ≡ all → count + 1 + run_length text test (at + (count + 1)) (most - (count + 1)) ≡ all
-one_fits text test at count most all less fits is =
-    let left : most - count ≡ suc (most - (count + 1)) = omega (arith, less) in
-    let place : at + count + 1 ≡ at + (count + 1) = omega arith in
-    let rest = run_length text test (at + (count + 1)) (most - (count + 1)) in
-    let one : run_length text test (at + count) (most - count) ≡ suc rest =
-    rw left (rw (← fits) (ap (λ place. suc (run_length text test place (most - (count + 1)))) place)) in
-    let sum : count + 1 + rest ≡ count + suc rest = omega arith in
-    sum ∙ ap (λ length. count + length) (sym one) ∙ is
-
-pub full_has : (set : ByteSet) → set.low ≡ 2 ^ 128 - 1 → set.high ≡ 2 ^ 128 - 1 → (byte : ℕ) → byte < 256 → has_byte set byte ≡ true
-full_has set low high byte within =
-    elim (cases_lt byte 128) [
-      | inl below ↦ rw (lt-ltb byte 128 below, low) (ap (λ bit. bit == 1) (bit_at_ones 128 byte below))
-      | inr past ↦ rw (le-ltb byte 128 past, high) (ap (λ bit. bit == 1) (bit_at_ones 128 (byte - 128) (omega (arith, within, past))))
-    ]
-
--- All bytes up to the end fit.
-pub all_fit : (text : List ℕ) (test : ℕ → Bool) (at most : ℕ) → ((place : ℕ) → place < length text → meets test (slice_get text place) ≡ true)
-    → min most (length text - at) ≡ run_length text test at most
-all_fit text test at zero fit = omega arith
-all_fit text test at (suc most) fit =
+-- The bytes that fit are the front of what stands there.
+pub run_is_front : (text : List ℕ) (test : ℕ → Bool) (at most : ℕ) → prefix_len test (take most (drop at text)) ≡ run_length text test at most
+run_is_front text test at zero = refl
+run_is_front text test at (suc most) =
     elim (cases_lt at (length text)) [
-      | inl within ↦
-          rw (fit at within)
-          (let rest = all_fit text test (at + 1) most fit in
-          let one : min (suc most) (length text - at) ≡ suc (min most (length text - (at + 1))) = omega (arith, within) in
-          one ∙ ap suc rest)
-      | inr past ↦ rw (slice_get_past text at past) (omega (arith, past))
+      | inl within ↦ rw (drop-cons text at 0 within, slice_get-get_or text at 0 within) (fits (test (get_or text at 0)) (ap (λ at. prefix_len test (take most (drop at text))) there ∙ run_is_front text test (at + 1) most))
+      | inr past ↦ rw (drop_all at text past, slice_get_past text at past) refl
     ]
+  where
+    there : suc at ≡ at + 1
+    there = omega arith
+
+    fits : (v : Bool) → prefix_len test (take most (drop (suc at) text)) ≡ run_length text test (at + 1) most
+        → (if v then 1 + prefix_len test (take most (drop (suc at) text)) else 0) ≡ (if v then suc (run_length text test (at + 1) most) else 0)
+    fits true same = omega (arith, same)
+    fits false same = refl
+
+-- Enough bytes fit, and more of them behind those; or too few.
+abbrev Splits : ℕ → ℕ → ℕ → ℕ → Type 0
+Splits least first behind all = ((first ≡ least) × (all ≡ least + behind)) ⊎ ((first ≡ all) × (all < least))
+
+pub run_splits : (text : List ℕ) (test : ℕ → Bool) (at least more both : ℕ) → both ≡ least + more
+    → Splits least (run_length text test at least) (run_length text test (at + least) more) (run_length text test at both)
+run_splits text test at zero more both is =
+    let all : both ≡ more = omega (arith, is) in let here : at ≡ at + 0 = omega arith in
+    let same = ap (run_length text test at) all ∙ ap (λ at. run_length text test at more) here in inl (refl, omega (arith, same))
+run_splits text test at (suc least) more zero is = absurd (omega (arith, is))
+run_splits text test at (suc least) more (suc both) is = fits (meets test (slice_get text at)) (run_splits text test (at + 1) least more both (omega (arith, is)))
+  where
+    further : ℕ → ℕ
+    further most = run_length text test (at + 1) most
+
+    there : at + 1 + least ≡ at + suc least
+    there = omega arith
+
+    fits : (v : Bool) → Splits least (further least) (run_length text test (at + 1 + least) more) (further both)
+        → Splits (suc least) (if v then suc (further least) else 0) (run_length text test (at + suc least) more) (if v then suc (further both) else 0)
+    fits true (inl enough) = let behind = ap (λ at. run_length text test at more) there in inl (ap suc enough.0, omega (arith, enough.1, behind))
+    fits true (inr few) = inr (ap suc few.0, omega (arith, few.1))
+    fits false split = inr (refl, omega arith)
 
 -- ---- turns of one byte
 
@@ -75,9 +82,9 @@ module _ (text : List ℕ) (test : ℕ → Bool) where
   turn_if true rest at held = append-nil (rest (at + 1) held)
   turn_if false rest at held = refl
 
-  enough : (least : ℕ) (more : Ways Held) (at : ℕ) (held : Held) → run_length text test at least ≡ least → turns_then one least more at held ≡ more (at + least) held
-  enough zero more at held is = let here : at ≡ at + 0 = omega arith in ap (λ place. more place held) here
-  enough (suc least) more at held is = fits (meets test (slice_get text at)) is (enough least more (at + 1) held) ∙ ap (λ place. more place held) there
+  enough_turns : (least : ℕ) (more : Ways Held) (at : ℕ) (held : Held) → run_length text test at least ≡ least → turns_then one least more at held ≡ more (at + least) held
+  enough_turns zero more at held is = let here : at ≡ at + 0 = omega arith in ap (λ place. more place held) here
+  enough_turns (suc least) more at held is = fits (meets test (slice_get text at)) is (enough_turns least more (at + 1) held) ∙ ap (λ place. more place held) there
     where
       there : at + 1 + least ≡ at + suc least
       there = omega arith
@@ -116,18 +123,29 @@ module _ (text : List ℕ) (test : ℕ → Bool) where
 
   -- ---- the repeat
 
-  pub no_run : (least : ℕ) (most : Option ℕ) (greedy : Bool) (further at : ℕ) (held : Held) → Some further ≡ further_turns (length text) least most
-      → (run_length text test at least ≡ least → ⊥) → repeated (length text) one least most greedy at held ≡ []
-  no_run least most greedy further at held is few =
-      ap (λ ways. ways at held) (all_turns least most greedy further is) ∙ too_few least (turns_up_to greedy one further) at held few
+  -- By a count of the bytes that fit, of as many at most as there may be turns.
+  pub no_run : (least from : ℕ) (most : Option ℕ) (greedy : Bool) (further at count : ℕ) (held : Held) → Some further ≡ further_turns (length text) least most → from ≡ least
+      → count ≡ run_length text test at (from + further) → count < from → repeated (length text) one least most greedy at held ≡ []
+  no_run least from most greedy further at count held is same counted few =
+      let both : from + further ≡ least + further = omega (arith, same) in
+      ap (λ ways. ways at held) (all_turns least most greedy further is)
+      ∙ too_few least (turns_up_to greedy one further) at held
+      (elim (run_splits text test at least further (from + further) both) [
+        | inl enough ↦ (λ fits. omega (arith, enough.1, counted, same, few))
+        | inr short ↦ (λ fits. omega (arith, short.0, short.1, fits))
+      ])
 
-  pub run_is : (least : ℕ) (most : Option ℕ) (greedy : Bool) (further at : ℕ) (next : Ways Held) (held : Held) → Some further ≡ further_turns (length text) least most
-      → run_length text test at least ≡ least
-      → behind (repeated (length text) one least most greedy) next at held ≡ ends greedy next (at + least) (run_length text test (at + least) further) held
-  run_is least most greedy further at next held is fits =
-      ap (λ ways. flat_map (λ way. next way.end way.held) (ways at held)) (all_turns least most greedy further is)
-      ∙ ap (flat_map (λ way. next way.end way.held)) (enough least (turns_up_to greedy one further) at held fits)
-      ∙ may_be greedy next further (at + least) held
+  pub run_is : (least from : ℕ) (most : Option ℕ) (greedy : Bool) (further at count : ℕ) (next : Ways Held) (held : Held) → Some further ≡ further_turns (length text) least most → from ≡ least
+      → count ≡ run_length text test at (from + further) → from ≤ count → behind (repeated (length text) one least most greedy) next at held ≡ ends greedy next (at + from) (count - from) held
+  run_is least from most greedy further at count next held is same counted many =
+      elim (run_splits text test at least further (from + further) (omega (arith, same))) [
+        | inl enough ↦
+            let more : run_length text test (at + least) further ≡ count - from = omega (arith, enough.1, counted, same) in let first : at + least ≡ at + from = omega (arith, same) in
+            ap (λ ways. flat_map (λ way. next way.end way.held) (ways at held)) (all_turns least most greedy further is)
+            ∙ ap (flat_map (λ way. next way.end way.held)) (enough_turns least (turns_up_to greedy one further) at held enough.0)
+            ∙ may_be greedy next further (at + least) held ∙ ap (λ more. ends greedy next (at + least) more held) more ∙ ap (λ at. ends greedy next at (count - from) held) first
+        | inr short ↦ absurd (omega (arith, short.1, counted, same, many))
+      ]
 
 -- ---- the ends, one by one
 

@@ -1,10 +1,10 @@
 -- Repeats of one byte: the bytes in a row that fit, and what is behind each number of them.
 use Rattle.std.specs.Prelude.{ℕ, zero, suc, ◌+◌, ◌-◌, Bool, List, Option, None, Some, length, if◌then◌else◌, nat_lt, slice_get}
-use Rattle.hc_pattern.specs.Bits.{has_byte}
-use Rattle.hc_pattern.specs.declared.set.ByteSet.{ByteSet}
 use Rattle.hc_ways.specs.Ways.{Way, Ways, meets, repeated, step_where}
 use Rattle.hc_ways.specs.Kept.{Held}
 use Rattle.hc_match.specs.Frames.{preferring}
+use Rattle.hc_match.specs.Single.{is_first}
+use Rattle.hc_match.specs.declared.start.First.{First}
 use Rattle.hc_match.specs.declared.frame.Turns.{Turns}
 
 -- How many bytes from a place on meet a test, one behind the other: of so many at most.
@@ -25,8 +25,8 @@ abbrev pub other_first : Bool → ℕ → ℕ
 other_first greedy first = if greedy then first else first + 1
 
 -- The ways of a repeat of these bytes.
-abbrev pub run_ways : List ℕ → ByteSet → Turns → Bool → Ways Held
-run_ways text set turns greedy = repeated (length text) (step_where text (has_byte set)) turns.least turns.most greedy
+abbrev pub run_ways : List ℕ → First → Turns → Bool → Ways Held
+run_ways text set turns greedy = repeated (length text) (step_where text (is_first set)) turns.least turns.most greedy
 
 -- How many turns there are at most behind those that have to be: none where these are too many
 -- already. A text of so many bytes has no more turns than bytes.

@@ -5,6 +5,7 @@ mod captures;
 mod failures;
 mod find;
 mod frame;
+mod front;
 mod groups;
 mod look;
 mod moves;

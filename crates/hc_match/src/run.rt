@@ -1,15 +1,15 @@
 //! Repeats of one byte: the bytes that fit are counted, and no turn is tried by itself.
 ghost use Rattle.std.specs.Prelude.{◌≡◌, ℕ, ◌+◌, ◌-◌, ◌^◌, ◌≤◌, ◌<◌, Bool, List, []};
-ghost use Rattle.std.specs.Prelude.{length, max, slice_get, true, IfSome, IfNone, IsTrue};
-ghost use Rattle.hc_pattern.specs.Bits.{has_byte};
+ghost use Rattle.std.specs.Prelude.{length, max, IfSome, IfNone};
 ghost use Rattle.hc_pattern.specs.Pattern.{pattern_of};
-ghost use Rattle.hc_ways.specs.Ways.{Ways, behind, meets, repeated, step_where};
+ghost use Rattle.hc_ways.specs.Ways.{Ways, behind, repeated, step_where};
 ghost use Rattle.hc_ways.specs.Kept.{Held, last_ways};
+ghost use Rattle.hc_match.specs.Single.{is_first};
 ghost use Rattle.hc_match.specs.Runs.{ends, first_end, further_turns, other_first, run_length, run_ways};
 
 use crate::frame::Turns;
-use crate::single::is_in_class;
-use hc_pattern::{ByteSet, Pat};
+use crate::start::First;
+use hc_pattern::Pat;
 
 /// The bytes that a repeat takes: at least those up to `first`, and so many `more` at most.
 #[derive(Clone, Copy)]
@@ -48,19 +48,21 @@ impl Run {
 }
 
 /// The bytes that the pattern matches, if it is one byte.
-pub fn one_byte(pat: &Pat) -> Option<ByteSet>
+#[inline(always)]
+pub fn one_byte(pat: &Pat) -> Option<First>
     ensures { IfSome result (λ set. (text : List ℕ) (at : ℕ) (held : Held)
-        → last_ways text (pattern_of pat.now) at held ≡ step_where text (has_byte set) at held) }
+        → last_ways text (pattern_of pat.now) at held ≡ step_where text (is_first set) at held) }
 {
     match pat {
-        Pat::Byte(byte) => Some(ByteSet::empty().with(*byte)),
-        Pat::Class(set) => Some(*set),
+        Pat::Byte(byte) => Some(First::Byte(*byte)),
+        Pat::Class(set) => Some(First::Class(*set)),
         _ => None,
     }
 }
 
 /// What a repeat of these bytes takes from this place on, if there are enough of them.
-pub fn run_of(text: &[u8], set: ByteSet, turns: Turns, at: usize) -> Option<Run>
+#[inline(always)]
+pub fn run_of(text: &[u8], set: First, turns: Turns, at: usize) -> Option<Run>
     ensures some { IfSome result (λ run. (greedy : Bool) (next : Ways Held) (held : Held)
         → behind (run_ways text.now set turns greedy) next at held ≡ ends greedy next run.first run.more held) }
     ensures none { IfNone result ((greedy : Bool) (held : Held) → run_ways text.now set turns greedy at held ≡ []) }
@@ -70,12 +72,14 @@ pub fn run_of(text: &[u8], set: ByteSet, turns: Turns, at: usize) -> Option<Run>
         return None;
     };
     let least = usize::from(turns.least);
-    if fitting(text, set, at, least) != least {
+    let count = fitting(text, set, at, least + further);
+    if count < least {
         return None;
     }
-    let first = at + least;
-    let more = fitting(text, set, first, further);
-    Some(Run { first, more })
+    Some(Run {
+        first: at + least,
+        more: count - least,
+    })
 }
 
 fn further_turns(text: &[u8], least: u16, most: Option<u16>) -> Option<usize>
@@ -90,24 +94,13 @@ fn further_turns(text: &[u8], least: u16, most: Option<u16>) -> Option<usize>
     Some(usize::from(most - least))
 }
 
-// How many bytes of the set stand from this place on.
-fn fitting(text: &[u8], set: ByteSet, at: usize, most: usize) -> usize
-    ensures value { result ≡ run_length text.now (has_byte set) at most }
+// How many of these bytes stand from this place on: of so many at most.
+#[inline(always)]
+fn fitting(text: &[u8], set: First, at: usize, most: usize) -> usize
+    ensures value { result ≡ run_length text.now (is_first set) at most }
     ensures within { at + result ≤ max at (length text.now) }
 {
-    if is_full(set) {
-        return most.min(text.len().saturating_sub(at));
-    }
-    let mut count = 0;
-    'bytes: while count < most && is_in_class(text, at + count, &set) {
-        count += 1;
-    }
-    count
-}
-
-// It is the set of all bytes.
-fn is_full(set: ByteSet) -> bool
-    ensures { IsTrue result → (byte : ℕ) → byte < 256 → has_byte set byte ≡ true }
-{
-    set.low == u128::MAX && set.high == u128::MAX
+    let (_, rest) = text.split_at(at.min(text.len()));
+    let (rest, _) = rest.split_at(most.min(rest.len()));
+    set.front(rest)
 }

@@ -99,7 +99,8 @@ pub fn is_in_class(text: &[u8], at: usize, set: &ByteSet) -> bool
     }
 }
 
-fn is_in(set: &ByteSet, byte: u8) -> bool
+/// The byte is in the set.
+pub fn is_in(set: &ByteSet, byte: u8) -> bool
     ensures { result ≡ has_byte set.now byte }
 {
     if byte >= 128 {

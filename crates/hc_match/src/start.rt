@@ -1,12 +1,12 @@
 //! What a pattern begins with: the start of a text, or certain bytes.
-ghost use Rattle.std.specs.Prelude.{◌≡◌, ◌-◌, ◌≤◌, ◌||◌, ℕ, slice_get, IfSome, IsTrue};
+ghost use Rattle.std.specs.Prelude.{◌≡◌, ◌-◌, ◌≤◌, ◌||◌, ℕ, not, IfSome, IsTrue};
+ghost use Rattle.std.specs.List.{prefix_len};
 ghost use Rattle.hc_pattern.specs.Bits.{has_byte};
 ghost use Rattle.hc_pattern.specs.Pattern.{Pattern, pattern_of};
 ghost use Rattle.hc_ways.specs.Kept.{match_among};
-ghost use Rattle.hc_ways.specs.Ways.{meets};
 ghost use Rattle.hc_match.specs.Single.{BeginsAtStart, BeginsWith, is_first};
 
-use crate::single::{is_byte, is_in_class};
+use crate::front::{before_byte, of_byte, of_set};
 use hc_pattern::{ByteSet, Pat};
 
 /// A byte, or one of certain bytes.
@@ -17,27 +17,35 @@ pub enum First {
 }
 
 impl First {
-    /// One of the bytes is at the place.
-    pub fn is_at(self, text: &[u8], at: usize) -> bool
-        ensures { result ≡ meets (is_first self) (slice_get text.now at) }
-    {
-        match self {
-            First::Byte(byte) => is_byte(text, at, byte),
-            First::Class(set) => is_in_class(text, at, &set),
-        }
-    }
-
     /// The next place where one of the bytes is, or the end: no match begins before it.
     fn next_place(self, text: &[u8], from: usize) -> usize
         ensures later { from ≤ result }
         ensures same { (pattern : Pattern) (end : ℕ) → BeginsWith self pattern
             → match_among text.now pattern (end - result) result ≡ match_among text.now pattern (end - from) from }
     {
-        let mut at = from;
-        'places: while at < text.len() && !self.is_at(text, at) {
-            at += 1;
+        let (_, rest) = text.split_at(from.min(text.len()));
+        from + self.before(rest)
+    }
+
+    /// How many of the bytes come before the first other one.
+    #[inline(always)]
+    pub fn front(self, text: &[u8]) -> usize
+        ensures { result ≡ prefix_len (is_first self) text.now }
+    {
+        match self {
+            First::Byte(byte) => of_byte(text, byte),
+            First::Class(set) => of_set(text, &set),
         }
-        at
+    }
+
+    // How many other bytes come before the first of them.
+    fn before(self, text: &[u8]) -> usize
+        ensures { result ≡ prefix_len (λ byte. not (is_first self byte)) text.now }
+    {
+        match self {
+            First::Byte(byte) => before_byte(text, byte),
+            First::Class(set) => of_set(text, &set.complement()),
+        }
     }
 
     fn set(self) -> ByteSet

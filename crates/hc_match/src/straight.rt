@@ -231,6 +231,9 @@ impl Straight {
         ensures says { IfOk result (λ tried. Says tried self.new
             (ends greedy (frame_ways text.now next.now) run.first run.more)) }
     {
+        if run.more == 0 {
+            return self.go_on(text, &*next, run.first);
+        }
         let lead = frame_lead(&*next);
         let mut left = run;
         'ends: while left.more > 0 {

@@ -1,20 +1,19 @@
-use Rattle.hc_match.proofs.Common.{◌∙◌, ap, arith, get_or, refl, slice_get-get_or, has_byte, run_length}
-use Rattle.std.specs.Prelude.{min}
-use Rattle.hc_match.proofs.Runs.{all_fit, one_fits}
+use Rattle.hc_match.proofs.Common.{ℕ, ◌∙◌, ◌≡◌, ap, arith, drop, take, is_first}
+use Rattle.std.specs.List.{prefix_len}
+use Rattle.std.proofs.lemmas.List.{drop_min, take_min}
+use Rattle.std.proofs.lemmas.List.Sums.{prefix_len-le-length}
+use Rattle.hc_match.proofs.Runs.{run_is_front}
 use Rattle.hc_match.proofs.run.fitting.Goals as goal
 
-pub bytes-preserved : goal.bytes-preserved
-bytes-preserved c =
-    let text = c.args.text.now in let test = has_byte c.args.set in
-    record {
-      left = one_fits text test c.args.at c.bytes.count c.args.most (run_length text test c.args.at c.args.most) c.bytes-test.true c.if-is_in_class.ensures.value c.bytes.invariant.left;
-      few = omega (arith, c.bytes-test.true);
-      within = let inside = c.if-is_in_class.ensures.within refl in omega (arith, inside);
-    }
+pub returns-clause-value : goal.returns-clause-value
+returns-clause-value c =
+    let text = c.args.text.now in let rest = c.split_at.result.1.now in let test = is_first c.args.set in
+    let from : rest ≡ drop c.args.at text = c.split_at.ensures.back ∙ ap (λ (at : ℕ). drop at text) c.min.ensures ∙ drop_min c.args.at text in
+    c.front.ensures
+    ∙ ap (prefix_len test) (c.split_at-2.ensures.front ∙ ap (λ (most : ℕ). take most rest) c.min-2.ensures ∙ take_min c.args.most rest ∙ ap (take c.args.most) from)
+    ∙ run_is_front text test c.args.at c.args.most
 
-pub returns-then-is_full-clause-value : goal.returns-then-is_full-clause-value
-returns-then-is_full-clause-value c =
-    let text = c.args.text.now in
-    c.min.ensures ∙ ap (min c.args.most) c.saturating_sub.ensures
-    ∙ all_fit text (has_byte c.args.set) c.args.at c.args.most
-    (λ place within. rw (slice_get-get_or text place 0 within) (c.if-is_full.ensures refl (get_or text place 0) (c.type_inv.text place).fits))
+pub returns-clause-within : goal.returns-clause-within
+returns-clause-within c =
+    let most = prefix_len-le-length (is_first c.args.set) c.split_at-2.result.0.now in
+    omega (arith, most, c.front.ensures, c.split_at-2.ensures.front_len, c.min-2.ensures, c.split_at.ensures.back_len, c.min.ensures)

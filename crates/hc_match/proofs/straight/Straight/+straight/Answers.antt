@@ -1,4 +1,4 @@
-use Rattle.hc_match.proofs.Common.{Some, ◌∷◌, ◌++◌, first_end, other_first, [], nat_lt, if◌then◌else◌, ◌≡◌, ◌-◌, arith, ap, ◌∙◌, subst, sym, length, has_byte, is_alt, is_cat, is_group, pattern_of, alt, cat, group, last_ways, with_group, behind, step_where, Says, frame_ways, preferring, turns_ways, ends}
+use Rattle.hc_match.proofs.Common.{Some, flat_map, ◌∷◌, ◌++◌, first_end, other_first, [], nat_lt, if◌then◌else◌, ◌≡◌, ◌-◌, arith, ap, ◌∙◌, subst, sym, length, is_first, is_alt, is_cat, is_group, pattern_of, alt, cat, group, last_ways, with_group, behind, step_where, Says, frame_ways, preferring, turns_ways, ends}
 use Rattle.hc_match.proofs.Runs.{ends_are, ends_gone, within_others}
 use Rattle.hc_match.proofs.Saying.{any_turn_is, both_is, either_is, first_turn_is, further_turn_is, group_is, only_way, said, said_before, run_of_is, same_way, second_is, set_over}
 use Rattle.hc_match.proofs.straight.Straight.+straight.Goals as goal
@@ -89,9 +89,17 @@ pub repeat-returns-clause-says : goal.repeat-returns-clause-says
 repeat-returns-clause-says t c =
     let text = c.args.text.now in let next = frame_ways text c.args.next.now in let run = c.in-Some-run_of.run' in let turns = c.args.turns in
     said c.ends.result c.ends.new.self _ _
-    (run_of_is (length text) (last_ways text (pattern_of c.args.body.now)) (step_where text (has_byte c.in-Some.set)) next turns.least turns.most turns.greedy c.args.at (ends turns.greedy next run.first run.more)
+    (run_of_is (length text) (last_ways text (pattern_of c.args.body.now)) (step_where text (is_first c.in-Some.set)) next turns.least turns.most turns.greedy c.args.at (ends turns.greedy next run.first run.more)
     (c.in-Some.ensures text) (c.in-Some-run_of.ensures.some turns.greedy next))
     c.ends.ensures.says
+
+pub repeat-returns-in_default-run_of-clause-says : goal.repeat-returns-in_default-run_of-clause-says
+repeat-returns-in_default-run_of-clause-says t c =
+    let text = c.args.text.now in let next = frame_ways text c.args.next.now in let turns = c.args.turns in (
+      λ held. sym (run_of_is (length text) (last_ways text (pattern_of c.args.body.now)) (step_where text (is_first c.in-Some.set)) next turns.least turns.most turns.greedy c.args.at (λ held. [])
+          (c.in-Some.ensures text) (λ held. ap (flat_map (λ way. next way.end way.held)) (c.in_default-run_of.ensures.none turns.greedy held)) held),
+      c.requires,
+    )
 
 pub ends-ends-preserved : goal.ends-ends-preserved
 ends-ends-preserved t c =
