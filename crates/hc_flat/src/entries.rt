@@ -81,17 +81,19 @@ impl Entries {
         self.frames.allocator()
     }
 
-    /// The same entries, with room for so many more where there is memory for it.
-    pub fn with_room(self, more: usize) -> Entries
+    /// The same entries, with room for so many more, and for so many bytes of their texts, where there is
+    /// memory for it: what grows by doubling leaves holes as large as itself.
+    pub fn with_room(self, more: usize, bytes: usize) -> Entries
         ensures { result ≡ self }
     {
         let Entries {
             frames,
             mut rows,
-            texts,
+            mut texts,
         } = self;
         // Where there is none, each entry asks for its own.
         let _ = rows.reserve(more);
+        let _ = texts.reserve(bytes);
         Entries {
             frames,
             rows,

@@ -2,14 +2,14 @@
 use Rattle.hc_include.proofs.Common.{◌≡◌, refl, ap, subst, Result, Ok, Err, Fault, NoMemory, Refused, Logged, Ran, Run, Way, goes_on, is_over, looking, run, saying, Shown, Step, leaves, ends, say, look, ◌>>=◌, ran_no_further}
 use Rattle.hc_include.specs.Ending.{ending}
 
-abbrev end_way : {E F A : Type 0} → (E → F) → Way E A → Way F A
+abbrev pub end_way : {E F A : Type 0} → (E → F) → Way E A → Way F A
 end_way f (goes_on left) = goes_on left
 end_way f (is_over end) = is_over (f end)
 
-abbrev end_run : {E F A : Type 0} → (E → F) → Run E A → Run F A
+abbrev pub end_run : {E F A : Type 0} → (E → F) → Run E A → Run F A
 end_run f run = record { events = run.events; reads = run.reads; way = end_way f run.way }
 
-run_ending : {E F A : Type 0} (f : E → F) (s : Step E A) (w : Shown) → run (ending f s) w ≡ end_run f (run s w)
+pub run_ending : {E F A : Type 0} (f : E → F) (s : Step E A) (w : Shown) → run (ending f s) w ≡ end_run f (run s w)
 unfolding run ending
 run_ending f (leaves left) w = refl
 run_ending f (ends end) w = refl

@@ -2,4 +2,5 @@ pub mod Common
 pub mod Counting
 pub mod Ending
 pub mod Texts
+pub mod Alone
 pub mod Whole

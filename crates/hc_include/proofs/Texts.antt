@@ -13,15 +13,18 @@ module _ (around : Around) (reader : Reader) (reading : Reading) where
   unfolding text_read
   no_text kind broken text none is = rw (← none, is) refl
 
-  pub refused_text : (kind : Kind) (bytes : List ℕ) (text : Option (List ℕ)) (broken : AtLine) (at : AtByte) (later : Reading) → Some bytes ≡ text → lines_of reading.setting.kind bytes ≡ Err broken → at ≡ rule broken.code → later ≡ having_read bytes reading
-      → ends (stopped_at around broken.line later at) ≡ text_read around reader reading kind text
-  unfolding text_read lines_read
-  refused_text kind bytes text broken at later some refused code is = rw (← some, refused, code, is) refl
+  pub some_text : (kind : Kind) (bytes : List ℕ) (text : Option (List ℕ)) → Some bytes ≡ text → lines_read around reader (having_read bytes reading) (lines_of reading.setting.kind bytes) ≡ text_read around reader reading kind text
+  unfolding text_read
+  some_text kind bytes text some = rw (← some) refl
 
-  pub text_lines : (kind : Kind) (bytes : List ℕ) (text : Option (List ℕ)) (lines : List Line) (later : Reading) → Some bytes ≡ text → lines_of reading.setting.kind bytes ≡ Ok lines → later ≡ having_read bytes reading
-      → lines_unless around reader later lines (refusal_of lines) ≡ text_read around reader reading kind text
-  unfolding text_read lines_read
-  text_lines kind bytes text lines later some read is = rw (← some, read, is) refl
+  pub refused_text : (found : Result (List Line) AtLine) (broken : AtLine) (at : AtByte) (later : Reading) → found ≡ Err broken → at ≡ rule broken.code → later ≡ reading
+      → ends (stopped_at around broken.line later at) ≡ lines_read around reader reading found
+  unfolding lines_read
+  refused_text found broken at later refused code is = rw (refused, code, is) refl
+
+  pub text_lines : (found : Result (List Line) AtLine) (lines : List Line) (later : Reading) → found ≡ Ok lines → later ≡ reading → lines_unless around reader later lines (refusal_of lines) ≡ lines_read around reader reading found
+  unfolding lines_read
+  text_lines found lines later read is = rw (read, is) refl
 
   pub refused_lines : (lines : List Line) (refusal : Option AtLine) (broken : AtLine) (at : AtByte) → Some broken ≡ refusal → at ≡ rule broken.code → ends (stopped_at around broken.line reading at) ≡ lines_unless around reader reading lines refusal
   unfolding lines_unless

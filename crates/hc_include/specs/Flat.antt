@@ -101,7 +101,7 @@ begun setting defines modules = record {
 }
 
 abbrev pub main_setting : Setting
-main_setting = record { kind = Config; includes = true }
+main_setting = record { kind = Config; says = true }
 
 unfoldable pub main_read : Path → Step Stopped Reading
 main_read main = file_read (within deepest [] main) (reader_in deepest ([] ++ main ∷ [])) (begun main_setting [] built_in)

@@ -21,6 +21,7 @@ use Rattle.hc_include.specs.declared.around.Around.{Around}
 use Rattle.hc_include.specs.declared.change.Change.{Change}
 use Rattle.hc_include.specs.declared.change.Change.TheVariants.{Drops, Closes, Opens, Keeps}
 use Rattle.hc_include.specs.declared.reading.Reading.{Reading}
+use Rattle.hc_include.specs.declared.reading.Setting.{Setting}
 use Rattle.hc_says.specs.declared.says.Says.{Says}
 use Rattle.hc_says.specs.declared.says.Says.TheVariants.{Nothing, Define, Loads, Roots, Includes}
 
@@ -50,15 +51,15 @@ name_in text = name_of (skip_blanks text)
 abbrev pub rest_in : List ℕ → List ℕ
 rest_in text = behind_name (skip_blanks text)
 
-unfoldable pub said_in : List ℕ → Step AtByte Says
-said_in text = if is_too_long (length text) then ends (rule WRONG_ARGUMENTS) else given (said_of (name_in text) (rest_in text))
+-- In a `.htaccess` a directive says nothing to the lines behind it.
+abbrev pub said_by : Setting → List ℕ → Result Says AtByte
+said_by setting text = if setting.says then said_of (name_in text) (rest_in text) else Ok Nothing
 
-unfoldable pub included : Around → Reading → Bool → List ℕ → Step AtByte (List Path)
-included around reading optional path =
-    if reading.setting.includes then include_files around optional reading.root path else leaves []
+unfoldable pub said_in : Setting → List ℕ → Step AtByte Says
+said_in setting text = if is_too_long (length text) then ends (rule WRONG_ARGUMENTS) else given (said_by setting text)
 
 unfoldable pub files_said : Around → Reading → Says → Step AtByte (List Path)
-files_said around reading (Includes optional path) = included around reading optional path
+files_said around reading (Includes optional path) = include_files around optional reading.root path
 files_said around reading Nothing = leaves []
 files_said around reading (Define name value) = leaves []
 files_said around reading (Loads name) = leaves []
@@ -66,7 +67,7 @@ files_said around reading (Roots path) = leaves []
 
 unfoldable pub directive_read : Around → Reading → List ℕ → Step AtByte Change
 directive_read around reading text = do
-  says ← said_in text
+  says ← said_in reading.setting text
   files ← files_said around reading says
   leaves (Keeps text says files)
 

@@ -1,13 +1,14 @@
 ghost use Rattle.std.specs.Prelude.{◌≡◌, IfOk};
+ghost use Rattle.hc_base.specs.Gives.{Gives};
 ghost use Rattle.hc_steps.specs.Ran.{Ran};
 ghost use Rattle.hc_steps.specs.Run.{run};
 ghost use Rattle.hc_steps.specs.Shown.{shown_by};
-ghost use Rattle.hc_include.specs.Lines.{change_by, directive_read, dropping, files_said, included};
-ghost use Rattle.hc_include.specs.Lines.{is_too_long, kept_line, opening_read, said_in};
+ghost use Rattle.hc_include.specs.Lines.{change_by, directive_read, dropping, files_said};
+ghost use Rattle.hc_include.specs.Lines.{is_too_long, kept_line, opening_read, said_by, said_in};
 
 use crate::around::Around;
 use crate::include::include_files;
-use crate::reading::Reading;
+use crate::reading::{Reading, Setting};
 use hc_base::codes::WRONG_ARGUMENTS;
 use hc_base::{AtByte, Fault, List, NoMemory, Text};
 use hc_lines::{Line, skip_blanks};
@@ -15,6 +16,7 @@ use hc_nodes::{inside_brackets, is_close, is_complete, split_name};
 use hc_says::{Says, Utf8, body_kept, said_of};
 use hc_steps::Log;
 use hc_world::World;
+use std::alloc::Global;
 
 /// The most bytes of a line once its variables are replaced.
 const LONGEST_REPLACED: usize = 1_048_576;
@@ -138,23 +140,37 @@ fn directive_read(
     ensures { Ran result log.old log.new
         (run (directive_read around.now reading.now text) (shown_by world.now.files)) }
 {
-    let says = said_in(world, log, &text)?;
+    let says = said_in(world, log, reading.setting, &text)?;
     let files = files_said(world, log, around, reading, &says)?;
     Ok(Change::Keeps { text, says, files })
 }
 
 #[tactic(auto, unfolding(crate::specs::Lines::said_in), using(hc_steps::proofs::Going::telling))]
-fn said_in(world: &World, log: &mut Log, text: &Utf8) -> Result<Says, Fault<AtByte>>
-    ensures { Ran result log.old log.new (run (said_in text.now) (shown_by world.now.files)) }
+fn said_in(
+    world: &World,
+    log: &mut Log,
+    setting: Setting,
+    text: &Utf8,
+) -> Result<Says, Fault<AtByte>>
+    ensures { Ran result log.old log.new (run (said_in setting text.now) (shown_by world.now.files)) }
 {
     if is_too_long(text.as_str().len()) {
         return Err(Fault::Refused(AtByte::rule(WRONG_ARGUMENTS)));
     }
-    let (name, rest) = split_name(skip_blanks(text.as_str()));
-    match said_of(log.allocator(), name, rest) {
+    match said_by(log.allocator(), setting, text.as_str()) {
         Ok(says) => Ok(says),
         Err(fault) => Err(fault),
     }
+}
+
+fn said_by(alloc: Global, setting: Setting, text: &str) -> Result<Says, Fault<AtByte>>
+    ensures { Gives result (said_by setting text.now) }
+{
+    if !setting.says {
+        return Ok(Says::Nothing);
+    }
+    let (name, rest) = split_name(skip_blanks(text));
+    said_of(alloc, name, rest)
 }
 
 #[tactic(auto, unfolding(crate::specs::Lines::files_said), using(hc_steps::proofs::Going::ran_leaves))]
@@ -170,26 +186,8 @@ fn files_said(
 {
     match says {
         Says::Includes { optional, path } => {
-            included(world, log, around, reading, *optional, path)
+            include_files(world, log, around, *optional, &reading.root, path)
         }
         _ => Ok(List::new(log.allocator())),
     }
-}
-
-#[tactic(auto, unfolding(crate::specs::Lines::included), using(hc_steps::proofs::Going::ran_leaves))]
-fn included(
-    world: &World,
-    log: &mut Log,
-    around: &Around,
-    reading: &Reading,
-    optional: bool,
-    path: &Utf8,
-) -> Result<List<Text>, Fault<AtByte>>
-    ensures { Ran result log.old log.new
-        (run (included around.now reading.now optional path.now) (shown_by world.now.files)) }
-{
-    if !reading.setting.includes {
-        return Ok(List::new(log.allocator()));
-    }
-    include_files(world, log, around, optional, &reading.root, path)
 }

@@ -1,4 +1,4 @@
-ghost use Rattle.std.specs.Prelude.{◌≡◌, ◌+◌, ◌≤◌, ◌++◌, ◌∷◌, [], ℕ, IfOk};
+ghost use Rattle.std.specs.Prelude.{◌≡◌, ℕ, IfOk};
 ghost use Rattle.hc_lines.specs.Logical.{lines_of};
 ghost use Rattle.hc_steps.specs.Ran.{Logged, Ran};
 ghost use Rattle.hc_steps.specs.Run.{run};
@@ -39,15 +39,14 @@ pub(crate) fn read_file<L: Ledger>(
 {
     let found: Result<FoundText, Fault<Stopped>> = text_at(world, log, around.file.as_bytes());
     match found {
-        Ok(found) => read_text(world, log, bytes, around, reading, &found),
+        Ok(found) => read_found(world, log, bytes, around, reading, &found),
         Err(_) => Err(Fault::NoMemory),
     }
 }
 
-// The rules of a file's lines come first, then those of its sections.
 #[tactic(auto, using(hc_steps::proofs::Going::ran_no_memory))]
 #[cycle(files)]
-fn read_text<L: Ledger>(
+fn read_found<L: Ledger>(
     world: &World,
     log: &mut Log,
     bytes: &mut Steps<L>,
@@ -63,6 +62,26 @@ fn read_text<L: Ledger>(
     let Some(text) = found.text() else {
         return stop(around, 0, reading, missing(found.kind()));
     };
+    read_text(world, log, bytes, around, reading, text)
+}
+
+/// Reads the text of a file where the reading stands. The rules of its lines come first, then those
+/// of its sections.
+#[tactic(auto, using(hc_steps::proofs::Going::ran_no_memory))]
+#[cycle(files)]
+pub(crate) fn read_text<L: Ledger>(
+    world: &World,
+    log: &mut Log,
+    bytes: &mut Steps<L>,
+    around: &Around,
+    reading: Reading,
+    text: &str,
+) -> Result<Reading, Fault<Stopped>>
+    ensures read { Ran result log.old log.new
+        (run (lines_read around.now (inner around.now) (having_read text.now reading)
+        (lines_of reading.setting.kind text.now)) (shown_by world.now.files)) }
+    ensures bytes { Counts result bytes.old bytes.new reading.bytes }
+{
     let kind = reading.setting.kind;
     let reading = having_read(reading, text)?;
     match logical_lines(log.allocator(), text, kind, bytes) {
@@ -141,10 +160,19 @@ fn read_tree<L: Ledger>(
     match first_refusal(log.allocator(), lines)? {
         Some(broken) => stop(around, broken.line, reading, AtByte::rule(broken.code)),
         None => {
-            let reading = reading.with_room(lines.len());
+            let reading = reading.with_room(lines.len(), bytes_in(lines));
             read_lines(world, log, bytes, around, reading, lines)
         }
     }
+}
+
+// The bytes of lines.
+fn bytes_in(lines: &[Line]) -> usize {
+    let mut bytes = 0usize;
+    for line in lines {
+        bytes = bytes.saturating_add(line.text.as_str().len());
+    }
+    bytes
 }
 
 #[tactic(auto, using(hc_steps::proofs::Going::items, hc_steps::proofs::Going::ran_no_memory))]

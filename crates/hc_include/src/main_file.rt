@@ -51,15 +51,7 @@ pub fn flatten<L: Ledger>(
 fn flat_at(main: Text, log: Log, stop: Option<Refusal>, reading: Reading) -> Result<Flat, NoMemory>
     ensures { IfOk result (λ flat. flat ≡ flat_at main log.reads stop reading) }
 {
-    let reads = log.into_told()?.reads;
-    Ok(Flat {
-        file: main,
-        entries: reading.entries,
-        defines: reading.defines.into_list(),
-        modules: reading.modules.into_list(),
-        stop,
-        reads,
-    })
+    Ok(reading.into_flat(main, log.into_told()?.reads, stop))
 }
 
 #[tactic(auto, using(hc_steps::proofs::Going::ran_no_memory))]
@@ -84,7 +76,7 @@ fn begun(alloc: Global) -> Result<Reading, NoMemory>
     Ok(Reading {
         setting: Setting {
             kind: FileKind::Config,
-            includes: true,
+            says: true,
         },
         entries: Entries::new(alloc),
         defines: Defines::none(alloc),

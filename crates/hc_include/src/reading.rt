@@ -1,14 +1,15 @@
 ghost use Rattle.std.specs.Prelude.{◌≡◌, IfOk};
 ghost use Rattle.hc_flat.specs.EntriesView.{innermost};
+ghost use Rattle.hc_include.specs.Flat.{flat_at};
 ghost use Rattle.hc_include.specs.Lines.{changed, closed_at, files_of, kept_at, opened_at};
 ghost use Rattle.hc_include.specs.Lines.{replaced_in, spot_of};
 
 use crate::around::Around;
 use crate::change::Change;
 use hc_base::{List, NoMemory, Refusal, Text};
-use hc_flat::{Entries, EntryView, Places};
+use hc_flat::{Entries, EntryView, Flat, Places};
 use hc_lines::{FileKind, Line, skip_blanks};
-use hc_model::EntryForm;
+use hc_model::{EntryForm, Read};
 use hc_nodes::split_name;
 use hc_says::{Defines, Modules, Says, Utf8, replaced, with_define, with_module, with_root};
 use std::alloc::Global;
@@ -17,8 +18,8 @@ use std::alloc::Global;
 #[derive(Clone, Copy)]
 pub struct Setting {
     pub kind: FileKind,
-    /// Include and IncludeOptional read files.
-    pub includes: bool,
+    /// A directive says something to the lines behind it: Define, LoadModule, ServerRoot, Include.
+    pub says: bool,
 }
 
 /// What was read so far.
@@ -46,6 +47,20 @@ pub struct Stopped {
 }
 
 impl Reading {
+    /// The flat list of a file that was read so far.
+    pub(crate) fn into_flat(self, file: Text, reads: List<Read>, stop: Option<Refusal>) -> Flat
+        ensures { result ≡ flat_at file reads stop self }
+    {
+        Flat {
+            file,
+            entries: self.entries,
+            defines: self.defines.into_list(),
+            modules: self.modules.into_list(),
+            stop,
+            reads,
+        }
+    }
+
     /// A text with its variables replaced.
     pub(crate) fn replaced(&self, alloc: Global, text: &str) -> Result<Utf8, NoMemory>
         ensures { IfOk result (λ made. made ≡ replaced_in self.now text.now) }
@@ -53,11 +68,12 @@ impl Reading {
         Ok(Utf8::from(replaced(alloc, text, &self.defines)?))
     }
 
-    /// The same, with room for so many entries more where there is memory for it.
-    pub(crate) fn with_room(mut self, entries: usize) -> Reading
+    /// The same, with room for so many entries more, and for so many bytes of their texts, where there is
+    /// memory for it.
+    pub(crate) fn with_room(mut self, entries: usize, bytes: usize) -> Reading
         ensures { result ≡ self }
     {
-        self.entries = self.entries.with_room(entries);
+        self.entries = self.entries.with_room(entries, bytes);
         self
     }
 

@@ -3,6 +3,7 @@ ghost use Rattle.hc_says.specs.Known.{HasValue};
 ghost use Rattle.hc_says.specs.Says.{is_defined, value_of};
 
 use crate::modules::with_name;
+use crate::utf8::as_utf8;
 use hc_base::{List, NoMemory, Text};
 use hc_model::Define;
 use std::alloc::Global;
@@ -42,6 +43,13 @@ impl Defines {
         }
     }
 
+    /// The Define lines of a configuration that was read.
+    pub fn of(alloc: Global, defines: &List<Define>) -> Result<Defines, NoMemory>
+        ensures { IfOk result (λ made. made ≡ defines.now) }
+    {
+        with_each(Defines::none(alloc), defines.as_slice())
+    }
+
     pub fn has(&self, name: &str) -> bool
         ensures { result ≡ is_defined self.now name.now }
     {
@@ -55,6 +63,16 @@ impl Defines {
         match self.values.get(name) {
             Some(value) => Some(value.as_str()),
             None => None,
+        }
+    }
+
+    fn with(self, define: &Define) -> Result<Defines, NoMemory>
+        ensures { IfOk result (λ later. later ≡ self ++ define.now ∷ []) }
+    {
+        let name = as_utf8(&define.name)?;
+        match &define.value {
+            None => self.with_name(name),
+            Some(value) => self.with_value(name, as_utf8(value)?),
         }
     }
 
@@ -109,6 +127,15 @@ impl Defines {
     {
         self.list
     }
+}
+
+fn with_each(mut made: Defines, defines: &[Define]) -> Result<Defines, NoMemory>
+    ensures { IfOk result (λ later. later ≡ made ++ defines.now) }
+{
+    for define in defines {
+        made = made.with(define)?;
+    }
+    Ok(made)
 }
 
 fn with_value(

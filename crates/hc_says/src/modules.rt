@@ -2,6 +2,7 @@ ghost use Rattle.std.specs.Prelude.{◌≡◌, ◌∷◌, ◌++◌, [], IfOk};
 ghost use Rattle.hc_says.specs.Known.{HasName};
 ghost use Rattle.hc_says.specs.Says.{is_among};
 
+use crate::utf8::as_utf8;
 use hc_base::{List, NoMemory, Text};
 use std::alloc::Global;
 use std::collections::BTreeSet;
@@ -37,6 +38,13 @@ impl Modules {
         }
     }
 
+    /// The modules of a configuration that was read.
+    pub fn of(alloc: Global, names: &List<Text>) -> Result<Modules, NoMemory>
+        ensures { IfOk result (λ modules. modules ≡ names.now) }
+    {
+        with_each(Modules::none(alloc), names.as_slice())
+    }
+
     pub fn has(&self, name: &str) -> bool
         ensures { result ≡ is_among self.now name.now }
     {
@@ -66,6 +74,15 @@ impl Modules {
     {
         self.list
     }
+}
+
+fn with_each(mut modules: Modules, names: &[Text]) -> Result<Modules, NoMemory>
+    ensures { IfOk result (λ later. later ≡ modules ++ names.now) }
+{
+    for name in names {
+        modules = modules.with(as_utf8(name)?)?;
+    }
+    Ok(modules)
 }
 
 /// A set of names and one more.

@@ -1,6 +1,6 @@
 ghost use Rattle.std.specs.Prelude.{◌≡◌, IfOk};
 
-use hc_base::NoMemory;
+use hc_base::{NoMemory, Text};
 use std::alloc::Global;
 use std::marker::Model;
 
@@ -41,5 +41,16 @@ impl From<String> for Utf8 {
 
     fn from(text: String) -> Utf8 {
         Utf8 { text }
+    }
+}
+
+/// A name or a value of a configuration that was read, which is UTF-8; bytes that are none find no
+/// memory.
+pub(crate) fn as_utf8(text: &Text) -> Result<&str, NoMemory>
+    ensures { IfOk result (λ utf8. utf8.now ≡ text.now) }
+{
+    match std::str::from_utf8(text.as_bytes()) {
+        Ok(utf8) => Ok(utf8),
+        Err(_) => Err(NoMemory),
     }
 }

@@ -16,8 +16,9 @@ use std::sync::ledger::{Blank, Ledger};
 const MAIN: &str = "/m";
 
 // A main file, other files, and the wanted flat list: each entry as its line, `.` for a directive, `<`
-// for an opening and `>` for a close, and its text, before that its file where it is another one, behind
-// it the places of the openings around it; then the refusal; then what was looked at.
+// for an opening and `>` for a close, and its text, behind it the places of the openings around it; then
+// the refusal as its number and its line; then what was looked at. A file other than the main one stands
+// before the line.
 type Case = (
     &'static str,
     &'static [(&'static str, &'static str)],
@@ -108,7 +109,7 @@ static CASES: &[Case] = &[
     (
         "Include /x\n",
         &[("/x", "Include /m\n")],
-        "1.Include /x;!9@1=text /m;text /x;",
+        "1.Include /x;!9@/x 1=text /m;text /x;",
     ),
     ("Include /d\n", &[("/d/x", "")], "!35@1=text /d;text /m;"),
     (
@@ -133,6 +134,12 @@ fn flat_counted<L: Ledger>(blank: Blank, alloc: Global, world: &World) -> Result
     flatten(alloc, world, MAIN.as_bytes(), &mut bytes)
 }
 
+/// The flat list of a main file and those that it includes.
+pub fn flat_of(alloc: Global, main: &str, files: &[(&str, &str)]) -> Result<Flat, WorldFault> {
+    let world = world_of(alloc, main, files)?;
+    Ok(flat_counted::<Brand>(Blank::new(1), alloc, &world)?)
+}
+
 fn world_of(alloc: Global, main: &str, files: &[(&str, &str)]) -> Result<World, WorldFault> {
     let mut world = World::new(alloc)?;
     put(&mut world, MAIN, main)?;
@@ -144,12 +151,12 @@ fn world_of(alloc: Global, main: &str, files: &[(&str, &str)]) -> Result<World, 
 
 // A copy is shown, which is to be the list that was copied.
 fn show_files(alloc: Global, main: &str, files: &[(&str, &str)]) -> Result<String, WorldFault> {
-    let world = world_of(alloc, main, files)?;
-    let flat = flat_counted::<Brand>(Blank::new(1), alloc, &world)?;
+    let flat = flat_of(alloc, main, files)?;
     Ok(show(alloc, &flat.clone()?)?)
 }
 
-fn show(alloc: Global, flat: &Flat) -> Result<String, NoMemory> {
+/// A flat list as a text.
+pub fn show(alloc: Global, flat: &Flat) -> Result<String, NoMemory> {
     let mut shown = String::new(alloc);
     for entry in flat.entries.iter() {
         show_entry(alloc, &mut shown, entry)?;
@@ -164,12 +171,17 @@ fn show(alloc: Global, flat: &Flat) -> Result<String, NoMemory> {
     Ok(shown)
 }
 
-fn show_entry(alloc: Global, shown: &mut String, entry: EntryView) -> Result<(), NoMemory> {
-    let file = lent(entry.file);
+fn show_file(shown: &mut String, file: &Text) -> Result<(), NoMemory> {
+    let file = lent(file);
     if file != MAIN {
         shown.push_str(file)?;
         shown.push_str(" ")?;
     }
+    Ok(())
+}
+
+fn show_entry(alloc: Global, shown: &mut String, entry: EntryView) -> Result<(), NoMemory> {
+    show_file(shown, entry.file)?;
     let sign = match entry.form {
         EntryForm::Directive => ".",
         EntryForm::Opening => "<",
@@ -197,7 +209,9 @@ fn show_within(alloc: Global, shown: &mut String, within: &[u32]) -> Result<(), 
 
 fn show_refusal(alloc: Global, shown: &mut String, refusal: &Refusal) -> Result<(), NoMemory> {
     let (code, line) = (refusal.code, refusal.place.line);
-    shown.push_str(&format!(in alloc; "!{code}@{line}")?)?;
+    shown.push_str(&format!(in alloc; "!{code}@")?)?;
+    show_file(shown, &refusal.place.file)?;
+    shown.push_str(&format!(in alloc; "{line}")?)?;
     Ok(())
 }
 

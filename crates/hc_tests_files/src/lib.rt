@@ -7,6 +7,8 @@ mod base;
 #[cfg(test)]
 mod flat;
 #[cfg(test)]
+mod htaccess;
+#[cfg(test)]
 mod lines;
 #[cfg(test)]
 mod nodes;

@@ -2,12 +2,12 @@ use Rattle.hc_include.proofs.Common.{arith, ap, refl, sym, ◌∙◌, in_order, 
 use Rattle.hc_include.specs.Lines.{files_of}
 use Rattle.hc_include.proofs.Counting.{counts_then, rose_then}
 use Rattle.hc_include.proofs.Ending.{ending_on, stopped_behind}
-use Rattle.hc_include.proofs.Texts.{as_read, file_within, free_lines, no_files, no_text, refused_lines, refused_text, text_lines}
+use Rattle.hc_include.proofs.Texts.{as_read, file_within, free_lines, no_files, no_text, refused_lines, refused_text, some_text, text_lines}
 use Rattle.hc_include.proofs.files.+files.Goals as goal
 
 pub read_file-returns-in-Ok-clause-read : goal.read_file-returns-in-Ok-clause-read
 unfolding file_read
-read_file-returns-in-Ok-clause-read g t c = ran_on _ _ _ _ _ _ _ _ _ _ c.in-Ok.ensures (ap text_at c.as_bytes.ensures) c.read_text.ensures.read refl
+read_file-returns-in-Ok-clause-read g t c = ran_on _ _ _ _ _ _ _ _ _ _ c.in-Ok.ensures (ap text_at c.as_bytes.ensures) c.read_found.ensures.read refl
 
 pub read_files-returns-then-around-eq0-clause-read : goal.read_files-returns-then-around-eq0-clause-read
 read_files-returns-then-around-eq0-clause-read g t c =
@@ -48,22 +48,25 @@ read_lines-loop-line-preserved g t c = record {
   bytes = rose_then _ _ _ _ _ _ c.loop-line.invariant.bytes c.in_ok-reading.ensures.bytes;
 }
 
-pub read_text-returns-in_default-clause-read : goal.read_text-returns-in_default-clause-read
-read_text-returns-in_default-clause-read g t c =
+pub read_found-returns-in_default-clause-read : goal.read_found-returns-in_default-clause-read
+read_found-returns-in_default-clause-read g t c =
     as_read _ _ _ _ _ _ (no_text _ _ _ _ _ _ c.in_default.ensures (c.missing.ensures ∙ ap missing c.kind.ensures)) (c.stop.ensures.read _ _)
+
+pub read_found-returns-clause-read : goal.read_found-returns-clause-read
+read_found-returns-clause-read g t c = as_read _ _ _ _ _ _ (some_text _ _ _ _ _ _ c.in-Some.ensures) c.read_text.ensures.read
 
 pub read_text-returns-in-Ok-clause-read : goal.read_text-returns-in-Ok-clause-read
 read_text-returns-in-Ok-clause-read g t c =
-    as_read _ _ _ _ _ _ (text_lines _ _ _ _ _ _ _ _ c.in-Some.ensures c.in-Ok.ensures.lines c.in_ok-reading.ensures) (rw c.deref.ensures.value at c.read_tree.ensures.read)
+    as_read _ _ _ _ _ _ (text_lines _ _ _ _ _ _ c.in-Ok.ensures.lines c.in_ok-reading.ensures) (rw c.deref.ensures.value at c.read_tree.ensures.read)
 
 pub read_text-returns-in-Err-Refused-clause-read : goal.read_text-returns-in-Err-Refused-clause-read
 read_text-returns-in-Err-Refused-clause-read g t c =
-    as_read _ _ _ _ _ _ (refused_text _ _ _ _ _ _ _ _ _ c.in-Some.ensures (rw c.in-Err-Refused.field-0-is at c.in-Err-Refused.ensures.lines) c.rule.ensures c.in_ok-reading.ensures) (c.stop-in-Err-Refused.ensures.read _ _)
+    as_read _ _ _ _ _ _ (refused_text _ _ _ _ _ _ _ (rw c.in-Err-Refused.field-0-is at c.in-Err-Refused.ensures.lines) c.rule.ensures c.in_ok-reading.ensures) (c.stop.ensures.read _ _)
 
 pub read_text-returns-in-Err-Refused-clause-bytes : goal.read_text-returns-in-Err-Refused-clause-bytes
 read_text-returns-in-Err-Refused-clause-bytes g t c =
     let later = ap (λ reading. reading.bytes) c.in_ok-reading.ensures in
-    counts_then _ _ _ _ _ (record { same = omega (arith, later, c.logical_lines.ensures.bytes); rise = omega (arith, c.logical_lines.ensures.bytes) }) (c.stop-in-Err-Refused.ensures.bytes c.logical_lines.new.bytes)
+    counts_then _ _ _ _ _ (record { same = omega (arith, later, c.logical_lines.ensures.bytes); rise = omega (arith, c.logical_lines.ensures.bytes) }) (c.stop.ensures.bytes c.logical_lines.new.bytes)
 
 pub read_tree-returns-in-Some-clause-read : goal.read_tree-returns-in-Some-clause-read
 read_tree-returns-in-Some-clause-read g t c =

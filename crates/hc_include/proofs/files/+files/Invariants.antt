@@ -3,22 +3,25 @@ use Rattle.hc_include.specs.Counting.{Rose}
 use Rattle.hc_include.proofs.files.+files.Given as goal
 
 abbrev pub decreases-read_file : goal.decreases-read_file
-decreases-read_file g l = 6 * l.around.now.room + 5
+decreases-read_file g l = 7 * l.around.now.room + 6
+
+abbrev pub decreases-read_found : goal.decreases-read_found
+decreases-read_found g l = 7 * l.around.now.room + 5
 
 abbrev pub decreases-read_text : goal.decreases-read_text
-decreases-read_text g l = 6 * l.around.now.room + 4
+decreases-read_text g l = 7 * l.around.now.room + 4
 
 abbrev pub decreases-read_tree : goal.decreases-read_tree
-decreases-read_tree g l = 6 * l.around.now.room + 3
+decreases-read_tree g l = 7 * l.around.now.room + 3
 
 abbrev pub decreases-read_lines : goal.decreases-read_lines
-decreases-read_lines g l = 6 * l.around.now.room + 2
+decreases-read_lines g l = 7 * l.around.now.room + 2
 
 abbrev pub decreases-read_line : goal.decreases-read_line
-decreases-read_line g l = 6 * l.around.now.room + 1
+decreases-read_line g l = 7 * l.around.now.room + 1
 
 abbrev pub decreases-read_files : goal.decreases-read_files
-decreases-read_files g l = 6 * l.around.now.room + 0
+decreases-read_files g l = 7 * l.around.now.room + 0
 
 abbrev pub invariant-read_lines-loop-line : goal.invariant-read_lines-loop-line
 invariant-read_lines-loop-line g l = record {
