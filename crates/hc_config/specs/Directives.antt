@@ -5,13 +5,17 @@ use Rattle.std.specs.Prelude.{ℕ, List, [], ◌∷◌, length, Bool, ◌&&◌, 
 use Rattle.std.specs.Prelude.{Option, Some, None, Result, Ok, Err, codes}
 use Rattle.std.specs.Str.{str_eq_ignore_ascii_case}
 use Rattle.hc_base.specs.Paths.{begins_with_slash}
+use Rattle.hc_base.specs.Rules.{rule}
+use Rattle.hc_base.specs.declared.codes.TheConstants.{WRONG_CONTEXT}
 use Rattle.hc_base.specs.declared.fault.AtByte.{AtByte}
+use Rattle.hc_expr.specs.Reading.{parse_expr}
 use Rattle.hc_model.specs.declared.authorization.Merging.{Merging}
 use Rattle.hc_model.specs.declared.authorization.Need.{Need}
 use Rattle.hc_model.specs.declared.authorization.ReqTree.TheVariants.{Leaf}
+use Rattle.hc_model.specs.declared.expression.Expr.{Expr}
 use Rattle.hc_model.specs.declared.mapping.PathTest.{PathTest}
 use Rattle.hc_model.specs.declared.section.Reach.{Reach}
-use Rattle.hc_model.specs.declared.section.Reach.TheVariants.{DirSearch, Files, LocationSearch}
+use Rattle.hc_model.specs.declared.section.Reach.TheVariants.{DirSearch, Files, LocationSearch, When}
 use Rattle.hc_model.specs.declared.spot.Spot.{Spot}
 use Rattle.hc_model.specs.declared.template.Piece.{Piece}
 use Rattle.hc_table.specs.declared.meaning.TheConstants.{ACCESS_FILE_NAME, ALIAS, ALIAS_MATCH, DEFINE, DOCUMENT_ROOT}
@@ -20,8 +24,9 @@ use Rattle.hc_table.specs.declared.meaning.TheConstants.{REDIRECT, REDIRECT_MATC
 use Rattle.hc_table.specs.declared.meaning.TheConstants.{SCRIPT_ALIAS, SERVER_ROOT, USER_DIR, USE_CANONICAL_NAME}
 use Rattle.hc_table.specs.declared.meaning.TheConstants.{ALLOW_OVERRIDE, OPTIONS, SERVER_ALIAS, SERVER_NAME, VIRTUAL_HOST}
 use Rattle.hc_table.specs.declared.meaning.TheConstants.{DIRECTORY, DIRECTORY_MATCH, FILES, FILES_MATCH, LOCATION, LOCATION_MATCH}
-use Rattle.hc_table.specs.declared.meaning.TheConstants.{AUTH_MERGING, REQUIRE, REQUIRE_ALL, REQUIRE_ANY, REQUIRE_NONE}
+use Rattle.hc_table.specs.declared.meaning.TheConstants.{AUTH_MERGING, ELSE, ELSE_IF, IF, REQUIRE, REQUIRE_ALL, REQUIRE_ANY, REQUIRE_NONE}
 use Rattle.hc_config.specs.Among.{Among}
+use Rattle.hc_config.specs.Conditions.{Branch, first_branch, last_branch, next_branch}
 use Rattle.hc_config.specs.Hosts.{host_addrs, name_without_port}
 use Rattle.hc_config.specs.Options.{allowed_by, options_step}
 use Rattle.hc_config.specs.Requires.{Line, asked_by, is_none_of, line_of, merging_named, negated_rule, unless_broken}
@@ -169,7 +174,7 @@ auth_merging words = Err wrong
 -- ---- sections
 
 abbrev pub opens : Among → Opened → Effect
-opens among opened = Opens (record { spot = among.entry.spot; opened = opened })
+opens among opened = Opens (record { spot = among.entry.spot; opened = opened; otherwise = None })
 
 -- One address or more.
 abbrev pub virtual_host : Giving
@@ -179,7 +184,41 @@ virtual_host among (word ∷ words) = given_by (λ addresses. opens among (Host 
 abbrev pub section : (List (List ℕ) → Result Reach AtByte) → Giving
 section reach among words = given_by (λ reach. opens among (Reached reach)) (reach words)
 
+-- ---- sections that apply under a condition
+
+abbrev pub branches : Among → Branch → Effect
+branches among branch =
+    Opens (record { spot = among.entry.spot; opened = Reached (When branch.test); otherwise = branch.otherwise })
+
+-- One word, which is an expression.
+abbrev pub branch_by : (Expr → Branch) → Giving
+branch_by branch among (text ∷ []) = given_by (λ expr. branches among (branch expr)) (parse_expr text)
+branch_by branch among words = Err wrong
+
+-- Behind sections of the chain.
+abbrev pub behind_chain : Option Expr → (Expr → Result Effect AtByte) → Result Effect AtByte
+behind_chain None gives = Err (rule WRONG_CONTEXT)
+behind_chain (Some before) gives = gives before
+
+abbrev pub else_if : Giving
+else_if among words = behind_chain among.otherwise (λ before. branch_by (next_branch before) among words)
+
+-- No word.
+abbrev pub last_by : Among → List (List ℕ) → Expr → Result Effect AtByte
+last_by among [] before = Ok (branches among (last_branch before))
+last_by among words before = Err wrong
+
+abbrev pub else_section : Giving
+else_section among words = behind_chain among.otherwise (last_by among words)
+
 -- ---- by meaning
+
+abbrev pub condition_givings : List (ℕ × Giving)
+condition_givings =
+    (IF, branch_by first_branch) ∷
+    (ELSE_IF, else_if) ∷
+    (ELSE, else_section) ∷
+    []
 
 abbrev pub require_givings : List (ℕ × Giving)
 require_givings =
@@ -188,7 +227,7 @@ require_givings =
     (REQUIRE_ALL, require_container All) ∷
     (REQUIRE_ANY, require_container Any) ∷
     (REQUIRE_NONE, require_container NoneOf) ∷
-    []
+    condition_givings
 
 -- A further directive is a further row.
 abbrev pub server_givings : List (ℕ × Giving)

@@ -10,6 +10,7 @@ use Rattle.hc_model.specs.declared.authorization.Merging.TheVariants.{Off}
 use Rattle.hc_model.specs.declared.authorization.ReqTree.{ReqTree}
 use Rattle.hc_model.specs.declared.config.HostAddr.{HostAddr}
 use Rattle.hc_model.specs.declared.config.Server.{Server}
+use Rattle.hc_model.specs.declared.expression.Expr.{Expr}
 use Rattle.hc_model.specs.declared.mapping.Redirect.{Redirect}
 use Rattle.hc_model.specs.declared.section.Allowed.{Allowed}
 use Rattle.hc_model.specs.declared.section.Body.{Body, roll-Body}
@@ -18,6 +19,7 @@ use Rattle.hc_model.specs.declared.section.OptStep.{OptStep}
 use Rattle.hc_model.specs.declared.section.Reach.{Reach}
 use Rattle.hc_model.specs.declared.section.Reach.TheVariants.{Dir, DirSearch, Files, Location, LocationGlob, LocationSearch, When}
 use Rattle.hc_model.specs.declared.section.Section.{Section, roll-Section}
+use Rattle.hc_model.specs.declared.spot.Spot.{Spot}
 use Rattle.hc_table.specs.declared.context.TheConstants as context
 use Rattle.hc_config.specs.declared.gathered.Gathered.{Gathered}
 use Rattle.hc_config.specs.declared.gathered.Given.{Given}
@@ -28,7 +30,9 @@ use Rattle.hc_config.specs.declared.gathered.Held.{Held}
 use Rattle.hc_config.specs.declared.gathered.Holding.{Holding}
 use Rattle.hc_config.specs.declared.gathered.Opening.{Opening}
 use Rattle.hc_config.specs.declared.containers.Container.{Container}
+use Rattle.hc_config.specs.declared.source.Source.{Source}
 use Rattle.hc_config.specs.Requires.{container_rule, section_tree, tree_of}
+use Rattle.hc_config.specs.Sources.{top_context}
 
 -- ---- contexts
 
@@ -122,20 +126,20 @@ server_of place addresses gathered = record {
   maps_by_name = [];
 }
 
-abbrev pub section_of : Opening → Reach → Gathered → Section
-section_of opening reach gathered = roll-Section (record {
-  place = opening.spot.place;
-  span = opening.spot.span;
+abbrev pub section_of : Spot → Reach → Gathered → Section
+section_of spot reach gathered = roll-Section (record {
+  place = spot.place;
+  span = spot.span;
   reach = reach;
   body = section_body gathered;
 })
 
 -- What was opened is put into what is around it.
-abbrev pub with_closed : Opening → Opened → Gathered → Gathered → Gathered
-with_closed opening (Host addresses) inner outer =
-    record outer { hosts = outer.hosts ++ server_of opening.spot.place addresses inner ∷ [] }
-with_closed opening (Reached reach) inner outer =
-    record outer { sections = outer.sections ++ section_of opening reach inner ∷ [] }
+abbrev pub with_closed : Spot → Opened → Gathered → Gathered → Gathered
+with_closed spot (Host addresses) inner outer =
+    record outer { hosts = outer.hosts ++ server_of spot.place addresses inner ∷ [] }
+with_closed spot (Reached reach) inner outer =
+    record outer { sections = outer.sections ++ section_of spot reach inner ∷ [] }
 
 -- ---- the levels
 
@@ -146,15 +150,16 @@ pub record Around : Type 0 where
   pub gathered : Gathered
   pub held : List Held
 
--- What the innermost has so far, and its containers that are open; and the openings around an entry, the
--- innermost last.
+-- What the innermost has so far, and its containers that are open; the openings around an entry, the
+-- innermost last; and where none of the chain of conditions right before the entry applies.
 pub record Standing : Type 0 where
   pub so_far : Gathered
   pub held : List Held
   pub around : List Around
+  pub otherwise : Option Expr
 
 abbrev pub nothing_standing : Standing
-nothing_standing = record { so_far = nothing_gathered; held = []; around = [] }
+nothing_standing = record { so_far = nothing_gathered; held = []; around = []; otherwise = None }
 
 abbrev pub last_of : {A : Type 0} → List A → Option A
 last_of items = slice_get items (length items - 1)
@@ -162,16 +167,16 @@ last_of items = slice_get items (length items - 1)
 abbrev pub without_last : {A : Type 0} → List A → List A
 without_last items = take (length items - 1) items
 
-abbrev pub context_within : Option Around → ℕ
-context_within None = context.MAIN_SERVER
-context_within (Some around) = context_inside around.opening.opened
+abbrev pub context_within : Source → Option Around → ℕ
+context_within source None = top_context source
+context_within source (Some around) = context_inside around.opening.opened
 
--- That of the innermost opening, else the main server's.
-abbrev pub context_of : Standing → ℕ
-context_of standing = context_within (last_of standing.around)
+-- That of the innermost opening, else that outside all.
+abbrev pub context_of : Source → Standing → ℕ
+context_of source standing = context_within source (last_of standing.around)
 
 abbrev pub opened : Standing → Opening → Standing
-opened standing opening = record {
+opened standing opening = record standing {
   so_far = nothing_gathered;
   held = [];
   around = standing.around ++ record { opening = opening; gathered = standing.so_far; held = standing.held } ∷ [];
@@ -180,10 +185,15 @@ opened standing opening = record {
 abbrev pub closed_by : Standing → Option Around → Standing
 closed_by standing None = standing
 closed_by standing (Some around) = record {
-  so_far = with_closed around.opening around.opening.opened standing.so_far around.gathered;
+  so_far = with_closed around.opening.spot around.opening.opened standing.so_far around.gathered;
   held = around.held;
   around = without_last standing.around;
+  otherwise = around.opening.otherwise;
 }
+
+-- A chain of conditions goes on behind the close of one of them alone.
+abbrev pub chain_ended : Standing → Standing
+chain_ended standing = record standing { otherwise = None }
 
 -- The innermost opening is closed.
 abbrev pub innermost_closed : Standing → Standing

@@ -3,6 +3,9 @@ pub mod Targets
 pub mod Statuses
 pub mod Requires
 pub mod RequireViews
+pub mod Sources
+pub mod Conditions
+pub mod ConditionViews
 pub mod Among
 pub mod Hosts
 pub mod Options

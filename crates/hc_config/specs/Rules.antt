@@ -1,6 +1,6 @@
 -- The rules that an entry of the flat list may break. The refusals and their order are our own
 -- choice; docs/RULES.md says for each which page of the manual it rests on.
-use Rattle.std.specs.Prelude.{ℕ, ◌==◌, List, [], ◌∷◌, Bool, true, false, not, ◌&&◌, is_some, if◌then◌else◌, Option, Some, None, Result, Ok, Err, bit_and}
+use Rattle.std.specs.Prelude.{ℕ, ◌==◌, List, [], ◌∷◌, Bool, true, false, not, ◌&&◌, ◌||◌, is_some, if◌then◌else◌, Option, Some, None, Result, Ok, Err}
 use Rattle.std.specs.List.{list_any}
 use Rattle.hc_base.specs.Rules.{rule}
 use Rattle.hc_base.specs.declared.codes.TheConstants.{UNSUPPORTED_DIRECTIVE, WRONG_CONTEXT}
@@ -11,13 +11,15 @@ use Rattle.hc_model.specs.declared.entry.EntryForm.TheVariants.{Close, Directive
 use Rattle.hc_table.specs.Directives.{directive_rows, is_container}
 use Rattle.hc_table.specs.Table.{find_in}
 use Rattle.hc_table.specs.declared.meaning.TheConstants.{DIRECTORY, DIRECTORY_MATCH, FILES, FILES_MATCH, LOCATION, LOCATION_MATCH, VIRTUAL_HOST}
-use Rattle.hc_table.specs.declared.meaning.TheConstants.{REQUIRE, REQUIRE_ALL, REQUIRE_ANY, REQUIRE_NONE}
+use Rattle.hc_table.specs.declared.meaning.TheConstants.{ELSE, ELSE_IF, IF, REQUIRE, REQUIRE_ALL, REQUIRE_ANY, REQUIRE_NONE}
 use Rattle.hc_table.specs.declared.table.RowKind.{RowKind}
 use Rattle.hc_table.specs.declared.table.Wording.{Wording}
 use Rattle.hc_table.specs.declared.table.Wording.TheVariants.{Configuration, Rewriting}
 use Rattle.hc_config.specs.Among.{Among}
 use Rattle.hc_config.specs.Directives.{Giving, giving}
 use Rattle.hc_config.specs.Requires.{has_unknown_kind, line_of}
+use Rattle.hc_config.specs.Sources.{is_forbidden, may_stand, unless_forbidden}
+use Rattle.hc_config.specs.declared.source.Source.{Source}
 use Rattle.hc_config.specs.declared.effect.Effect.{Effect}
 use Rattle.hc_config.specs.declared.effect.Effect.TheVariants.{Closes, Nothing, Releases}
 
@@ -39,9 +41,6 @@ abbrev pub supported : EntryForm → Option RowKind → Option RowKind
 supported form None = None
 supported form (Some kind) = if is_of_form form kind.meaning && is_some (giving kind.meaning) then Some kind else None
 
-abbrev pub may_stand : ℕ → RowKind → Bool
-may_stand context kind = not (bit_and kind.contexts context == 0)
-
 abbrev pub spelling_of : Wording → Spelling
 spelling_of Configuration = conf_spelling
 spelling_of Rewriting = rewrite_spelling
@@ -58,6 +57,13 @@ abbrev pub unknown_kind : Result (List (List ℕ)) AtByte → Bool
 unknown_kind (Err broken) = false
 unknown_kind (Ok words) = has_unknown_kind (line_of words).words
 
+-- ElseIf and Else stand right behind a section of their chain.
+abbrev pub chained : List ℕ
+chained = ELSE_IF ∷ ELSE ∷ []
+
+abbrev pub follows_its_chain : RowKind → Among → Bool
+follows_its_chain kind among = not (list_any (λ later. kind.meaning == later) chained) || is_some among.otherwise
+
 -- A Require line of a kind that is not known is refused for this first.
 abbrev pub misplaced : RowKind → Among → ℕ
 misplaced kind among =
@@ -65,18 +71,21 @@ misplaced kind among =
     then UNSUPPORTED_DIRECTIVE else WRONG_CONTEXT
 
 -- A place where it may not stand.
-abbrev pub if_placed : Bool → RowKind → Among → Result Effect AtByte
-if_placed false kind among = Err (rule (misplaced kind among))
-if_placed true kind among = if_read (read_words (spelling_of kind.wording) among.entry.rest) (giving kind.meaning) among
+abbrev pub if_placed : Source → Bool → RowKind → Among → Result Effect AtByte
+if_placed source false kind among = Err (rule (misplaced kind among))
+if_placed source true kind among =
+    unless_forbidden (is_forbidden source kind)
+    (if_read (read_words (spelling_of kind.wording) among.entry.rest) (giving kind.meaning) among)
 
 -- A name that is not supported.
-abbrev pub if_supported : ℕ → Option RowKind → Among → Result Effect AtByte
-if_supported context None among = Err (rule UNSUPPORTED_DIRECTIVE)
-if_supported context (Some kind) among = if_placed (may_stand context kind) kind among
+abbrev pub if_supported : Source → ℕ → Option RowKind → Among → Result Effect AtByte
+if_supported source context None among = Err (rule UNSUPPORTED_DIRECTIVE)
+if_supported source context (Some kind) among =
+    if_placed source (may_stand source context kind && follows_its_chain kind among) kind among
 
 -- The sections that have settings of their own. What stands in another one stands where that does.
 abbrev pub levels : List ℕ
-levels = VIRTUAL_HOST ∷ DIRECTORY ∷ DIRECTORY_MATCH ∷ FILES ∷ FILES_MATCH ∷ LOCATION ∷ LOCATION_MATCH ∷ []
+levels = VIRTUAL_HOST ∷ DIRECTORY ∷ DIRECTORY_MATCH ∷ FILES ∷ FILES_MATCH ∷ LOCATION ∷ LOCATION_MATCH ∷ IF ∷ ELSE_IF ∷ ELSE ∷ []
 
 abbrev pub is_level : Option RowKind → Bool
 is_level None = false
@@ -93,8 +102,8 @@ is_require_container (Some kind) = list_any (λ container. kind.meaning == conta
 abbrev pub closing : Option RowKind → Effect
 closing kind = if is_level kind then Closes else (if is_require_container kind then Releases else Nothing)
 
--- By the context in which the entry stands.
-unfoldable pub judged : ℕ → Among → Result Effect AtByte
-judged context among =
+-- By whose text it is and by the context in which the entry stands.
+unfoldable pub judged : Source → ℕ → Among → Result Effect AtByte
+judged source context among =
     if is_closing among.entry.form then Ok (closing (find_in directive_rows among.entry.name))
-    else if_supported context (supported among.entry.form (find_in directive_rows among.entry.name)) among
+    else if_supported source context (supported among.entry.form (find_in directive_rows among.entry.name)) among

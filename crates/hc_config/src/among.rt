@@ -2,21 +2,27 @@ ghost use Rattle.std.specs.Prelude.{◌≡◌, IfOk};
 ghost use Rattle.hc_flat.specs.EntriesView.{entry_of};
 
 use crate::containers::Container;
+use crate::source::Source;
 use hc_base::{NoMemory, Place};
 use hc_flat::{Entries, EntryView};
+use hc_model::{Expr, Spot};
 use hc_table::Row;
 use std::alloc::Global;
 
 /// An entry among the others of its list: a rule may look at those before it and those behind it.
 #[derive(Clone, Copy)]
-pub(crate) struct Among<'e> {
+pub(crate) struct Among<'e, 's> {
     pub alloc: Global,
     /// The rows of the table of directives.
     pub names: &'e [Row],
+    /// Whose text it stands in.
+    pub source: Source,
     /// The context in which it stands.
     pub context: u16,
     /// The innermost container of Require lines that it stands in.
     pub container: Option<Container>,
+    /// Where none of the chain of `<If>` and `<ElseIf>` right before it applies.
+    pub otherwise: Option<&'s Expr>,
     pub entries: &'e Entries,
     /// Its place among them.
     pub place: usize,
@@ -30,5 +36,15 @@ pub(crate) fn place_of(entry: EntryView) -> Result<Place, NoMemory>
     Ok(Place {
         file: entry.file.clone()?,
         line: entry.line,
+    })
+}
+
+/// The place and the span of an entry.
+pub(crate) fn spot_of(entry: EntryView) -> Result<Spot, NoMemory>
+    ensures { IfOk result (λ spot. spot ≡ (entry_of entry.entry).spot) }
+{
+    Ok(Spot {
+        place: place_of(entry)?,
+        span: entry.span,
     })
 }

@@ -3,8 +3,9 @@ ghost use Rattle.std.specs.List.{list_any};
 ghost use Rattle.hc_base.specs.Gives.{Gives};
 ghost use Rattle.hc_base.specs.Rules.{refusal_at};
 ghost use Rattle.hc_flat.specs.EntriesView.{entry_of};
-ghost use Rattle.hc_config.specs.Configuration.{built, config_of, gathered_from, has_no_root, is_rootless, no_place};
-ghost use Rattle.hc_config.specs.Configuration.{rootless, unless_rootless, unless_stopped, with_effect};
+ghost use Rattle.hc_config.specs.Configuration.{body_unless_stopped, built, built_override, config_of};
+ghost use Rattle.hc_config.specs.Configuration.{gathered_from, has_no_root, is_rootless, no_place};
+ghost use Rattle.hc_config.specs.Configuration.{after_entry, rootless, unless_rootless, unless_stopped};
 ghost use Rattle.hc_config.specs.LevelViews.{gathered_view, left_by, standing_of};
 ghost use Rattle.hc_config.specs.Levels.{nothing_standing};
 
@@ -13,10 +14,11 @@ use crate::effect::Effect;
 use crate::gathered::Gathered;
 use crate::levels::Standing;
 use crate::rules::judge;
+use crate::source::Source;
 use hc_base::codes::NO_DOCUMENT_ROOT;
 use hc_base::{AtByte, Fault, List, NoMemory, Place, Refusal, Text};
 use hc_flat::{Entries, EntryView, Flat};
-use hc_model::{Config, Server};
+use hc_model::{Allowed, Body, Config, Server};
 use hc_table::directives;
 use std::alloc::Global;
 use std::mem::replace;
@@ -34,9 +36,33 @@ pub type BuildFault = Fault<Refusal>;
 pub fn build(alloc: Global, flat: &Flat) -> Result<Config, BuildFault>
     ensures { Gives result (built flat.now) }
 {
-    match gather(alloc, &flat.entries) {
+    match gather(alloc, Source::Configuration, &flat.entries) {
         Ok(standing) => finish(alloc, flat, standing.so_far),
         Err(fault) => Err(fault),
+    }
+}
+
+/// What stands in a `.htaccess` (Apache manual, ".htaccess files"), as in a section of its directory.
+///
+/// The first entry that breaks a rule is refused, by the rule with the smallest number; and behind all
+/// entries what stopped the reading. A directive has to be one that may stand in such a file, and its
+/// class allowed there (core, AllowOverride).
+#[tactic(auto, unfolding(crate::specs::Configuration::built_override))]
+pub fn build_override(alloc: Global, flat: &Flat, allowed: Allowed) -> Result<Body, BuildFault>
+    ensures { Gives result (built_override flat.now allowed) }
+{
+    match gather(alloc, Source::Override(allowed), &flat.entries) {
+        Ok(standing) => finish_body(flat, standing.so_far),
+        Err(fault) => Err(fault),
+    }
+}
+
+fn finish_body(flat: &Flat, gathered: Gathered) -> Result<Body, BuildFault>
+    ensures { Gives result (body_unless_stopped gathered flat.now.stop) }
+{
+    match &flat.stop {
+        Some(refusal) => Err(Fault::Refused(refusal.clone()?)),
+        None => Ok(gathered.into_body()),
     }
 }
 
@@ -79,17 +105,20 @@ fn any_without_root(hosts: &[Server]) -> bool
 }
 
 #[tactic(auto, using(crate::proofs::Places::before_more, crate::proofs::Places::next_place))]
-fn gather(alloc: Global, entries: &Entries) -> Result<Standing, BuildFault>
-    ensures { Gives (gathered_view result) (gathered_from nothing_standing [] entries.now) }
+fn gather(alloc: Global, source: Source, entries: &Entries) -> Result<Standing, BuildFault>
+    ensures { Gives (gathered_view result) (gathered_from source nothing_standing [] entries.now) }
 {
     let names = directives();
     let mut standing = Standing::nothing(alloc, entries.len());
     for (place, entry) in entries.iter().enumerate() {
+        let otherwise = standing.otherwise.as_ref();
         let among = Among {
             alloc,
             names: names.rows,
-            context: standing.context(),
+            source,
+            context: standing.context(source),
             container: standing.container(),
+            otherwise,
             entries,
             place,
             entry,
@@ -103,9 +132,11 @@ fn gather(alloc: Global, entries: &Entries) -> Result<Standing, BuildFault>
     Ok(standing)
 }
 
+// Each entry ends the chain of conditions before it.
 fn perform(alloc: Global, standing: &mut Standing, effect: Effect) -> Result<(), BuildFault>
-    ensures { Gives (left_by result standing.new) (with_effect (standing_of standing.old) effect) }
+    ensures { Gives (left_by result standing.new) (after_entry (standing_of standing.old) effect) }
 {
+    standing.otherwise = None;
     match effect {
         Effect::Nothing => {}
         Effect::Gives(given) => standing.take(given)?,

@@ -1,13 +1,12 @@
 ghost use Rattle.std.specs.Prelude.{◌≡◌, ◌++◌, [], IfOk, OnOk};
 ghost use Rattle.hc_config.specs.Levels.{nothing_gathered, section_body, section_of, server_body, server_of};
 ghost use Rattle.hc_config.specs.Levels.{with_closed, with_given};
-ghost use Rattle.hc_config.specs.declared.gathered.Opened.TheVariants.{Reached};
 
 use crate::containers::{Container, section_tree};
 use hc_base::{List, NoMemory, Place, Text};
 use hc_model::{
-    Alias, Allowed, Body, HostAddr, Inherit, Merging, OptStep, Reach, Redirect, ReqTree, Section,
-    Server, Spot,
+    Alias, Allowed, Body, Expr, HostAddr, Inherit, Merging, OptStep, Reach, Redirect, ReqTree,
+    Section, Server, Spot,
 };
 use std::alloc::Global;
 use std::mem::replace;
@@ -48,6 +47,8 @@ pub(crate) enum Opened {
 pub(crate) struct Opening {
     pub spot: Spot,
     pub opened: Opened,
+    /// For an `<If>` or `<ElseIf>`: where none of its chain up to it applies.
+    pub otherwise: Option<Expr>,
 }
 
 /// A container of Require lines, and the place of its opening.
@@ -149,7 +150,7 @@ impl Gathered {
     }
 
     fn into_section(self, spot: Spot, reach: Reach) -> Section
-        ensures { result ≡ section_of (record { spot = spot; opened = Reached reach }) reach self }
+        ensures { result ≡ section_of spot reach self }
     {
         Section {
             place: spot.place,
@@ -159,7 +160,7 @@ impl Gathered {
         }
     }
 
-    fn into_body(self) -> Body
+    pub(crate) fn into_body(self) -> Body
         ensures { result ≡ section_body self }
     {
         let alloc = self.options.allocator();
@@ -182,12 +183,12 @@ impl Gathered {
     pub(crate) fn close(
         &mut self,
         alloc: Global,
-        opening: Opening,
+        spot: Spot,
+        opened: Opened,
         inner: Gathered,
     ) -> Result<(), NoMemory>
-        ensures { OnOk result (self.new ≡ with_closed opening opening.opened inner self.old) }
+        ensures { OnOk result (self.new ≡ with_closed spot opened inner self.old) }
     {
-        let Opening { spot, opened } = opening;
         match opened {
             Opened::Host(addresses) => {
                 self.hosts

@@ -8,8 +8,9 @@ ghost use Rattle.hc_config.specs.LevelViews.{left_by, standing_of};
 use crate::config::BuildFault;
 use crate::containers::{Container, container_rule, tree_of};
 use crate::gathered::{Gathered, Given, Held, Holding, Opened, Opening};
+use crate::source::Source;
 use hc_base::{AtByte, Fault, List, NoMemory, Place, Refusal};
-use hc_model::Reach;
+use hc_model::{Expr, Reach};
 use hc_table::context;
 use std::alloc::Global;
 use std::mem::replace;
@@ -30,6 +31,8 @@ pub(crate) struct Standing {
     /// Its containers of Require lines that are open, the innermost last.
     pub held: Vec<Held>,
     pub around: Vec<Around>,
+    /// Where none of the chain of `<If>` and `<ElseIf>` right before the next entry applies.
+    pub otherwise: Option<Expr>,
 }
 
 impl Standing {
@@ -41,17 +44,18 @@ impl Standing {
             so_far: Gathered::nothing(alloc, aliases),
             held: Vec::new(alloc),
             around: Vec::new(alloc),
+            otherwise: None,
         }
     }
 
     /// The context of an entry that comes next (Apache manual, the "Context" of each directive): that of
-    /// the innermost opening, else the main server's.
-    pub(crate) fn context(&self) -> u16
-        ensures { result ≡ context_of (standing_of self.now) }
+    /// the innermost opening, else that outside all.
+    pub(crate) fn context(&self, source: Source) -> u16
+        ensures { result ≡ context_of source (standing_of self.now) }
     {
         match self.around.last() {
             Some(around) => context_inside(&around.opening.opened),
-            None => context::MAIN_SERVER,
+            None => source.top_context(),
         }
     }
 
@@ -117,9 +121,15 @@ impl Standing {
         let Some(around) = self.around.pop() else {
             return Ok(());
         };
+        let Opening {
+            spot,
+            opened,
+            otherwise,
+        } = around.opening;
         self.held = around.held;
+        self.otherwise = otherwise;
         let inner = replace(&mut self.so_far, around.gathered);
-        self.so_far.close(alloc, around.opening, inner)
+        self.so_far.close(alloc, spot, opened, inner)
     }
 }
 

@@ -3,10 +3,12 @@
 
 mod among;
 mod classes;
+mod conditions;
 mod config;
 mod containers;
 mod effect;
 mod gathered;
+mod giving;
 mod hosts;
 mod levels;
 mod options;
@@ -14,7 +16,8 @@ mod redirect;
 mod requiring;
 mod rules;
 mod sections;
+mod source;
 mod status;
 mod targets;
 
-pub use config::{BuildFault, build};
+pub use config::{BuildFault, build, build_override};

@@ -7,13 +7,13 @@ ghost use Rattle.hc_config.specs.Sections.{directory, location, name_glob, path_
 ghost use Rattle.hc_config.specs.Sections.{searched};
 ghost use Rattle.hc_config.specs.SectionViews.{plain_of, reach_of};
 
-use crate::among::{Among, place_of};
+use crate::among::{Among, spot_of};
 use crate::effect::{Effect, EffectFault, REFUSED};
 use crate::gathered::{Opened, Opening};
 use crate::hosts::host_addrs;
 use crate::targets::without_final_slash;
 use hc_base::{CowStr, Text};
-use hc_model::{Reach, Regex, Spot};
+use hc_model::{Reach, Regex};
 use hc_pattern::{glob_pattern, has_wildcard, parse_pattern};
 use std::alloc::Global;
 
@@ -69,11 +69,11 @@ pub(crate) fn match_section(
 fn opens(among: &Among, opened: Opened) -> Result<Effect, EffectFault>
     ensures { Gives result (Ok (opens (among_of among.now) opened)) }
 {
-    let spot = Spot {
-        place: place_of(among.entry)?,
-        span: among.entry.span,
-    };
-    Ok(Effect::Opens(Opening { spot, opened }))
+    Ok(Effect::Opens(Opening {
+        spot: spot_of(among.entry)?,
+        opened,
+        otherwise: None,
+    }))
 }
 
 fn plain(alloc: Global, seen: Seen, word: &[u8]) -> Result<Reach, EffectFault>
