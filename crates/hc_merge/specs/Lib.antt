@@ -5,3 +5,5 @@ pub mod Order
 pub mod Reaching
 pub mod Settings
 pub mod CandidateView
+pub mod WantedView
+pub mod Laws

@@ -1,11 +1,11 @@
 -- What may stand in the `.htaccess` of a directory, and which of these files are read.
 -- Apache manual, core, AllowOverride. That the last line counts over all that is above a directory, and the place of
 -- such a file, are our own choice.
-use Rattle.std.specs.Prelude.{Contains, List, [], ◌∷◌, ◌++◌, Bool, false, not, ◌||◌, unwrap_or, Option, Some, None, if◌then◌else◌, codes}
+use Rattle.std.specs.Prelude.{◌≡◌, Contains, List, [], ◌∷◌, ◌++◌, Bool, false, not, ◌||◌, unwrap_or, Option, Some, None, if◌then◌else◌, codes}
 use Rattle.std.specs.List.{AllByRecursion, flat_map, fold}
 use Rattle.hc_base.specs.Bytes.{slash}
 use Rattle.hc_base.specs.Paths.{ends_with_slash}
-use Rattle.hc_model.specs.Overrides.{Loaded, Override, Reading, file_of, none, refused}
+use Rattle.hc_model.specs.Overrides.{Loaded, Reading, file_of}
 use Rattle.hc_model.specs.World.{parents}
 use Rattle.hc_model.specs.declared.config.Config.{Config}
 use Rattle.hc_model.specs.declared.config.HostId.{HostId}
@@ -49,15 +49,6 @@ wanted_by config host dirs = wanted (sections_of config host) nothing_allowed di
 abbrev pub AreLoaded : List Loaded → List Loaded → Type 0
 AreLoaded loaded wanted = AllByRecursion (Contains loaded) wanted
 
--- The first of them that is refused.
-abbrev pub refused_before : Override → Override → Override
-refused_before (refused refusal) behind = refused refusal
-refused_before _ behind = behind
-
-abbrev pub first_refused : Reading → List Loaded → Override
-first_refused reading [] = none
-first_refused reading (each ∷ more) = refused_before (reading each.dir each.allowed) (first_refused reading more)
-
 -- The `.htaccess` of a directory, by what is allowed there.
 abbrev pub Files_at : Type 0
 Files_at = Path → Allowed → Option HtFile
@@ -80,11 +71,12 @@ overriding dir None = []
 overriding dir (Some file) = override_of dir file ∷ []
 
 -- No directory has one.
-abbrev pub nothing_read : Reading
-nothing_read dir allowed = none
-
 abbrev pub no_files : Files_at
-no_files = files_read nothing_read
+no_files dir allowed = None
+
+-- The same for each of these.
+abbrev pub AgreeAt : Files_at → Files_at → List Loaded → Type 0
+AgreeAt one other wanted = AllByRecursion (λ each. one each.dir each.allowed ≡ other each.dir each.allowed) wanted
 
 abbrev pub override_at : Files_at → Path → Allowed → List Candidate
 override_at files dir allowed = if allows_nothing allowed then [] else overriding dir (files dir allowed)

@@ -1,8 +1,9 @@
--- Where a section applies: each is a test of one text.
--- Apache manual, core: DirectoryMatch, Files, FilesMatch, Location, LocationMatch.
+-- Where a section applies: each is a test of one text, but for a condition, which may look at all of the request.
+-- Apache manual, core: DirectoryMatch, Files, FilesMatch, If, Location, LocationMatch.
 use Rattle.std.specs.Prelude.{ℕ, List, [], ◌∷◌, ◌++◌, Bool, true, false, not, ◌&&◌, is_some, Option, Some, None, slice_get, unwrap_or, if◌then◌else◌}
 use Rattle.hc_alias.specs.Tests.{is_below}
 use Rattle.hc_base.specs.Paths.{begins_with_slash, ends_with_slash, is_slash}
+use Rattle.hc_expr.specs.Values.{holds}
 use Rattle.hc_model.specs.declared.request.View.{View}
 use Rattle.hc_model.specs.declared.section.Reach.{Reach}
 use Rattle.hc_model.specs.declared.section.Reach.TheVariants.{Dir, DirSearch, Files, Location, LocationGlob, LocationSearch, When}
@@ -37,7 +38,7 @@ reaches view (Files pattern) = is_component_found pattern view.name
 reaches view (Location path) = is_at path view.path
 reaches view (LocationGlob pattern) = is_found pattern view.path
 reaches view (LocationSearch pattern) = is_found pattern view.path
-reaches view (When test) = false
+reaches view (When test) = holds view test
 
 -- Those of the first group apply where they stand.
 abbrev pub applies : View → Option Reach → Bool

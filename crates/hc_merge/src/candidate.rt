@@ -6,6 +6,7 @@ ghost use Rattle.hc_merge.specs.Overriding.{htaccess_of, override_of, override_s
 use hc_base::paths::ends_with_slash;
 use hc_base::{NoMemory, Place, Span, Text};
 use hc_model::{Body, HtFile, Reach, Section, Spot};
+use std::alloc::Global;
 
 /// Where a candidate stands.
 #[derive(Clone, Copy)]
@@ -31,7 +32,7 @@ pub struct Candidate<'c> {
 
 impl Origin<'_> {
     /// The place of the opening; that of a `.htaccess` has line 0 and an empty span.
-    pub fn spot(self) -> Result<Spot, NoMemory>
+    pub fn spot(self, alloc: Global) -> Result<Spot, NoMemory>
         ensures { IfOk result (λ spot. spot ≡ spot_from self.entry) }
     {
         match self {
@@ -39,28 +40,29 @@ impl Origin<'_> {
                 place: place.clone()?,
                 span,
             }),
-            Origin::Override { dir } => override_spot(dir),
+            Origin::Override { dir } => override_spot(alloc, dir),
         }
     }
 }
 
-fn override_spot(dir: &Text) -> Result<Spot, NoMemory>
+fn override_spot(alloc: Global, dir: &Text) -> Result<Spot, NoMemory>
     ensures { IfOk result (λ spot. spot ≡ override_spot dir.now) }
 {
     Ok(Spot {
         place: Place {
-            file: htaccess_of(dir)?,
+            file: htaccess_of(alloc, dir.as_bytes())?,
             line: 0,
         },
         span: Span { start: 0, end: 0 },
     })
 }
 
-fn htaccess_of(dir: &Text) -> Result<Text, NoMemory>
+/// The path of the `.htaccess` of a directory (Apache manual, ".htaccess files").
+pub fn htaccess_of(alloc: Global, dir: &[u8]) -> Result<Text, NoMemory>
     ensures { IfOk result (λ file. file ≡ htaccess_of dir.now) }
 {
-    let mut file = dir.clone()?.into_vec();
-    if !ends_with_slash(dir.as_bytes()) {
+    let mut file = dir.to_vec(alloc)?;
+    if !ends_with_slash(dir) {
         file.push(b'/')?;
     }
     file.extend_from_slice(b".htaccess")?;

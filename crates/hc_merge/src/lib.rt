@@ -5,13 +5,14 @@
 mod candidate;
 mod directories;
 mod group;
+pub mod laws;
 mod order;
 mod overriding;
 mod reaching;
 mod sections;
 mod settings;
 
-pub use candidate::{Candidate, Origin};
+pub use candidate::{Candidate, Origin, htaccess_of};
 pub use order::ordered_sections;
-pub use overriding::{allowed, load_walk};
+pub use overriding::{Wanted, allowed, wanted_by};
 pub use settings::{effective, merge_sections};

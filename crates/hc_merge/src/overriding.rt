@@ -1,18 +1,24 @@
-ghost use Rattle.std.specs.Prelude.{◌≡◌, filter, IfOk, OnOk};
+ghost use Rattle.std.specs.Prelude.{◌≡◌, filter, IfOk, map};
 ghost use Rattle.std.specs.List.{flat_map};
 ghost use Rattle.hc_merge.specs.CandidateView.{sections_view};
 ghost use Rattle.hc_merge.specs.Candidates.{is_of, sections_at};
 ghost use Rattle.hc_merge.specs.Overriding as definition;
-ghost use Rattle.hc_merge.specs.Overriding.{allowed_behind, allows_nothing, first_refused, nothing_allowed};
-ghost use Rattle.hc_merge.specs.Overriding.{AreLoaded, wanted, wanted_by, wants};
-ghost use Rattle.hc_model.specs.Overrides.{IsRead, Kept};
+ghost use Rattle.hc_merge.specs.Overriding.{allowed_behind, allows_nothing, nothing_allowed, wanted, wanted_by};
+ghost use Rattle.hc_merge.specs.WantedView.{loaded_of};
 ghost use Rattle.hc_model.specs.World.{parents};
 ghost use Rattle.hc_vhost.specs.Servers.{IsHostOf};
 
 use crate::sections::{Sections, is_glob_of};
 use hc_base::{NoMemory, Text};
-use hc_model::{Allowed, AtFault, Config, HostId, Overrides, Section, Walk};
+use hc_model::{Allowed, Config, HostId, Section, Walk};
 use std::alloc::Global;
+
+/// A directory of a walk whose `.htaccess` is read, and what is allowed there.
+#[derive(Clone, Copy)]
+pub struct Wanted<'w> {
+    pub dir: &'w Text,
+    pub allowed: Allowed,
+}
 
 pub(crate) const NOTHING_ALLOWED: Allowed = Allowed {
     auth: false,
@@ -44,57 +50,37 @@ pub(crate) fn allows_nothing(allowed: Allowed) -> bool
     !(allowed.auth || allowed.file_info || allowed.indexes || allowed.limit || allowed.options)
 }
 
-/// Reads the `.htaccess` files of a walk, from `/` down, each for what is allowed there; none where nothing
-/// is. The first that is refused ends it.
-pub fn load_walk<O: Overrides>(
+/// The directories of a walk whose `.htaccess` is read, from `/` down: those in which something is allowed.
+pub fn wanted_by<'w>(
     alloc: Global,
     config: &Config,
     host: HostId,
-    walk: &Walk,
-    over: &mut O,
-) -> Result<(), AtFault>
+    walk: &'w Walk,
+) -> Result<Vec<Wanted<'w>>, NoMemory>
     requires { IsHostOf config.now host }
-    ensures reading { O.reading over.new ≡ O.reading over.old }
-    ensures kept { Kept (O.loaded over.old) (O.loaded over.new) }
-    ensures loads { OnOk result (AreLoaded (O.loaded over.new) (wanted_by config.now host walk.now.dirs)) }
-    ensures cause { IsRead result (first_refused (O.reading over.old) (wanted_by config.now host walk.now.dirs)) }
+    ensures { IfOk result (λ wanted. map loaded_of wanted.items ≡ wanted_by config.now host walk.now.dirs) }
 {
-    let sections = Sections::of(config, host);
-    load_each(alloc, sections, walk.dirs.as_slice(), over)
+    wanted_among(alloc, Sections::of(config, host), walk.dirs.as_slice())
 }
 
-fn load_each<O: Overrides>(
+fn wanted_among<'w>(
     alloc: Global,
     sections: Sections<'_>,
-    dirs: &[Text],
-    over: &mut O,
-) -> Result<(), AtFault>
-    ensures reading { O.reading over.new ≡ O.reading over.old }
-    ensures kept { Kept (O.loaded over.old) (O.loaded over.new) }
-    ensures loads { OnOk result
-        (AreLoaded (O.loaded over.new) (wanted (sections_view sections.entry) nothing_allowed dirs.now)) }
-    ensures cause { IsRead result
-        (first_refused (O.reading over.old) (wanted (sections_view sections.entry) nothing_allowed dirs.now)) }
+    dirs: &'w [Text],
+) -> Result<Vec<Wanted<'w>>, NoMemory>
+    ensures { IfOk result (λ list. map loaded_of list.items
+        ≡ wanted (sections_view sections.entry) nothing_allowed dirs.now) }
 {
+    let mut list = Vec::new(alloc);
     let mut allowed = NOTHING_ALLOWED;
     for dir in dirs {
-        let path = dir.as_bytes();
-        allowed = allowed_at(alloc, sections, path, allowed)?;
-        load_at(path, allowed, over)?;
+        allowed = allowed_at(alloc, sections, dir.as_bytes(), allowed)?;
+        if allows_nothing(allowed) {
+            continue;
+        }
+        list.push(Wanted { dir, allowed })?;
     }
-    Ok(())
-}
-
-fn load_at<O: Overrides>(dir: &[u8], allowed: Allowed, over: &mut O) -> Result<(), AtFault>
-    ensures reading { O.reading over.new ≡ O.reading over.old }
-    ensures kept { Kept (O.loaded over.old) (O.loaded over.new) }
-    ensures loads { OnOk result (AreLoaded (O.loaded over.new) (wants dir.now allowed)) }
-    ensures cause { IsRead result (first_refused (O.reading over.old) (wants dir.now allowed)) }
-{
-    if allows_nothing(allowed) {
-        return Ok(());
-    }
-    over.load(dir, allowed)
+    Ok(list)
 }
 
 fn allowed_above(alloc: Global, sections: Sections<'_>, dir: &[u8]) -> Result<Allowed, NoMemory>

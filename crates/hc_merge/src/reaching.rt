@@ -8,6 +8,7 @@ use crate::candidate::Candidate;
 use hc_alias::is_below;
 use hc_base::NoMemory;
 use hc_base::paths::{begins_with_slash, ends_with_slash};
+use hc_expr::holds;
 use hc_match::first_match;
 use hc_model::{Reach, Regex, View};
 use std::alloc::Global;
@@ -70,12 +71,13 @@ fn reaches(alloc: Global, view: &View, reach: &Reach) -> Result<bool, NoMemory>
     ensures { IfOk result (λ is. is ≡ reaches view.now reach.now) }
 {
     match reach {
-        Reach::Dir(_) | Reach::When(_) => Ok(false),
+        Reach::Dir(_) => Ok(false),
         Reach::DirSearch(pattern) => is_found(alloc, pattern, view.name.as_bytes()),
         Reach::Files(pattern) => is_component_found(alloc, pattern, view.name.as_bytes()),
         Reach::Location(path) => Ok(is_at(path.as_bytes(), view.path.as_bytes())),
         Reach::LocationGlob(pattern) => is_found(alloc, pattern, view.path.as_bytes()),
         Reach::LocationSearch(pattern) => is_found(alloc, pattern, view.path.as_bytes()),
+        Reach::When(test) => holds(alloc, test, view),
     }
 }
 

@@ -187,15 +187,15 @@ fn events_of(alloc: Global, kept: &[Candidate<'_>]) -> Result<List<Event>, NoMem
 {
     let mut events = List::new(alloc);
     for candidate in kept {
-        events.push(event_of(candidate)?)?;
+        events.push(event_of(alloc, candidate)?)?;
     }
     Ok(events)
 }
 
-fn event_of(candidate: &Candidate<'_>) -> Result<Event, NoMemory>
+fn event_of(alloc: Global, candidate: &Candidate<'_>) -> Result<Event, NoMemory>
     ensures { IfOk result (λ event. event ≡ event_of (candidate_of candidate.now)) }
 {
     Ok(Event::Section {
-        spot: candidate.origin.spot()?,
+        spot: candidate.origin.spot(alloc)?,
     })
 }
