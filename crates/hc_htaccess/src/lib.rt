@@ -1,0 +1,8 @@
+//! The `.htaccess` files of directories (Apache manual, ".htaccess files").
+#![tactic(auto)]
+
+mod plain;
+mod reading;
+
+pub use plain::PlainOverrides;
+pub use reading::read_overrides;
