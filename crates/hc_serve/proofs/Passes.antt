@@ -6,6 +6,7 @@ use Rattle.hc_model.specs.declared.outcome.Outcome.{Outcome}
 use Rattle.hc_serve.specs.Site.{Site}
 use Rattle.hc_serve.specs.declared.stage.Pass.{Pass}
 use Rattle.hc_steps.specs.Step.{Shown}
+use Rattle.hc_steps.proofs.Going.{ran_leaves, ran_no_memory}
 
 -- What is left behind so many passes.
 abbrev pub left : ℕ → ℕ → Site → Shown → Pass → Run Outcome Pass
@@ -45,3 +46,6 @@ passes_end most turn site w old now whole pass h le =
     leads_end old now whole pass pass w (subst (λ n. Leads old whole now (run (passes n site pass) w)) none h) refl
 
 pub ruleset passing = (passes_begin, passes_end)
+
+-- One step after another, and want of memory between them.
+pub ruleset stepping = (ran_then, ran_no_further, ran_leaves, ran_no_memory)

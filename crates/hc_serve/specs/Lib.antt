@@ -1,5 +1,5 @@
 pub mod Site
-pub mod Unread
+pub mod Files
 pub mod Passing
 pub mod Request
 pub mod Answers

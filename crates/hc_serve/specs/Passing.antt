@@ -15,15 +15,20 @@ use Rattle.hc_model.specs.declared.authorization.ReqTree.{ReqTree}
 use Rattle.hc_model.specs.declared.event.Authorized.{Authorized}
 use Rattle.hc_model.specs.declared.event.Authorized.TheVariants.{Denied, Granted, Neutral, Unasked}
 use Rattle.hc_model.specs.declared.request.Caller.{Caller}
-use Rattle.hc_merge.specs.Overriding.{no_files}
+use Rattle.hc_htaccess.specs.Pairs.{is_for}
+use Rattle.hc_htaccess.specs.Reading.{found_there}
+use Rattle.hc_merge.specs.Overriding.{Files_at, htaccess_of, no_files, wanted_by}
 use Rattle.hc_merge.specs.Settings.{effective}
 use Rattle.hc_model.specs.declared.event.Event.{Event}
 use Rattle.hc_model.specs.declared.event.Event.TheVariants as event
 use Rattle.hc_model.specs.declared.outcome.Outcome.{Outcome}
-use Rattle.hc_model.specs.declared.outcome.Outcome.TheVariants.{Directory, File, NotFound, Outside, Status}
+use Rattle.hc_model.specs.declared.outcome.Outcome.TheVariants.{Directory, File, HtRefused, NotFound, Outside, Status}
 use Rattle.hc_model.specs.declared.outcome.Reason.TheVariants.{DotSegment, NoRoot}
 use Rattle.hc_model.specs.declared.request.View.{View}
 use Rattle.hc_model.specs.declared.section.Effective.{Effective}
+use Rattle.hc_model.specs.declared.section.HtFile.{HtFile}
+use Rattle.hc_model.specs.Overrides.{Loaded, Override, file, none, refused}
+use Rattle.hc_model.specs.declared.config.Config.{Config}
 use Rattle.hc_model.specs.declared.walk.Kind.{Kind}
 use Rattle.hc_model.specs.declared.walk.Kind.TheVariants as kind
 use Rattle.hc_model.specs.declared.walk.Walk.{Walk}
@@ -33,7 +38,7 @@ use Rattle.hc_serve.specs.declared.stage.Here.{Here}
 use Rattle.hc_serve.specs.declared.stage.Named.{Named}
 use Rattle.hc_serve.specs.declared.stage.Pass.{Pass}
 use Rattle.hc_serve.specs.declared.stage.Walked.{Walked}
-use Rattle.hc_steps.specs.Step.{Step, leaves, ends, say, told, ◌>>=◌}
+use Rattle.hc_steps.specs.Step.{Step, leaves, ends, in_order, say, text_at, told, ◌>>=◌}
 use Rattle.hc_steps.specs.Walking.{walk}
 
 unfoldable pub begun : Pass → Step Outcome Pass
@@ -70,7 +75,23 @@ seen_there named walk = told (event.Walk walk.name walk.info walk.kind) (record 
 unfoldable pub walked : Named → Step Outcome Walked
 walked named = walk named.name >>= seen_there named
 
--- 5. The sections in force, and who may pass: no `.htaccess` is read yet.
+-- 5. The `.htaccess` files of the walk, from `/` down, of which the first that is refused ends the request; the sections in
+-- force; and who may pass.
+abbrev pub with_file : Loaded → Option HtFile → Files_at → Files_at
+with_file each found files dir allowed = if is_for each dir allowed then found else files dir allowed
+
+unfoldable pub left_by : Files_at → Loaded → Override → Step Outcome Files_at
+left_by files each (refused refusal) = ends (HtRefused refusal)
+left_by files each none = leaves (with_file each None files)
+left_by files each (file found) = leaves (with_file each (Some found) files)
+
+unfoldable pub file_looked : Config → Files_at → Loaded → Step Outcome Files_at
+file_looked config files each =
+    text_at (htaccess_of each.dir) >>= λ found. left_by files each (found_there config each.dir each.allowed found)
+
+unfoldable pub files_looked : Config → List Loaded → Step Outcome Files_at
+files_looked config wanted = in_order (file_looked config) no_files wanted
+
 abbrev pub view_at : Site → Walked → View
 view_at site there = record {
   caller = site.caller;
@@ -89,9 +110,13 @@ sections_told here = told_each here.force.sections here
 abbrev pub with_force : Walked → Effective → Here
 with_force there force = record { named = there.named; walk = there.walk; force = force }
 
+abbrev pub force_at : Site → Walked → Files_at → Effective
+force_at site there files = effective site.config site.host there.walk (view_at site there) files
+
 unfoldable pub in_force : Site → Walked → Step Outcome Here
-in_force site there =
-    sections_told (with_force there (effective site.config site.host there.walk (view_at site there) no_files))
+in_force site there = do
+  files ← files_looked site.config (wanted_by site.config site.host there.walk.dirs)
+  sections_told (with_force there (force_at site there files))
 
 abbrev pub said : Tri → Authorized
 said tri.Granted = Granted

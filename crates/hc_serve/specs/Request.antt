@@ -55,14 +55,14 @@ unfoldable pub passes : ℕ → Site → Pass → Step Outcome Pass
 passes zero site pass = leaves pass
 passes (suc more) site pass = passed site pass >>= passes more site
 
-unfoldable pub passes_at : Config → HostId → Request → Pass → Step Outcome Pass
-passes_at config host request pass = passes (most_passes config host) (site_at config host request) pass
+unfoldable pub passes_at : Site → Pass → Step Outcome Pass
+passes_at site pass = passes (most_passes site.config site.host) site pass
 
 unfoldable pub way : Config → Request → Step Outcome Pass
 way config request = do
   host ← host_of config request
   pass ← first_pass (read request.target)
-  passes_at config host request pass
+  passes_at (site_at config host request) pass
 
 -- ---- the run
 

@@ -1,11 +1,13 @@
 ghost use Rattle.std.specs.Prelude.{◌≡◌, ◌+◌, true, IfOk, Some};
 ghost use Rattle.hc_base.specs.Paths.{begins_with_slash};
+ghost use Rattle.hc_htaccess.specs.Reading.{reading_in};
+ghost use Rattle.hc_model.specs.Overrides.{Kept};
 ghost use Rattle.hc_serve.specs.Answers.{IsServed, log_of};
 ghost use Rattle.hc_serve.specs.Request.{IsAnswer, IsWholeRun, way};
 
 use crate::way::way;
 use hc_base::{Fault, List, NoMemory, Place, Steps};
-use hc_model::{Config, Event, LimitKind, Outcome, Read, Request};
+use hc_model::{Config, Event, LimitKind, Outcome, Overrides, Read, Request};
 use hc_steps::Log;
 use hc_world::World;
 use std::alloc::Global;
@@ -66,21 +68,25 @@ impl Clone for WholeRun {
     }
 }
 
-/// What a request receives of a configuration and the files of a world, with the first steps to it.
-/// `evals` counts one.
-pub fn evaluate<L: Ledger>(
+/// What a request receives of a configuration and the files of a world, with the first steps to it. `over`
+/// reads the `.htaccess` files of that world; `evals` counts one.
+pub fn evaluate<O: Overrides, L: Ledger>(
     alloc: Global,
     config: &Config,
     world: &World,
+    over: &mut O,
     request: &Request,
     evals: &mut Steps<L>,
 ) -> Result<Answer, NoMemory>
-    requires { begins_with_slash request.now.target ≡ true }
+    requires slash { begins_with_slash request.now.target ≡ true }
+    requires over { O.reading over.old ≡ reading_in world.now.files config.now }
     ensures answer { IfOk result (IsAnswer world.now.files config.now request.now) }
     ensures evals { evals.new ≡ evals.old + 1 }
+    ensures reading { O.reading over.new ≡ O.reading over.old }
+    ensures kept { Kept (O.loaded over.old) (O.loaded over.new) }
 {
     evals.tick();
-    let served = serve(alloc, config, world, request, Some(LONGEST_TRAIL))?;
+    let served = serve(alloc, config, world, over, request, Some(LONGEST_TRAIL))?;
     let told = served.log.into_told()?;
     Ok(Answer {
         outcome: served.outcome,
@@ -91,19 +97,23 @@ pub fn evaluate<L: Ledger>(
 }
 
 /// The same, with all steps, and the Require lines of the last pass: none, since none is read yet.
-pub fn whole_run<L: Ledger>(
+pub fn whole_run<O: Overrides, L: Ledger>(
     alloc: Global,
     config: &Config,
     world: &World,
+    over: &mut O,
     request: &Request,
     evals: &mut Steps<L>,
 ) -> Result<WholeRun, NoMemory>
-    requires { begins_with_slash request.now.target ≡ true }
+    requires slash { begins_with_slash request.now.target ≡ true }
+    requires over { O.reading over.old ≡ reading_in world.now.files config.now }
     ensures whole { IfOk result (IsWholeRun world.now.files config.now request.now) }
     ensures evals { evals.new ≡ evals.old + 1 }
+    ensures reading { O.reading over.new ≡ O.reading over.old }
+    ensures kept { Kept (O.loaded over.old) (O.loaded over.new) }
 {
     evals.tick();
-    let served = serve(alloc, config, world, request, None)?;
+    let served = serve(alloc, config, world, over, request, None)?;
     let told = served.log.into_told()?;
     Ok(WholeRun {
         outcome: served.outcome,
@@ -120,18 +130,22 @@ struct Served {
     log: Log,
 }
 
-fn serve(
+fn serve<O: Overrides>(
     alloc: Global,
     config: &Config,
     world: &World,
+    over: &mut O,
     request: &Request,
     cap: Option<usize>,
 ) -> Result<Served, NoMemory>
-    requires { begins_with_slash request.now.target ≡ true }
-    ensures { IfOk result (IsServed cap world.now.files config.now request.now) }
+    requires slash { begins_with_slash request.now.target ≡ true }
+    requires over { O.reading over.old ≡ reading_in world.now.files config.now }
+    ensures served { IfOk result (IsServed cap world.now.files config.now request.now) }
+    ensures reading { O.reading over.new ≡ O.reading over.old }
+    ensures kept { Kept (O.loaded over.old) (O.loaded over.new) }
 {
     let mut log = log_of(alloc, cap, config.reads.as_slice())?;
-    match way(config, world, &mut log, request) {
+    match way(config, world, &mut log, over, request) {
         Ok(_) => Ok(Served {
             outcome: Outcome::Limit(LimitKind::Redirects),
             log,

@@ -3,12 +3,13 @@
 
 mod admission;
 mod answer;
+mod files;
+mod force;
 pub mod laws;
 mod name;
 mod pass;
 mod site;
 mod stage;
-mod unread;
 mod way;
 
 pub use answer::{Answer, WholeRun, evaluate, whole_run};

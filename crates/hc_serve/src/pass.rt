@@ -1,51 +1,64 @@
-ghost use Rattle.std.specs.Prelude.{◌≡◌, IfOk, OnOk};
+ghost use Rattle.std.specs.Prelude.{◌≡◌};
 ghost use Rattle.hc_vhost.specs.Servers.{IsHostOf};
-ghost use Rattle.hc_merge.specs.Overriding.{no_files};
-ghost use Rattle.hc_merge.specs.Settings.{effective};
-ghost use Rattle.hc_serve.specs.Passing.{admitted, admitted_by, answered, begun, in_force, mapped_at, merged, named, outcome_at};
-ghost use Rattle.hc_serve.specs.Passing.{passed, passed_there, sections_told, seen_there, sent_by, sent_there};
-ghost use Rattle.hc_serve.specs.Passing.{view_at, walked, with_force, without_dots};
+ghost use Rattle.hc_htaccess.specs.Reading.{reading_in};
+ghost use Rattle.hc_model.specs.Overrides.{Kept};
+ghost use Rattle.hc_serve.specs.Passing.{admitted, admitted_by, answered, begun, mapped_at, merged, named, outcome_at};
+ghost use Rattle.hc_serve.specs.Passing.{passed, passed_there, seen_there, sent_by, sent_there, walked, without_dots};
 ghost use Rattle.hc_serve.specs.Site.{site_of};
-ghost use Rattle.hc_steps.specs.Ran.{Ran, with_events};
+ghost use Rattle.hc_steps.specs.Ran.{Ran};
 ghost use Rattle.hc_steps.specs.Run.{run};
 ghost use Rattle.hc_steps.specs.Shown.{shown_by};
 ghost use Rattle.hc_steps.specs.Walking.{walk};
 
 use crate::admission::{FORBIDDEN, authorized, lets_in};
+use crate::force::in_force;
 use crate::name::{has_dots, merge_slashes};
 use crate::site::Asked;
 use crate::stage::{Here, Named, Pass, Stop, Walked};
-use crate::unread::NoFiles;
 use hc_alias::{Away, Mapped, directory_redirect, map_url};
-use hc_base::{Fault, NoMemory, copy_option};
-use hc_merge::{effective, load_walk};
-use hc_model::{Authorized, Effective, Event, Kind, Outcome, Reason, View, Walk};
+use hc_base::{Fault, copy_option};
+use hc_model::{Authorized, Event, Kind, Outcome, Overrides, Reason, Walk};
 use hc_steps::Log;
 use hc_world::{World, follow};
-use std::alloc::Global;
 
 /// A pass: it ends the request, or leaves the pass that follows it.
 #[tactic(auto, unfolding(crate::specs::Passing::passed), using(hc_steps::proofs::Going::going))]
-pub(crate) fn passed(asked: &Asked<'_>, log: &mut Log, pass: Pass) -> Result<Pass, Stop>
-    requires { IsHostOf asked.now.config.now asked.now.host }
-    ensures { Ran result log.old log.new
+pub(crate) fn passed<O: Overrides>(
+    asked: &Asked<'_>,
+    log: &mut Log,
+    over: &mut O,
+    pass: Pass,
+) -> Result<Pass, Stop>
+    requires host { IsHostOf asked.now.config.now asked.now.host }
+    requires over { O.reading over.old ≡ reading_in asked.now.world.now.files asked.now.config.now }
+    ensures step { Ran result log.old log.new
         (run (passed (site_of asked.now) pass) (shown_by asked.now.world.now.files)) }
+    ensures reading { O.reading over.new ≡ O.reading over.old }
+    ensures kept { Kept (O.loaded over.old) (O.loaded over.new) }
 {
     let pass = begun(asked.world, log, pass)?;
     let named = mapped_at(asked, log, pass)?;
     let named = merged(asked.world, log, named)?;
     let there = walked(asked.world, log, named)?;
-    passed_there(asked, log, there)
+    passed_there(asked, log, over, there)
 }
 
 // The steps behind the walk.
 #[tactic(auto, unfolding(crate::specs::Passing::passed_there), using(hc_steps::proofs::Going::going))]
-fn passed_there(asked: &Asked<'_>, log: &mut Log, there: Walked) -> Result<Pass, Stop>
-    requires { IsHostOf asked.now.config.now asked.now.host }
-    ensures { Ran result log.old log.new
+fn passed_there<O: Overrides>(
+    asked: &Asked<'_>,
+    log: &mut Log,
+    over: &mut O,
+    there: Walked,
+) -> Result<Pass, Stop>
+    requires host { IsHostOf asked.now.config.now asked.now.host }
+    requires over { O.reading over.old ≡ reading_in asked.now.world.now.files asked.now.config.now }
+    ensures step { Ran result log.old log.new
         (run (passed_there (site_of asked.now) there) (shown_by asked.now.world.now.files)) }
+    ensures reading { O.reading over.new ≡ O.reading over.old }
+    ensures kept { Kept (O.loaded over.old) (O.loaded over.new) }
 {
-    let here = in_force(asked, log, there)?;
+    let here = in_force(asked, log, over, there)?;
     let here = admitted(asked, log, here)?;
     let here = sent_there(asked, log, here)?;
     answered(asked.world, log, here)
@@ -142,81 +155,6 @@ fn seen_there(world: &World, log: &mut Log, named: Named, walk: Walk) -> Result<
         kind: walk.kind,
     })?;
     Ok(Walked { named, walk })
-}
-
-// The sections in force.
-#[tactic(auto, using(hc_steps::proofs::Going::ran_no_memory))]
-fn in_force(asked: &Asked<'_>, log: &mut Log, there: Walked) -> Result<Here, Stop>
-    requires { IsHostOf asked.now.config.now asked.now.host }
-    ensures { Ran result log.old log.new
-        (run (in_force (site_of asked.now) there) (shown_by asked.now.world.now.files)) }
-{
-    let here = with_force(log.allocator(), asked, there)?;
-    sections_told(asked.world, log, here)
-}
-
-fn with_force(alloc: Global, asked: &Asked<'_>, there: Walked) -> Result<Here, NoMemory>
-    requires { IsHostOf asked.now.config.now asked.now.host }
-    ensures { IfOk result (λ here. here ≡ with_force there
-        (effective asked.now.config.now asked.now.host there.walk (view_at (site_of asked.now) there) no_files)) }
-{
-    let Walked { named, walk } = there;
-    let view = view_at(asked, &named, &walk)?;
-    let force = force_at(alloc, asked, &walk, &view)?;
-    Ok(Here { named, walk, force })
-}
-
-// No `.htaccess` is read yet, so that none is refused.
-fn force_at(
-    alloc: Global,
-    asked: &Asked<'_>,
-    walk: &Walk,
-    view: &View,
-) -> Result<Effective, NoMemory>
-    requires { IsHostOf asked.now.config.now asked.now.host }
-    ensures { IfOk result (λ force. force
-        ≡ effective asked.now.config.now asked.now.host walk.now view.now no_files) }
-{
-    let mut over = NoFiles::new(alloc);
-    match load_walk(alloc, asked.config, asked.host, walk, &mut over) {
-        Ok(()) => effective(alloc, asked.config, asked.host, walk, view, &over),
-        Err(_) => Err(NoMemory),
-    }
-}
-
-fn view_at(asked: &Asked<'_>, named: &Named, walk: &Walk) -> Result<View, NoMemory>
-    ensures { IfOk result (λ view. view
-        ≡ view_at (site_of asked.now) (record { named = named.now; walk = walk.now })) }
-{
-    Ok(View {
-        caller: asked.caller.clone()?,
-        path: named.pass.path.clone()?,
-        query: named.pass.query.clone()?,
-        name: walk.name.clone()?,
-    })
-}
-
-#[tactic(auto, using(hc_steps::proofs::Going::ran_no_memory))]
-fn sections_told(world: &World, log: &mut Log, here: Here) -> Result<Here, Stop>
-    ensures { Ran result log.old log.new (run (sections_told here) (shown_by world.now.files)) }
-{
-    tell_each(log, here.force.sections.as_slice())?;
-    Ok(here)
-}
-
-fn tell_each(log: &mut Log, events: &[Event]) -> Result<(), NoMemory>
-    ensures { OnOk result (log.new ≡ with_events log.old events.now) }
-{
-    for event in events {
-        log.say(copy_of(event)?)?;
-    }
-    Ok(())
-}
-
-fn copy_of(event: &Event) -> Result<Event, NoMemory>
-    ensures { IfOk result (λ copy. copy ≡ event.now) }
-{
-    event.clone()
 }
 
 // Who may pass.

@@ -1,6 +1,8 @@
 ghost use Rattle.std.specs.Prelude.{◌≡◌, true, IfOk};
 ghost use Rattle.hc_vhost.specs.Servers.{IsHostOf};
 ghost use Rattle.hc_base.specs.Paths.{begins_with_slash};
+ghost use Rattle.hc_htaccess.specs.Reading.{reading_in};
+ghost use Rattle.hc_model.specs.Overrides.{Kept};
 ghost use Rattle.hc_serve.specs.Request.{first_pass, host_of, host_told, passes, passes_at, way};
 ghost use Rattle.hc_serve.specs.Site.{site_of};
 ghost use Rattle.hc_steps.specs.Ran.{Ran};
@@ -12,7 +14,7 @@ use crate::pass::passed;
 use crate::site::{Asked, caller_at, most_passes};
 use crate::stage::{Pass, Stop};
 use hc_base::{Fault, List};
-use hc_model::{Config, Event, HostId, Outcome, Reason, Request};
+use hc_model::{Config, Event, HostId, Outcome, Overrides, Reason, Request};
 use hc_steps::Log;
 use hc_target::{TargetRead, read_target};
 use hc_vhost::{choose, server_at};
@@ -23,19 +25,30 @@ const BAD_REQUEST: u16 = 400;
 const NOT_FOUND: u16 = 404;
 
 /// The way of a request: it ends, or leaves a pass that is one too many.
-#[tactic(auto, unfolding(crate::specs::Request::way), using(hc_steps::proofs::Going::going))]
-pub(crate) fn way(
+#[tactic(auto, unfolding(crate::specs::Request::way), using(crate::proofs::Passes::stepping))]
+pub(crate) fn way<O: Overrides>(
     config: &Config,
     world: &World,
     log: &mut Log,
+    over: &mut O,
     request: &Request,
 ) -> Result<Pass, Stop>
-    requires { begins_with_slash request.now.target ≡ true }
-    ensures { Ran result log.old log.new (run (way config.now request.now) (shown_by world.now.files)) }
+    requires slash { begins_with_slash request.now.target ≡ true }
+    requires over { O.reading over.old ≡ reading_in world.now.files config.now }
+    ensures step { Ran result log.old log.new (run (way config.now request.now) (shown_by world.now.files)) }
+    ensures reading { O.reading over.new ≡ O.reading over.old }
+    ensures kept { Kept (O.loaded over.old) (O.loaded over.new) }
 {
     let host = host_of(config, world, log, request)?;
     let pass = first_pass(world, log, request)?;
-    passes_at(config, world, log, host, request, pass)
+    let caller = caller_at(log.allocator(), config, host, request)?;
+    let asked = Asked {
+        world,
+        config,
+        host,
+        caller: &caller,
+    };
+    passes_at(&asked, log, over, pass)
 }
 
 // The server that answers.
@@ -86,39 +99,48 @@ fn first_pass(world: &World, log: &mut Log, request: &Request) -> Result<Pass, S
     }
 }
 
-#[tactic(auto, unfolding(crate::specs::Request::passes_at), using(hc_steps::proofs::Going::telling))]
-fn passes_at(
-    config: &Config,
-    world: &World,
+#[tactic(auto, unfolding(crate::specs::Request::passes_at))]
+fn passes_at<O: Overrides>(
+    asked: &Asked<'_>,
     log: &mut Log,
-    host: HostId,
-    request: &Request,
+    over: &mut O,
     pass: Pass,
 ) -> Result<Pass, Stop>
-    requires { IsHostOf config.now host }
-    ensures { Ran result log.old log.new
-        (run (passes_at config.now host request.now pass) (shown_by world.now.files)) }
+    requires host { IsHostOf asked.now.config.now asked.now.host }
+    requires over { O.reading over.old ≡ reading_in asked.now.world.now.files asked.now.config.now }
+    ensures step { Ran result log.old log.new
+        (run (passes_at (site_of asked.now) pass) (shown_by asked.now.world.now.files)) }
+    ensures reading { O.reading over.new ≡ O.reading over.old }
+    ensures kept { Kept (O.loaded over.old) (O.loaded over.new) }
 {
-    let caller = caller_at(log.allocator(), config, host, request)?;
-    let asked = Asked {
-        world,
-        config,
-        host,
-        caller: &caller,
-    };
-    passes(&asked, log, most_passes(config, host), pass)
+    passes(
+        asked,
+        log,
+        over,
+        most_passes(asked.config, asked.host),
+        pass,
+    )
 }
 
 // So many passes at most, one after another.
 #[tactic(auto, using(crate::proofs::Passes::passing))]
-fn passes(asked: &Asked<'_>, log: &mut Log, most: u64, pass: Pass) -> Result<Pass, Stop>
-    requires { IsHostOf asked.now.config.now asked.now.host }
-    ensures { Ran result log.old log.new
+fn passes<O: Overrides>(
+    asked: &Asked<'_>,
+    log: &mut Log,
+    over: &mut O,
+    most: u64,
+    pass: Pass,
+) -> Result<Pass, Stop>
+    requires host { IsHostOf asked.now.config.now asked.now.host }
+    requires over { O.reading over.old ≡ reading_in asked.now.world.now.files asked.now.config.now }
+    ensures step { Ran result log.old log.new
         (run (passes most (site_of asked.now) pass) (shown_by asked.now.world.now.files)) }
+    ensures reading { O.reading over.new ≡ O.reading over.old }
+    ensures kept { Kept (O.loaded over.old) (O.loaded over.new) }
 {
     let mut pass = pass;
     for _turn in 0..most {
-        pass = passed(asked, log, pass)?;
+        pass = passed(asked, log, over, pass)?;
     }
     Ok(pass)
 }

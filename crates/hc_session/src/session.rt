@@ -20,6 +20,7 @@ use crate::reply::{Reply, print_reply};
 use hc_base::codes::BAD_COMMAND;
 use hc_base::{Fault, NoMemory, Place, Refusal, Steps, Text};
 use hc_config::{BuildFault, build};
+use hc_htaccess::PlainOverrides;
 use hc_include::flatten;
 use hc_model::{Config, Outcome};
 use hc_serve::evaluate;
@@ -152,18 +153,19 @@ impl Session {
         ensures evals { Counts result (evaluations_under (configuration self.now)) evals.old evals.new }
     {
         match self.config(bytes) {
-            Ok(config) => Ok(Reply::Outcome(self.outcome(&config, asked, evals)?)),
+            Ok(config) => Ok(Reply::Outcome(self.outcome(&config, asked, evals, bytes)?)),
             Err(Fault::Refused(refusal)) => Ok(Reply::Refused(refusal)),
             Err(Fault::NoMemory) => Err(NoMemory),
         }
     }
 
-    // What a request receives.
-    fn outcome<E: Ledger>(
+    // What a request receives. The `.htaccess` files of its walk are read anew.
+    fn outcome<E: Ledger, L: Ledger>(
         &self,
         config: &Config,
         asked: &Asked<'_>,
         evals: &mut Steps<E>,
+        bytes: &mut Steps<L>,
     ) -> Result<Outcome, NoMemory>
         requires { begins_with_slash asked.now.target.now ≡ true }
         ensures outcome { IfOk result
@@ -171,7 +173,9 @@ impl Session {
         ensures evals { Counts result 1 evals.old evals.new }
     {
         let request = asked.to_request(self.alloc)?;
-        Ok(evaluate(self.alloc, config, &self.world, &request, evals)?.outcome)
+        let mut over = PlainOverrides::new(self.alloc, config, &self.world, bytes);
+        let world = &self.world;
+        Ok(evaluate(self.alloc, config, world, &mut over, &request, evals)?.outcome)
     }
 
     // The configuration, read anew.

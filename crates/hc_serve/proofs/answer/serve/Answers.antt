@@ -2,11 +2,11 @@ use Rattle.hc_serve.proofs.Common.{ap, ◌∙◌, refl, log_of}
 use Rattle.hc_serve.proofs.Answered.{served_left, served_ended}
 use Rattle.hc_serve.proofs.answer.serve.Goals as goal
 
-pub returns-in-Ok : goal.returns-in-Ok
-returns-in-Ok c =
-    served_left _ _ _ _ _ _ _ _ (c.in_ok-log.ensures ∙ ap (log_of c.args.cap) c.as_slice.ensures) c.in-Ok.ensures refl refl
+pub returns-in-Ok-clause-served : goal.returns-in-Ok-clause-served
+returns-in-Ok-clause-served g c =
+    served_left _ _ _ _ _ _ _ _ (c.in_ok-log.ensures ∙ ap (log_of c.args.cap) c.as_slice.ensures) c.in-Ok.ensures.step refl refl
 
-pub returns-in-Err-Refused : goal.returns-in-Err-Refused
-returns-in-Err-Refused c =
+pub returns-in-Err-Refused-clause-served : goal.returns-in-Err-Refused-clause-served
+returns-in-Err-Refused-clause-served g c =
     served_ended _ _ _ _ _ _ _ _ (c.in_ok-log.ensures ∙ ap (log_of c.args.cap) c.as_slice.ensures)
-    (rw c.in-Err-Refused.field-0-is at c.in-Err-Refused.ensures) refl refl
+    (rw c.in-Err-Refused.field-0-is at c.in-Err-Refused.ensures.step) refl refl

@@ -1,5 +1,5 @@
 use Rattle.hc_serve.proofs.Common.{◌≡◌, drop, with_events}
-use Rattle.hc_serve.proofs.pass.tell_each.Given as goal
+use Rattle.hc_serve.proofs.force.tell_each.Given as goal
 
 -- what is left to tell, behind what was told, is all
 abbrev pub invariant-loop-event : goal.invariant-loop-event

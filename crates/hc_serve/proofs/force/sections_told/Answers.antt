@@ -1,7 +1,7 @@
 use Rattle.hc_serve.proofs.Common.{◌∙◌, ap, with_events}
 use Rattle.hc_serve.proofs.Told.{each_told}
 use Rattle.hc_serve.specs.Passing.{sections_told}
-use Rattle.hc_serve.proofs.pass.sections_told.Goals as goal
+use Rattle.hc_serve.proofs.force.sections_told.Goals as goal
 
 pub returns : goal.returns
 unfolding sections_told

@@ -1,0 +1,15 @@
+use Rattle.hc_serve.proofs.Common.{refl, ran_off, ran_then}
+use Rattle.hc_serve.proofs.Looks.{force_left}
+use Rattle.hc_serve.specs.Passing.{in_force}
+use Rattle.hc_serve.specs.Site.{site_of}
+use Rattle.hc_serve.proofs.force.in_force.Goals as goal
+
+pub returns-in_err-files_looked-clause-step : goal.returns-in_err-files_looked-clause-step
+unfolding in_force
+returns-in_err-files_looked-clause-step g c = ran_off _ _ _ _ _ _ _ _ c.from_residual.ensures.1 c.in_err-files_looked.ensures.step refl
+
+pub returns-clause-step : goal.returns-clause-step
+unfolding in_force
+returns-clause-step g c =
+    ran_then _ _ _ _ _ _ _ _ c.in_ok-files_looked.ensures.step
+    (rw (c.in_ok-here.ensures, c.files_looked.ensures.reading, force_left (g.O.Overrides.reading c.args.over.now) (site_of c.args.asked.now) c.args.there) at c.sections_told.ensures)

@@ -1,0 +1,93 @@
+ghost use Rattle.std.specs.Prelude.{◌≡◌, IfOk, OnOk};
+ghost use Rattle.hc_htaccess.specs.Reading.{reading_in};
+ghost use Rattle.hc_merge.specs.Overriding.{AreLoaded, files_read, wanted_by};
+ghost use Rattle.hc_model.specs.Overrides.{Kept};
+ghost use Rattle.hc_serve.specs.Passing.{force_at, in_force, sections_told, view_at, with_force};
+ghost use Rattle.hc_serve.specs.Site.{site_of};
+ghost use Rattle.hc_steps.specs.Ran.{Ran, with_events};
+ghost use Rattle.hc_steps.specs.Run.{run};
+ghost use Rattle.hc_steps.specs.Shown.{shown_by};
+ghost use Rattle.hc_vhost.specs.Servers.{IsHostOf};
+
+use crate::files::files_looked;
+use crate::site::Asked;
+use crate::stage::{Here, Named, Stop, Walked};
+use hc_base::NoMemory;
+use hc_merge::effective;
+use hc_model::{Event, Overrides, View, Walk};
+use hc_steps::Log;
+use hc_world::World;
+use std::alloc::Global;
+
+/// The `.htaccess` files, and the sections in force.
+#[tactic(auto, using(hc_steps::proofs::Going::ran_no_memory))]
+pub(crate) fn in_force<O: Overrides>(
+    asked: &Asked<'_>,
+    log: &mut Log,
+    over: &mut O,
+    there: Walked,
+) -> Result<Here, Stop>
+    requires host { IsHostOf asked.now.config.now asked.now.host }
+    requires over { O.reading over.old ≡ reading_in asked.now.world.now.files asked.now.config.now }
+    ensures step { Ran result log.old log.new
+        (run (in_force (site_of asked.now) there) (shown_by asked.now.world.now.files)) }
+    ensures reading { O.reading over.new ≡ O.reading over.old }
+    ensures kept { Kept (O.loaded over.old) (O.loaded over.new) }
+{
+    files_looked(asked, log, over, &there.walk)?;
+    let here = with_force(log.allocator(), asked, over, there)?;
+    sections_told(asked.world, log, here)
+}
+
+fn with_force<O: Overrides>(
+    alloc: Global,
+    asked: &Asked<'_>,
+    over: &O,
+    there: Walked,
+) -> Result<Here, NoMemory>
+    requires host { IsHostOf asked.now.config.now asked.now.host }
+    requires loaded { AreLoaded (O.loaded over.now)
+        (wanted_by asked.now.config.now asked.now.host there.walk.dirs) }
+    ensures { IfOk result (λ here. here
+        ≡ with_force there (force_at (site_of asked.now) there (files_read (O.reading over.now)))) }
+{
+    let Walked { named, walk } = there;
+    let view = view_at(asked, &named, &walk)?;
+    let force = effective(alloc, asked.config, asked.host, &walk, &view, over)?;
+    Ok(Here { named, walk, force })
+}
+
+fn view_at(asked: &Asked<'_>, named: &Named, walk: &Walk) -> Result<View, NoMemory>
+    ensures { IfOk result (λ view. view
+        ≡ view_at (site_of asked.now) (record { named = named.now; walk = walk.now })) }
+{
+    Ok(View {
+        caller: asked.caller.clone()?,
+        path: named.pass.path.clone()?,
+        query: named.pass.query.clone()?,
+        name: walk.name.clone()?,
+    })
+}
+
+#[tactic(auto, using(hc_steps::proofs::Going::ran_no_memory))]
+fn sections_told(world: &World, log: &mut Log, here: Here) -> Result<Here, Stop>
+    ensures { Ran result log.old log.new (run (sections_told here) (shown_by world.now.files)) }
+{
+    tell_each(log, here.force.sections.as_slice())?;
+    Ok(here)
+}
+
+fn tell_each(log: &mut Log, events: &[Event]) -> Result<(), NoMemory>
+    ensures { OnOk result (log.new ≡ with_events log.old events.now) }
+{
+    for event in events {
+        log.say(copy_of(event)?)?;
+    }
+    Ok(())
+}
+
+fn copy_of(event: &Event) -> Result<Event, NoMemory>
+    ensures { IfOk result (λ copy. copy ≡ event.now) }
+{
+    event.clone()
+}
