@@ -8,6 +8,7 @@ use crate::told::{answer_text, whole_text};
 use hc_addr::Addr;
 use hc_base::paths::begins_with_slash;
 use hc_base::{List, NoMemory, Steps, Text};
+use hc_htaccess::PlainOverrides;
 use hc_model::{Config, Header, Request, Scheme};
 use hc_serve::{evaluate, whole_run};
 use hc_world::World;
@@ -43,38 +44,50 @@ pub fn request(alloc: Global, host: &str, target: &str) -> Result<Request, NoMem
 }
 
 // What `evaluate` answers, of which a copy is shown.
-fn answered<L: Ledger>(
-    blank: Blank,
+fn answered<E: Ledger, B: Ledger>(
+    for_evals: Blank,
+    for_bytes: Blank,
     alloc: Global,
     config: &Config,
     world: &World,
     request: &Request,
 ) -> Result<Vec<u8>, NoMemory>
     requires target { begins_with_slash request.now.target ≡ true }
-    requires name { blank.name ≡ L.name }
-    requires parts { blank.parts ≡ L.parts }
-    requires whole { 0 < blank.parts }
+    requires evals_name { for_evals.name ≡ E.name }
+    requires evals_parts { for_evals.parts ≡ E.parts }
+    requires evals_whole { 0 < for_evals.parts }
+    requires bytes_name { for_bytes.name ≡ B.name }
+    requires bytes_parts { for_bytes.parts ≡ B.parts }
+    requires bytes_whole { 0 < for_bytes.parts }
 {
-    let mut evals = Steps::<L>::new(blank);
-    let answer = evaluate(alloc, config, world, request, &mut evals)?;
+    let mut evals = Steps::<E>::new(for_evals);
+    let mut bytes = Steps::<B>::new(for_bytes);
+    let mut over = PlainOverrides::new(alloc, config, world, &mut bytes);
+    let answer = evaluate(alloc, config, world, &mut over, request, &mut evals)?;
     answer_text(alloc, &answer.clone()?)
 }
 
 // What `whole_run` answers, of which a copy is shown.
-fn whole_answered<L: Ledger>(
-    blank: Blank,
+fn whole_answered<E: Ledger, B: Ledger>(
+    for_evals: Blank,
+    for_bytes: Blank,
     alloc: Global,
     config: &Config,
     world: &World,
     request: &Request,
 ) -> Result<Vec<u8>, NoMemory>
     requires target { begins_with_slash request.now.target ≡ true }
-    requires name { blank.name ≡ L.name }
-    requires parts { blank.parts ≡ L.parts }
-    requires whole { 0 < blank.parts }
+    requires evals_name { for_evals.name ≡ E.name }
+    requires evals_parts { for_evals.parts ≡ E.parts }
+    requires evals_whole { 0 < for_evals.parts }
+    requires bytes_name { for_bytes.name ≡ B.name }
+    requires bytes_parts { for_bytes.parts ≡ B.parts }
+    requires bytes_whole { 0 < for_bytes.parts }
 {
-    let mut evals = Steps::<L>::new(blank);
-    let whole = whole_run(alloc, config, world, request, &mut evals)?;
+    let mut evals = Steps::<E>::new(for_evals);
+    let mut bytes = Steps::<B>::new(for_bytes);
+    let mut over = PlainOverrides::new(alloc, config, world, &mut bytes);
+    let whole = whole_run(alloc, config, world, &mut over, request, &mut evals)?;
     whole_text(alloc, &whole.clone()?)
 }
 
@@ -90,9 +103,23 @@ fn check_answer(
     if !begins_with_slash(request.target.as_bytes()) {
         panic!(rt; "a target without a slash");
     }
-    let answer = answered::<Brand>(Blank::new(1), alloc, config, world, request)?;
+    let answer = answered::<Brand, Brand>(
+        Blank::new(1),
+        Blank::new(1),
+        alloc,
+        config,
+        world,
+        request,
+    )?;
     assert!(rt; answer.as_slice() == wanted.as_bytes());
-    let whole = whole_answered::<Brand>(Blank::new(1), alloc, config, world, request)?;
+    let whole = whole_answered::<Brand, Brand>(
+        Blank::new(1),
+        Blank::new(1),
+        alloc,
+        config,
+        world,
+        request,
+    )?;
     assert!(rt; whole.as_slice() == wanted.as_bytes());
     Ok(())
 }
@@ -139,6 +166,16 @@ text /etc/httpd/conf/httpd.conf \nkind /srv \nkind /srv/f \n",
         "localhost",
         "/a%2fb",
         "404 \n1 \nhost :0 \ntext /etc/httpd/conf/httpd.conf \n",
+    ),
+    (
+        "DocumentRoot /srv\n<Directory \"/\">\nAllowOverride None\n</Directory>\n<Directory \"/srv\">\n\
+AllowOverride FileInfo\n</Directory>\n",
+        "localhost",
+        "/p/q",
+        "302 http://two.example/p/q \n9 \nhost :0 \npass 0 /p/q  \nmap /srv/p/q \nwalk /srv/p /q absent \n\
+section /etc/httpd/conf/httpd.conf:2 18 33 \nsection /etc/httpd/conf/httpd.conf:5 66 84 \n\
+section /srv/.htaccess:0 0 0 \nauth none \nredirect /srv/.htaccess:1 0 36 \n\
+text /etc/httpd/conf/httpd.conf \nkind /srv \ntext /srv/.htaccess \nkind /srv/p \n",
     ),
     (
         "DocumentRoot /srv\n<Location /f>\nRequire local\n</Location>\n",

@@ -12,16 +12,27 @@ use std::alloc::Global;
 use std::marker::Brand;
 use std::sync::ledger::{Blank, Ledger};
 
-/// A world with this main file and the file `/srv/f`.
+/// A world with this main file, the file `/srv/f`, and two `.htaccess` files.
 pub fn world_of(alloc: Global, main: &str) -> Result<World, WorldFault> {
     let mut world = World::new(alloc)?;
-    if world.edits() < u64::MAX {
-        world.put(MAIN_FILE.as_bytes(), main)?;
-    }
+    put(&mut world, MAIN_FILE, main)?;
+    put(&mut world, "/.htaccess", "No such line\n")?;
+    put(
+        &mut world,
+        "/srv/.htaccess",
+        "Redirect 302 /p http://two.example/p\n",
+    )?;
     if world.edits() < u64::MAX {
         world.list(b"/srv/f", ListKind::File)?;
     }
     Ok(world)
+}
+
+fn put(world: &mut World, path: &str, text: &str) -> Result<(), WorldFault> {
+    if world.edits() < u64::MAX {
+        world.put(path.as_bytes(), text)?;
+    }
+    Ok(())
 }
 
 fn config_counted<L: Ledger>(

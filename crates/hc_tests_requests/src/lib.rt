@@ -9,11 +9,17 @@ mod authorization;
 #[cfg(test)]
 mod commands;
 #[cfg(test)]
+mod conditions;
+#[cfg(test)]
 mod configs;
 #[cfg(test)]
 mod dialogue;
 #[cfg(test)]
+mod folder_files;
+#[cfg(test)]
 mod hosts;
+#[cfg(test)]
+mod htaccess;
 #[cfg(test)]
 mod include;
 #[cfg(test)]

@@ -1,15 +1,13 @@
 //! What AllowOverride allows, and where the `.htaccess` of a directory stands among its sections.
 
-ghost use Rattle.std.specs.Prelude.{◌≡◌, ◌∷◌, ◌++◌, [], OnErr, OnOk};
-
 use crate::answers::request;
 use crate::configs::{config_of, world_of};
+use crate::htaccess::{load_each, one_file};
 use hc_addr::Addr;
 use hc_base::{List, NoMemory, Text};
-use hc_merge::{allowed, effective, load_walk};
+use hc_merge::{Wanted, allowed, effective, wanted_by};
 use hc_model::{
-    Allowed, AtFault, Body, Caller, Config, Effective, Event, HostId, HtFile, Kind, Overrides,
-    Piece, Redirect, View, Walk,
+    Allowed, AtFault, Caller, Config, Effective, Event, HostId, Kind, Piece, Redirect, View, Walk,
 };
 use hc_session::MAIN_FILE;
 use hc_vhost::choose;
@@ -19,66 +17,6 @@ use std::test::Fail;
 
 // 192.0.2.1
 const SERVER: u32 = 0xC000_0201;
-
-/// A directory whose `.htaccess` was loaded, and what is allowed there.
-#[derive(Drop)]
-pub struct Loads {
-    dir: Text,
-    allowed: Allowed,
-}
-
-/// One directory has a `.htaccess`.
-#[derive(Drop)]
-pub struct OneFile {
-    file: HtFile,
-    loads: Vec<Loads>,
-}
-
-impl OneFile {
-    fn add(&mut self, dir: &[u8], allowed: Allowed) -> Result<(), NoMemory>
-        ensures file { self.new.file ≡ self.old.file }
-        ensures loads { OnOk result (self.new.loads.items
-            ≡ self.old.loads.items ++ (record { dir = dir.now; allowed = allowed }) ∷ []) }
-        ensures kept { OnErr result (self.new.loads.items ≡ self.old.loads.items) }
-    {
-        let dir = Text::copy_of(*self.loads.allocator(), dir)?;
-        self.loads.push(Loads { dir, allowed })?;
-        Ok(())
-    }
-}
-
-impl Overrides for OneFile {
-    ghost use Rattle.std.specs.Prelude.{map, if◌then◌else◌};
-    ghost use Rattle.std.specs.Str.{bytes_eq};
-    ghost use Rattle.hc_model.specs.Overrides.{file, none};
-
-    ghost reading = { λ it dir allowed. if bytes_eq it.file.dir dir then file it.file else none };
-
-    ghost loaded = { λ it. map (λ loads. record { dir = loads.dir; allowed = loads.allowed }) it.loads.items };
-
-    fn load(&mut self, dir: &[u8], allowed: Allowed) -> Result<(), AtFault> {
-        self.add(dir, allowed)?;
-        Ok(())
-    }
-
-    fn get(&self, dir: &[u8], _allowed: Allowed) -> Option<&HtFile> {
-        if self.file.dir.as_bytes() == dir {
-            Some(&self.file)
-        } else {
-            None
-        }
-    }
-}
-
-fn one_file(alloc: Global, dir: &str, body: &Body) -> Result<OneFile, NoMemory> {
-    Ok(OneFile {
-        file: HtFile {
-            dir: Text::copy_of(alloc, dir.as_bytes())?,
-            body: body.clone()?,
-        },
-        loads: Vec::new(alloc),
-    })
-}
 
 // The classes of AllowOverride that are allowed, by their first letters.
 fn letters(alloc: Global, allowed: Allowed) -> Result<String, NoMemory> {
@@ -137,6 +75,53 @@ fn the_last_line_of_all_above_says_what_is_allowed(rt: HostRuntime) -> Result<()
     let world = world_of(rt.alloc(), ALLOWING)?;
     match config_of(rt.alloc(), &world) {
         Ok(config) => Ok(check_allowed(&rt, rt.alloc(), &config)?),
+        Err(_) => panic!(&rt; "no configuration"),
+    }
+}
+
+// A port, the directories of a walk, and those whose `.htaccess` is read with what is allowed there.
+static WANTED: &[(u16, &[&str], &str)] = &[
+    (82, &["/", "/srv", "/srv/c"], "/srv FL /srv/c AFILO "),
+    (
+        82,
+        &["/", "/srv", "/srv/a", "/srv/a/x"],
+        "/srv FL /srv/a I /srv/a/x I ",
+    ),
+    (80, &["/", "/srv", "/srv/b"], "/srv FL "),
+    (
+        80,
+        &["/", "/srv", "/srv/a", "/srv/a/x"],
+        "/srv FL /srv/a A /srv/a/x A ",
+    ),
+    (82, &["/", "/other"], ""),
+];
+
+fn shown_wanted(alloc: Global, list: &[Wanted<'_>]) -> Result<Vec<u8>, NoMemory> {
+    let mut shown = Vec::new(alloc);
+    for each in list {
+        shown.extend_from_slice(each.dir.as_bytes())?;
+        shown.push(b' ')?;
+        shown.extend_from_slice(letters(alloc, each.allowed)?.as_bytes())?;
+        shown.push(b' ')?;
+    }
+    Ok(shown)
+}
+
+fn check_wanted(rt: &impl Abort, alloc: Global, config: &Config) -> Result<(), NoMemory> {
+    for &(port, dirs, wanted) in WANTED {
+        let host = choose(config, Addr::V4(SERVER), port, b"h");
+        let walk = walk_of(alloc, dirs, "/srv")?;
+        let list = wanted_by(alloc, config, host, &walk)?;
+        assert!(rt; shown_wanted(alloc, &list)?.as_slice() == wanted.as_bytes());
+    }
+    Ok(())
+}
+
+#[test]
+fn a_file_is_wanted_where_something_is_allowed(rt: HostRuntime) -> Result<(), Fail> {
+    let world = world_of(rt.alloc(), ALLOWING)?;
+    match config_of(rt.alloc(), &world) {
+        Ok(config) => Ok(check_wanted(&rt, rt.alloc(), &config)?),
         Err(_) => panic!(&rt; "no configuration"),
     }
 }
@@ -238,7 +223,8 @@ fn shown_with(alloc: Global, config: &Config, dir: &str) -> Result<Vec<u8>, AtFa
     let mut over = one_file(alloc, dir, &source.body)?;
     let walk = walk_of(alloc, &["/", "/srv", "/srv/d", "/srv/d/e"], "/srv/d/e/f")?;
     let view = view_of(alloc, "/srv/d/e/f")?;
-    load_walk(alloc, config, HostId::Main, &walk, &mut over)?;
+    let wanted = wanted_by(alloc, config, HostId::Main, &walk)?;
+    load_each(&mut over, &wanted)?;
     let force = effective(alloc, config, HostId::Main, &walk, &view, &over)?;
     Ok(show(alloc, &force)?)
 }

@@ -1,7 +1,13 @@
 use Rattle.hc_tests_requests.proofs.answers.check_answer.Given as goal
 
-abbrev pub ghosts-answered : goal.ghosts-answered
-ghosts-answered g a = record { name = a.blank.name; parts = a.blank.parts }
+abbrev pub ghosts-answered-E-Ledger : goal.ghosts-answered-E-Ledger
+ghosts-answered-E-Ledger g a = record { name = a.for_evals.name; parts = a.for_evals.parts }
 
-abbrev pub ghosts-whole_answered : goal.ghosts-whole_answered
-ghosts-whole_answered g a = record { name = a.blank.name; parts = a.blank.parts }
+abbrev pub ghosts-answered-B-Ledger : goal.ghosts-answered-B-Ledger
+ghosts-answered-B-Ledger g a = record { name = a.for_bytes.name; parts = a.for_bytes.parts }
+
+abbrev pub ghosts-whole_answered-E-Ledger : goal.ghosts-whole_answered-E-Ledger
+ghosts-whole_answered-E-Ledger g a = record { name = a.for_evals.name; parts = a.for_evals.parts }
+
+abbrev pub ghosts-whole_answered-B-Ledger : goal.ghosts-whole_answered-B-Ledger
+ghosts-whole_answered-B-Ledger g a = record { name = a.for_bytes.name; parts = a.for_bytes.parts }

@@ -1,0 +1,151 @@
+//! Sections under a condition, as dialogues: If, ElseIf and Else.
+
+use crate::dialogue::hold_each;
+use crate::main_files::hold_refused;
+use hc_base::NoMemory;
+
+// Where each applies.
+static CONDITIONS: &[&str] = &[
+    // a search in the query
+    r##"main DocumentRoot /srv\n<If \"%{QUERY_STRING} =~ /(^|&)debug=1(&|$)/\">\nRequire all denied\n</If>\n
+file /srv/f
+ask /f?debug=1
+{"outcome":{"status":403}}
+ask /f?x=1
+{"outcome":{"file":{"info":"","path":"/srv/f"}}}
+"##,
+    // of a chain one section applies
+    r##"main DocumentRoot /srv\n<If \"%{REQUEST_METHOD} == 'PUT'\">\nRequire ip 10.1\n</If>\n
+  <ElseIf \"%{QUERY_STRING} == 'a'\">\nRequire ip 10.2\n</ElseIf>\n\n# no entry\n
+  <elseif \"%{QUERY_STRING} =~ /^B$/i\">\nRequire ip 10.3\n</ElseIf>\n<Else>\nRequire ip 10.4\n</Else>\n
+file /srv/f
+{"do":"ask","target":"/f?a","client":"10.1.0.1","method":"PUT"}
+{"outcome":{"file":{"info":"","path":"/srv/f"}}}
+{"do":"ask","target":"/f?a","client":"10.2.0.1","method":"PUT"}
+{"outcome":{"status":403}}
+{"do":"ask","target":"/f?a","client":"10.2.0.1"}
+{"outcome":{"file":{"info":"","path":"/srv/f"}}}
+{"do":"ask","target":"/f?a","client":"10.4.0.1"}
+{"outcome":{"status":403}}
+{"do":"ask","target":"/f?b","client":"10.3.0.1"}
+{"outcome":{"file":{"info":"","path":"/srv/f"}}}
+{"do":"ask","target":"/f?b","client":"10.4.0.1"}
+{"outcome":{"status":403}}
+{"do":"ask","target":"/f?c","client":"10.4.0.1"}
+{"outcome":{"file":{"info":"","path":"/srv/f"}}}
+{"do":"ask","target":"/f?c","client":"10.3.0.1"}
+{"outcome":{"status":403}}
+"##,
+    // behind locations, and inside a section of a virtual host only where that applies
+    r##"main DocumentRoot /srv\n<If \"%{QUERY_STRING} == 'in'\">\nRequire all granted\n</If>\n
+  <Location /p>\nRequire all denied\n</Location>\n<VirtualHost *:80>\n<Directory /srv/p>\n
+  <If \"%{HTTP_USER_AGENT} =~ /^check/ && %{REMOTE_ADDR} -ipmatch '10.0.0.0/8'\">\nRequire method GET\n</If>\n
+  </Directory>\n</VirtualHost>\n
+file /srv/p/f
+file /srv/q
+ask /p/f
+{"outcome":{"status":403}}
+ask /p/f?in
+{"outcome":{"file":{"info":"","path":"/srv/p/f"}}}
+{"do":"ask","target":"/p/f","client":"10.0.0.9","headers":{"User-Agent":"check 1"}}
+{"outcome":{"file":{"info":"","path":"/srv/p/f"}}}
+{"do":"ask","target":"/p/f","client":"11.0.0.9","headers":{"User-Agent":"check 1"}}
+{"outcome":{"status":403}}
+{"do":"ask","target":"/p/f?in","client":"10.0.0.9","headers":{"User-Agent":"check 1"},"method":"POST"}
+{"outcome":{"status":403}}
+{"do":"ask","target":"/q","client":"10.0.0.9","headers":{"User-Agent":"check 1"},"method":"POST"}
+{"outcome":{"file":{"info":"","path":"/srv/q"}}}
+"##,
+    // names in a quoted text, a variable of the configuration, `!` before `&&`, and a chain in a container
+    r##"main DocumentRoot /srv\nDefine D f\n
+  <If \"'%{REQUEST_SCHEME}://%{HTTP_HOST}%{REQUEST_URI}' == 'http://a.test/${D}'\">\nRequire all denied\n</If>\n
+  <If \"!%{HTTPS} == 'on' && %{QUERY_STRING} == '${X}' || %{SERVER_PORT} = 8080\">\nRequire all denied\n</If>\n
+  <Directory /srv/d>\n<RequireAny>\n<If \"%{REQUEST_FILENAME} == '/srv/d/f'\">\nRequire all denied\n</If>\n
+  <Else>\nRequire all granted\n</Else>\nRequire all denied\n</RequireAny>\n</Directory>\n
+file /srv/f
+file /srv/d/f
+file /srv/d/g
+{"do":"ask","target":"/f","host":"a.test"}
+{"outcome":{"status":403}}
+{"do":"ask","target":"/f","host":"b.test"}
+{"outcome":{"file":{"info":"","path":"/srv/f"}}}
+{"do":"ask","target":"/f","host":"a.test","port":81}
+{"outcome":{"file":{"info":"","path":"/srv/f"}}}
+{"do":"ask","target":"/f","host":"b.test","port":8080}
+{"outcome":{"status":403}}
+ask /f?${X}
+{"outcome":{"status":403}}
+{"do":"ask","target":"/f?${X}","scheme":"https"}
+{"outcome":{"file":{"info":"","path":"/srv/f"}}}
+ask /d/f/info
+{"outcome":{"status":403}}
+ask /d/g
+{"outcome":{"file":{"info":"","path":"/srv/d/g"}}}
+"##,
+];
+
+// Main files as they stand in JSON, and the refusal of each: its code, its line and the byte in a pattern.
+static REFUSED: &[(&str, u8, u32, u32)] = &[
+    // one word, and none
+    (r"<If>\n</If>\n", 3, 1, 0),
+    (r"<If %{HTTPS} == 'on'>\n</If>\n", 3, 1, 0),
+    (r"<If true>\n</If>\n<ElseIf>\n</ElseIf>\n", 3, 3, 0),
+    (r"<If true>\n</If>\n<Else x>\n</Else>\n", 3, 3, 0),
+    (r#"<If \"true>\n</If>\n"#, 6, 1, 0),
+    // right behind a section of the chain
+    (r"<Else>\n</Else>\n", 2, 1, 0),
+    (r#"<ElseIf \"x>\n</ElseIf>\n"#, 2, 1, 0),
+    (r"<If true>\n</If>\nListen 80\n<Else>\n</Else>\n", 2, 4, 0),
+    (
+        r"<If true>\n</If>\n<Else>\n</Else>\n<ElseIf true>\n</ElseIf>\n",
+        2,
+        5,
+        0,
+    ),
+    (
+        r"<If true>\n</If>\n<ElseIf true>\n</ElseIf>\n<IfDefine !X>\n<Else>\n</Else>\n</IfDefine>\n",
+        2,
+        6,
+        0,
+    ),
+    (
+        r"<Directory /a>\n<If true>\n</If>\n</Directory>\n<Else>\n</Else>\n",
+        2,
+        5,
+        0,
+    ),
+    (
+        r"<If true>\n</If>\n<Directory /a>\n<Else>\n</Else>\n</Directory>\n",
+        2,
+        4,
+        0,
+    ),
+    // what may stand in it
+    (r"<If true>\n<If true>\n</If>\n</If>\n", 2, 2, 0),
+    (r"<If true>\n<Files a>\n</Files>\n</If>\n", 2, 2, 0),
+    (r"<If true>\nAlias /a /b\n</If>\n", 2, 2, 0),
+    (r"<If true>\nRequire not local\n</If>\n", 21, 2, 0),
+    // what is no expression, and what may not stand in one
+    (r#"<If \"true &&\">\n</If>\n"#, 32, 1, 0),
+    (r#"<If \"%{UNKNOWN} == 'a'\">\n</If>\n"#, 19, 1, 0),
+    (r#"<If \"%{HTTP_COOKIE} == 'a'\">\n</If>\n"#, 19, 1, 0),
+    (r#"<If \"'%{ENV:A}' == 'a'\">\n</If>\n"#, 19, 1, 0),
+    (r#"<If \"'a' =~ /b(/\">\n</If>\n"#, 14, 1, 1),
+    (r#"<If \"'a' =~ /(b?)*/\">\n</If>\n"#, 16, 1, 4),
+    (
+        r#"<If \"%{REMOTE_ADDR} -ipmatch '10.x'\">\n</If>\n"#,
+        26,
+        1,
+        0,
+    ),
+];
+
+#[test]
+fn sections_apply_under_their_conditions(rt: HostRuntime) -> Result<(), NoMemory> {
+    hold_each(&rt, rt.alloc(), CONDITIONS)
+}
+
+#[test]
+fn what_is_no_chain_and_no_expression_is_refused(rt: HostRuntime) -> Result<(), NoMemory> {
+    hold_refused(&rt, rt.alloc(), REFUSED)
+}
