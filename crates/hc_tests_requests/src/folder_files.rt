@@ -39,8 +39,8 @@ ask /f
 {"outcome":{"status":403}}
 "##,
     // by what is in force at its directory: sections with wildcards and those of the host count
-    r##"main DocumentRoot /srv\n<VirtualHost *:80>\nServerName one\n<Directory \"/srv/w*\">\nAllowOverride AuthConfig\n
-  </Directory>\n</VirtualHost>\n<VirtualHost *:80>\nServerName two\n</VirtualHost>\n
+    r##"main DocumentRoot /srv\n<VirtualHost *:80>\nServerName one\n<Directory \"/srv/w*\">\n
+  AllowOverride AuthConfig\n</Directory>\n</VirtualHost>\n<VirtualHost *:80>\nServerName two\n</VirtualHost>\n
 /srv/www/.htaccess Require all denied\n
 /srv/v/.htaccess No such line\n
 file /srv/www/f
@@ -53,7 +53,8 @@ file /srv/v/f
 {"outcome":{"file":{"info":"","path":"/srv/v/f"}}}
 "##,
     // its own sections stand in their groups, and a name that is no file counts as none
-    r##"main DocumentRoot /srv\n<Directory />\nAllowOverride All\n</Directory>\n<Files g>\nRequire all denied\n</Files>\n
+    r##"main DocumentRoot /srv\n<Directory />\nAllowOverride All\n</Directory>\n<Files g>\nRequire all denied\n
+  </Files>\n
 /srv/.htaccess <Files f>\nRequire all denied\n</Files>\n<Files g>\nRequire all granted\n</Files>\n
   <If \"%{QUERY_STRING} == 'in'\">\nRequire all granted\n</If>\n<Else>\nOptions -Indexes\n</Else>\n
 {"do":"list","kind":"dir","path":"/srv/d/.htaccess"}
