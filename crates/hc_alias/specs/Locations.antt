@@ -1,26 +1,19 @@
 -- Where a redirect sends a request.
 -- Apache manual, mod_alias, Redirect; what it leaves open is our own choice.
-use Rattle.std.specs.Prelude.{ℕ, ◌==◌, List, [], ◌∷◌, ◌++◌, length, nat_le, nat_lt, codes}
-use Rattle.std.specs.Prelude.{Bool, ◌&&◌, ◌||◌, if◌then◌else◌}
+use Rattle.std.specs.Prelude.{ℕ, ◌==◌, List, [], ◌∷◌, ◌++◌, length, ◌||◌, if◌then◌else◌}
 use Rattle.std.specs.List.{list_any}
 use Rattle.hc_base.specs.Bytes.{is_question, question}
 use Rattle.hc_base.specs.Paths.{begins_with_slash}
 use Rattle.hc_target.specs.Escapes.{escaped}
+use Rattle.hc_target.specs.Urls.{is_redirection}
 use Rattle.hc_model.specs.declared.mapping.Redirect.{Redirect}
 use Rattle.hc_model.specs.declared.outcome.Outcome.{Outcome}
 use Rattle.hc_model.specs.declared.outcome.Outcome.TheVariants as outcome
 use Rattle.hc_model.specs.declared.request.Caller.{Caller}
 use Rattle.hc_template.specs.Filled.{filled}
-use Rattle.hc_template.specs.Variables.{port_part, scheme_name}
+use Rattle.hc_template.specs.Variables.{origin}
 use Rattle.hc_alias.specs.Filling.{filling_with}
 use Rattle.hc_alias.specs.Tests.{Found}
-
--- ---- the server's own name
-
-abbrev pub origin : Caller → List ℕ
-origin caller =
-    scheme_name caller.request.scheme ++ codes "://" ++ caller.name
-    ++ port_part caller.request.scheme caller.request.port
 
 -- ---- the location
 
@@ -41,9 +34,6 @@ location caller redirect found query =
     location_to caller (filled (filling_with found.groups) redirect.to) found.rest query
 
 -- ---- the answer
-
-abbrev pub is_redirection : ℕ → Bool
-is_redirection status = nat_le 300 status && nat_lt status 400
 
 -- Another status is answered as it is.
 abbrev pub sent_to : ℕ → List ℕ → Outcome

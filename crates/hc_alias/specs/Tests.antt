@@ -1,10 +1,10 @@
 -- Which URL paths an alias or a redirect takes, and what it finds in them.
 -- Apache manual, mod_alias: Alias, AliasMatch, Redirect, RedirectMatch.
-use Rattle.std.specs.Prelude.{ℕ, ◌-◌, ◌==◌, List, [], ◌∷◌, length, take, drop, nat_eq}
+use Rattle.std.specs.Prelude.{ℕ, ◌==◌, List, [], ◌∷◌, length, drop, nat_eq}
 use Rattle.std.specs.Prelude.{Bool, ◌&&◌, ◌||◌, Option, Some, None, option_map, if◌then◌else◌}
 use Rattle.std.specs.List.{starts_with}
 use Rattle.hc_base.specs.Paths.{begins_with_slash, ends_with_slash}
-use Rattle.hc_base.specs.declared.place.Span.{Span}
+use Rattle.hc_base.specs.Spans.{spanned}
 use Rattle.hc_model.specs.declared.mapping.PathTest.{PathTest}
 use Rattle.hc_model.specs.declared.mapping.PathTest.TheVariants.{Prefix, Search}
 use Rattle.hc_ways.specs.Kept.{Held, first_match}
@@ -29,12 +29,8 @@ abbrev pub behind : List ℕ → List ℕ → Found
 behind from path = record { groups = no_groups; rest = drop (length from) path }
 
 -- A group that holds nothing gives the empty text.
-abbrev pub piece_of : List ℕ → Option Span → List ℕ
-piece_of path None = []
-piece_of path (Some span) = take (span.end - span.start) (drop span.start path)
-
 abbrev pub searched : List ℕ → Held → Found
-searched path held = record { groups = λ number. piece_of path (held number); rest = [] }
+searched path held = record { groups = λ number. spanned path (held number); rest = [] }
 
 -- What a test finds in a path that it takes; a pattern takes each path that it is found in.
 abbrev pub found_by : PathTest → List ℕ → Option Found

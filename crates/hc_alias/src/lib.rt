@@ -7,5 +7,5 @@ mod locations;
 mod mapping;
 mod tests;
 
-pub use mapping::{Away, Mapped, directory_redirect, map_url};
+pub use mapping::{Away, Mapped, directory_redirect, map_url, root_of, under_root};
 pub use tests::is_below;

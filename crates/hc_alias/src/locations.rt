@@ -1,27 +1,15 @@
 ghost use Rattle.std.specs.Prelude.{◌≡◌, ◌++◌, IfOk, OnOk};
 ghost use Rattle.hc_alias.specs.FoundView.{found_of};
 ghost use Rattle.hc_alias.specs.Locations as definition;
-ghost use Rattle.hc_alias.specs.Locations.{is_redirection, location_to, origin, query_part};
+ghost use Rattle.hc_alias.specs.Locations.{location_to, query_part};
 
 use crate::tests::Found;
 use hc_base::paths::begins_with_slash;
 use hc_base::{NoMemory, Text};
 use hc_model::{Caller, Outcome, Redirect};
-use hc_target::escape_path;
-use hc_template::{expand, push_port, scheme_name};
+use hc_target::{escape_path, is_redirection};
+use hc_template::{expand, push_origin};
 use std::alloc::Global;
-
-/// The server's own name, with its scheme.
-fn origin(alloc: Global, caller: &Caller) -> Result<Vec<u8>, NoMemory>
-    ensures { IfOk result (λ text. text.items ≡ origin caller.now) }
-{
-    let scheme = caller.request.scheme;
-    let mut text = scheme_name(scheme).to_vec(alloc)?;
-    text.extend_from_slice(b"://")?;
-    text.extend_from_slice(caller.name.as_bytes())?;
-    push_port(&mut text, scheme, caller.request.port)?;
-    Ok(text)
-}
 
 /// A target that begins with a slash is one of the server's own.
 fn absolute(alloc: Global, caller: &Caller, target: &[u8]) -> Result<Vec<u8>, NoMemory>
@@ -30,7 +18,8 @@ fn absolute(alloc: Global, caller: &Caller, target: &[u8]) -> Result<Vec<u8>, No
     if !begins_with_slash(target) {
         return target.to_vec(alloc);
     }
-    let mut text = origin(alloc, caller)?;
+    let mut text = Vec::new(alloc);
+    push_origin(&mut text, caller)?;
     text.extend_from_slice(target)?;
     Ok(text)
 }
@@ -75,13 +64,6 @@ fn location(
 {
     let target = expand(alloc, redirect.to.as_slice(), found)?;
     location_to(alloc, caller, target.as_bytes(), found.rest(), query)
-}
-
-/// The status is one of a redirect.
-fn is_redirection(status: u16) -> bool
-    ensures { result ≡ is_redirection status }
-{
-    (300..400).contains(&status)
 }
 
 /// Where a redirect sends a request. A status outside 300 to 399 is answered as it is.

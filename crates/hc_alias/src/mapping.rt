@@ -53,7 +53,15 @@ pub fn map_url(
     if let Some(name) = servers.aliased(alloc, path)? {
         return Ok(name);
     }
-    under_root(alloc, servers.root(), path)
+    under_root(alloc, root_of(config, host), path)
+}
+
+/// The document root of the chosen server, else of the main server (Apache manual, core, DocumentRoot).
+pub fn root_of<'c>(config: &'c Config, host: HostId) -> Option<&'c Text>
+    requires { IsHostOf config.now host }
+    ensures { option_map (λ root. root.now) result ≡ root_of (servers_of config.now host) }
+{
+    Servers::of(config, host).root()
 }
 
 /// Where the first redirect of a list that takes the path sends the request (Apache manual,
@@ -180,8 +188,8 @@ fn named_by(alloc: Global, alias: &Alias, found: &Found<'_>) -> Result<Mapped, N
     })
 }
 
-/// The name of a path under a document root.
-fn under_root(alloc: Global, root: Option<&Text>, path: &[u8]) -> Result<Mapped, NoMemory>
+/// The name of a path under a document root: what follows it is the path.
+pub fn under_root(alloc: Global, root: Option<&Text>, path: &[u8]) -> Result<Mapped, NoMemory>
     ensures { IfOk result (λ mapped. mapped ≡ under_root (option_map (λ text. text.now) root.entry) path.now) }
 {
     let Some(root) = root else {

@@ -2,10 +2,10 @@ ghost use Rattle.std.specs.Prelude.{◌≡◌, IfOk};
 ghost use Rattle.std.specs.Option.{option_map};
 ghost use Rattle.hc_alias.specs.FoundView.{found_of, taken_view};
 ghost use Rattle.hc_alias.specs.Tests as definition;
-ghost use Rattle.hc_alias.specs.Tests.{is_below, piece_of};
+ghost use Rattle.hc_alias.specs.Tests.{is_below};
 
 use hc_base::paths::{begins_with_slash, ends_with_slash};
-use hc_base::{NoMemory, Span};
+use hc_base::{NoMemory, spanned};
 use hc_match::{Captures, first_match};
 use hc_model::{Alias, PathTest, Redirect};
 use std::alloc::Global;
@@ -26,7 +26,7 @@ impl<'p> Found<'p> {
     {
         match self {
             Found::Behind(_) => &[],
-            Found::Searched(path, captures) => piece_of(path, captures.get(number)),
+            Found::Searched(path, captures) => spanned(path, captures.get(number)),
         }
     }
 
@@ -39,19 +39,6 @@ impl<'p> Found<'p> {
             Found::Searched(_, _) => &[],
         }
     }
-}
-
-/// The part of a path that a span names.
-fn piece_of<'p>(path: &'p [u8], span: Option<Span>) -> &'p [u8]
-    ensures { result.now ≡ piece_of path.now span }
-{
-    let Some(span) = span else {
-        return &[];
-    };
-    let (_, behind) = path.split_at(path.len().min(span.start as usize));
-    let count = span.end.saturating_sub(span.start) as usize;
-    let (piece, _) = behind.split_at(behind.len().min(count));
-    piece
 }
 
 /// A path that ends in a slash takes what begins with it; another takes itself, and what begins

@@ -82,6 +82,9 @@ colon = 58
 abbrev pub less : ℕ
 less = 60
 
+abbrev pub equals : ℕ
+equals = 61
+
 abbrev pub greater : ℕ
 greater = 62
 

@@ -5,6 +5,7 @@ pub mod Faults
 pub mod Gives
 pub mod Lines
 pub mod Paths
+pub mod Spans
 pub mod Rules
 pub mod Tape
 pub mod formers

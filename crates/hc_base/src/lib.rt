@@ -25,7 +25,7 @@ pub use cow::CowStr;
 pub use fault::{AtByte, AtLine, Fault};
 pub use list::List;
 pub use option::copy_option;
-pub use place::{Place, Refusal, Span};
+pub use place::{Place, Refusal, Span, spanned};
 pub use sink::Sink;
 pub use source::{Failed, Source};
 pub use steps::Steps;

@@ -1,5 +1,6 @@
 ghost use Rattle.std.specs.Prelude.{◌≡◌};
 ghost use Rattle.hc_base.specs.Rules.{refusal_at};
+ghost use Rattle.hc_base.specs.Spans.{spanned};
 
 use crate::{AtByte, NoMemory, Text};
 use std::alloc::Global;
@@ -9,6 +10,18 @@ use std::alloc::Global;
 pub struct Span {
     pub start: u32,
     pub end: u32,
+}
+
+/// What stands at a span of a text; nothing where there is no span.
+pub fn spanned(text: &[u8], span: Option<Span>) -> &[u8]
+    ensures { result.now ≡ spanned text.now span }
+{
+    let Some(span) = span else {
+        return &[];
+    };
+    let (_, behind) = text.split_at(text.len().min(span.start as usize));
+    let count = span.end.saturating_sub(span.start) as usize;
+    behind.split_at(behind.len().min(count)).0
 }
 
 /// A line of a file. Lines count from 1; line 0 is the file as a whole.

@@ -2,3 +2,4 @@ pub mod Places
 pub mod Networks
 pub mod Gathering
 pub mod Closing
+pub mod Behind

@@ -1,5 +1,5 @@
 -- An entry among the others of its list.
-use Rattle.std.specs.Prelude.{◌+◌, List, Option, take, drop}
+use Rattle.std.specs.Prelude.{◌+◌, Bool, List, Option, take, drop}
 use Rattle.std.specs.Option.{option_copied}
 use Rattle.hc_flat.specs.EntriesView.{entry_of}
 use Rattle.hc_model.specs.declared.entry.Entry.{Entry}
@@ -16,6 +16,8 @@ pub record Among : Type 0 where
   pub container : Option Container
   -- where none of the chain of conditions right before it applies
   pub otherwise : Option Expr
+  -- it stands right in a Directory with wildcards
+  pub wild : Bool
 
 abbrev pub among_of : code.Among → Among
 among_of among = record {
@@ -24,4 +26,5 @@ among_of among = record {
   behind = drop (among.place + 1) among.entries.now;
   container = among.container;
   otherwise = option_copied among.otherwise;
+  wild = among.wild;
 }

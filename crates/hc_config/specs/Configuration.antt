@@ -15,7 +15,7 @@ use Rattle.hc_model.specs.declared.entry.Entry.{Entry}
 use Rattle.hc_model.specs.declared.section.Allowed.{Allowed}
 use Rattle.hc_model.specs.declared.section.Body.{Body}
 use Rattle.hc_config.specs.Among.{Among}
-use Rattle.hc_config.specs.Levels.{Standing, chain_ended, container_of, context_of, holding_opened, innermost_closed, innermost_released, nothing_standing, opened, section_body, server_of, with_given}
+use Rattle.hc_config.specs.Levels.{Standing, chain_ended, container_of, context_of, holding_opened, innermost_closed, innermost_released, nothing_standing, opened, section_body, server_of, wild_of, with_given}
 use Rattle.hc_config.specs.Rules.{judged}
 use Rattle.hc_config.specs.declared.source.Source.{Source}
 use Rattle.hc_config.specs.declared.source.Source.TheVariants.{Configuration, Override}
@@ -52,6 +52,7 @@ among_standing standing before entry behind = record {
   behind = behind;
   container = container_of standing;
   otherwise = standing.otherwise;
+  wild = wild_of standing;
 }
 
 -- All that entries give behind others, or the refusal of the first that breaks a rule.

@@ -1,10 +1,10 @@
 -- The directives and sections that are built so far: what words each takes, and what it gives.
 -- Apache manual: core; mod_alias, Alias; mod_so, LoadModule; mod_userdir, UserDir. What is not built
 -- is refused as if it had no name; our own choice.
-use Rattle.std.specs.Prelude.{ℕ, List, [], ◌∷◌, length, Bool, ◌&&◌, nat_le, if◌then◌else◌}
+use Rattle.std.specs.Prelude.{ℕ, List, [], ◌∷◌, length, Bool, ◌&&◌, false, nat_le, if◌then◌else◌}
 use Rattle.std.specs.Prelude.{Option, Some, None, Result, Ok, Err, codes}
 use Rattle.std.specs.Str.{str_eq_ignore_ascii_case}
-use Rattle.hc_base.specs.Paths.{begins_with_slash}
+use Rattle.hc_base.specs.Paths.{begins_with_slash, without_final_slash}
 use Rattle.hc_base.specs.Rules.{rule}
 use Rattle.hc_base.specs.declared.codes.TheConstants.{WRONG_CONTEXT}
 use Rattle.hc_base.specs.declared.fault.AtByte.{AtByte}
@@ -24,16 +24,21 @@ use Rattle.hc_table.specs.declared.meaning.TheConstants.{REDIRECT, REDIRECT_MATC
 use Rattle.hc_table.specs.declared.meaning.TheConstants.{SCRIPT_ALIAS, SERVER_ROOT, USER_DIR, USE_CANONICAL_NAME}
 use Rattle.hc_table.specs.declared.meaning.TheConstants.{ALLOW_OVERRIDE, OPTIONS, SERVER_ALIAS, SERVER_NAME, VIRTUAL_HOST}
 use Rattle.hc_table.specs.declared.meaning.TheConstants.{DIRECTORY, DIRECTORY_MATCH, FILES, FILES_MATCH, LOCATION, LOCATION_MATCH}
+use Rattle.hc_table.specs.declared.meaning.TheConstants.{LIMIT_INTERNAL_RECURSION, REWRITE_BASE, REWRITE_COND, REWRITE_ENGINE, REWRITE_MAP}
+use Rattle.hc_table.specs.declared.meaning.TheConstants.{REWRITE_OPTIONS, REWRITE_RULE}
 use Rattle.hc_table.specs.declared.meaning.TheConstants.{AUTH_MERGING, ELSE, ELSE_IF, IF, REQUIRE, REQUIRE_ALL, REQUIRE_ANY, REQUIRE_NONE}
+use Rattle.hc_pattern.specs.Globs.{has_wildcard}
+use Rattle.hc_rw_parse.specs.Rules.{cond_of}
 use Rattle.hc_config.specs.Among.{Among}
 use Rattle.hc_config.specs.Conditions.{Branch, first_branch, last_branch, next_branch}
 use Rattle.hc_config.specs.Hosts.{host_addrs, name_without_port}
 use Rattle.hc_config.specs.Options.{allowed_by, options_step}
 use Rattle.hc_config.specs.Requires.{Line, asked_by, is_none_of, line_of, merging_named, negated_rule, unless_broken}
+use Rattle.hc_config.specs.Rewrites.{base_of, engine_of, inherit_of, map_of, recursion_of, rule_read}
 use Rattle.hc_config.specs.Rows.{by_number}
 use Rattle.hc_config.specs.Sections.{directory, location, name_glob, pattern_alone, plain_or_tilde}
 use Rattle.hc_config.specs.Statuses.{first_status, has_url}
-use Rattle.hc_config.specs.Targets.{own_target_by, target_by, test_by, without_final_slash, wrong}
+use Rattle.hc_config.specs.Targets.{own_target_by, target_by, test_by, wrong}
 use Rattle.hc_config.specs.declared.effect.Effect.{Effect}
 use Rattle.hc_config.specs.declared.effect.Effect.TheVariants.{Nothing, Gives, Holds, Opens}
 use Rattle.hc_config.specs.declared.gathered.Given.TheVariants as given
@@ -173,8 +178,11 @@ auth_merging words = Err wrong
 
 -- ---- sections
 
+abbrev pub opens_as : Bool → Among → Opened → Effect
+opens_as wild among opened = Opens (record { spot = among.entry.spot; opened = opened; otherwise = None; wild = wild })
+
 abbrev pub opens : Among → Opened → Effect
-opens among opened = Opens (record { spot = among.entry.spot; opened = opened; otherwise = None })
+opens among opened = opens_as false among opened
 
 -- One address or more.
 abbrev pub virtual_host : Giving
@@ -184,11 +192,44 @@ virtual_host among (word ∷ words) = given_by (λ addresses. opens among (Host 
 abbrev pub section : (List (List ℕ) → Result Reach AtByte) → Giving
 section reach among words = given_by (λ reach. opens among (Reached reach)) (reach words)
 
+-- A path with wildcards is no directory of its own.
+abbrev pub has_wildcards : List (List ℕ) → Bool
+has_wildcards (word ∷ []) = has_wildcard (without_final_slash word)
+has_wildcards words = false
+
+abbrev pub directory_section : Giving
+directory_section among words =
+    given_by (λ reach. opens_as (has_wildcards words) among (Reached reach)) (plain_or_tilde directory DirSearch words)
+
+-- ---- rewriting
+
+abbrev pub rewrite_engine : List (List ℕ) → Result Effect AtByte
+rewrite_engine words = given_by (λ on. Gives (given.Engine on)) (engine_of words)
+
+-- It changes nothing yet: it may stand for directories alone, and what is of these is not built.
+abbrev pub rewrite_base : List (List ℕ) → Result Effect AtByte
+rewrite_base words = given_by (λ path. Nothing) (base_of words)
+
+abbrev pub rewrite_options : List (List ℕ) → Result Effect AtByte
+rewrite_options words = given_by (λ inherit. Gives (given.Inherits inherit)) (inherit_of words)
+
+abbrev pub rewrite_cond : Giving
+rewrite_cond among words = given_by (λ cond. Gives (given.Condition cond)) (cond_of among.entry.spot words)
+
+abbrev pub rewrite_rule : Giving
+rewrite_rule among words = given_by (λ made. Gives (given.Rewrite made)) (rule_read among.entry.spot among.behind words)
+
+abbrev pub rewrite_map : List (List ℕ) → Result Effect AtByte
+rewrite_map words = given_by (λ map. Gives (given.Values map)) (map_of words)
+
+abbrev pub recursion : List (List ℕ) → Result Effect AtByte
+recursion words = given_by (λ limit. Gives (given.Recursion limit)) (recursion_of words)
+
 -- ---- sections that apply under a condition
 
 abbrev pub branches : Among → Branch → Effect
 branches among branch =
-    Opens (record { spot = among.entry.spot; opened = Reached (When branch.test); otherwise = branch.otherwise })
+    Opens (record { spot = among.entry.spot; opened = Reached (When branch.test); otherwise = branch.otherwise; wild = false })
 
 -- One word, which is an expression.
 abbrev pub branch_by : (Expr → Branch) → Giving
@@ -213,12 +254,23 @@ else_section among words = behind_chain among.otherwise (last_by among words)
 
 -- ---- by meaning
 
+abbrev pub rewrite_givings : List (ℕ × Giving)
+rewrite_givings =
+    (REWRITE_ENGINE, by_words rewrite_engine) ∷
+    (REWRITE_BASE, by_words rewrite_base) ∷
+    (REWRITE_COND, rewrite_cond) ∷
+    (REWRITE_RULE, rewrite_rule) ∷
+    (REWRITE_OPTIONS, by_words rewrite_options) ∷
+    (REWRITE_MAP, by_words rewrite_map) ∷
+    (LIMIT_INTERNAL_RECURSION, by_words recursion) ∷
+    []
+
 abbrev pub condition_givings : List (ℕ × Giving)
 condition_givings =
     (IF, branch_by first_branch) ∷
     (ELSE_IF, else_if) ∷
     (ELSE, else_section) ∷
-    []
+    rewrite_givings
 
 abbrev pub require_givings : List (ℕ × Giving)
 require_givings =
@@ -237,7 +289,7 @@ server_givings =
     (OPTIONS, by_words options) ∷
     (ALLOW_OVERRIDE, by_words allow_override) ∷
     (VIRTUAL_HOST, virtual_host) ∷
-    (DIRECTORY, section (plain_or_tilde directory DirSearch)) ∷
+    (DIRECTORY, directory_section) ∷
     (DIRECTORY_MATCH, section (pattern_alone DirSearch)) ∷
     (FILES, section (plain_or_tilde name_glob Files)) ∷
     (FILES_MATCH, section (pattern_alone Files)) ∷

@@ -1,7 +1,7 @@
 -- What is open around an entry, and what the servers and sections have so far, while the entries of a
 -- list are taken one after another.
 -- Apache manual, "Configuration Sections"; core, DocumentRoot, ServerName, Options, AllowOverride.
-use Rattle.std.specs.Prelude.{ℕ, ◌-◌, List, [], ◌∷◌, ◌++◌, length, take, slice_get, false, Option, Some, None, option_map, Result, Ok, Err}
+use Rattle.std.specs.Prelude.{ℕ, ◌-◌, Bool, List, [], ◌∷◌, ◌++◌, length, take, slice_get, false, Option, Some, None, option_map, Result, Ok, Err}
 use Rattle.hc_base.specs.declared.place.Place.{Place}
 use Rattle.hc_base.specs.Rules.{refusal_at, rule}
 use Rattle.hc_base.specs.declared.place.Refusal.{Refusal}
@@ -32,6 +32,8 @@ use Rattle.hc_config.specs.declared.gathered.Opening.{Opening}
 use Rattle.hc_config.specs.declared.containers.Container.{Container}
 use Rattle.hc_config.specs.declared.source.Source.{Source}
 use Rattle.hc_config.specs.Requires.{container_rule, section_tree, tree_of}
+use Rattle.hc_config.specs.Rewriting.{no_rewriting, with_cond, with_engine, with_inherit, with_rule}
+use Rattle.hc_config.specs.declared.rewriting.Rewriting.{Rewriting}
 use Rattle.hc_config.specs.Sources.{top_context}
 
 -- ---- contexts
@@ -64,9 +66,13 @@ nothing_gathered = record {
   hosts = [];
   merging = Off;
   members = [];
+  rewriting = no_rewriting;
+  recursion = None;
+  maps_by_name = [];
 }
 
--- The last DocumentRoot, ServerName, AllowOverride and AuthMerging count; of all else every line, in its order.
+-- The last line counts of DocumentRoot, ServerName, AllowOverride, AuthMerging, RewriteEngine, RewriteOptions and
+-- LimitInternalRecursion; of all else every line, in its order.
 abbrev pub with_given : Gathered → Given → Gathered
 with_given gathered (given.Root path) = record gathered { root = Some path }
 with_given gathered (given.Name name) = record gathered { name = Some name }
@@ -77,23 +83,29 @@ with_given gathered (given.Options step) = record gathered { options = gathered.
 with_given gathered (given.Allow allowed) = record gathered { allow = Some allowed }
 with_given gathered (given.Merges merging) = record gathered { merging = merging }
 with_given gathered (given.Member member) = record gathered { members = gathered.members ++ member ∷ [] }
+with_given gathered (given.Engine on) = record gathered { rewriting = with_engine gathered.rewriting on }
+with_given gathered (given.Inherits inherit) = record gathered { rewriting = with_inherit gathered.rewriting inherit }
+with_given gathered (given.Condition cond) = record gathered { rewriting = with_cond gathered.rewriting cond }
+with_given gathered (given.Rewrite made) = record gathered { rewriting = with_rule gathered.rewriting made }
+with_given gathered (given.Recursion limit) = record gathered { recursion = Some limit }
+with_given gathered (given.Values map) = record gathered { maps_by_name = gathered.maps_by_name ++ map ∷ [] }
 
 -- ---- bodies
 
 -- A server keeps its redirects and sections beside its body.
-abbrev pub server_body : List OptStep → Body
-server_body options = roll-Body (record {
+abbrev pub server_body : List OptStep → Rewriting → Body
+server_body options rewriting = roll-Body (record {
   options = options;
   allow = None;
   merging = Off;
   require = None;
-  engine = None;
+  engine = rewriting.engine;
   base = None;
-  rules = [];
-  rewrites = false;
+  rules = rewriting.rules;
+  rewrites = rewriting.stands;
   redirects = [];
   inner = [];
-  inherit = No;
+  inherit = rewriting.inherit;
 })
 
 abbrev pub section_body : Gathered → Body
@@ -120,10 +132,10 @@ server_of place addresses gathered = record {
   root = gathered.root;
   redirects = gathered.redirects;
   maps = gathered.maps;
-  body = server_body gathered.options;
+  body = server_body gathered.options gathered.rewriting;
   sections = gathered.sections;
-  recursion = None;
-  maps_by_name = [];
+  recursion = gathered.recursion;
+  maps_by_name = gathered.maps_by_name;
 }
 
 abbrev pub section_of : Spot → Reach → Gathered → Section
@@ -170,6 +182,14 @@ without_last items = take (length items - 1) items
 abbrev pub context_within : Source → Option Around → ℕ
 context_within source None = top_context source
 context_within source (Some around) = context_inside around.opening.opened
+
+abbrev pub is_wild : Option Around → Bool
+is_wild None = false
+is_wild (Some around) = around.opening.wild
+
+-- The innermost opening is a Directory with wildcards.
+abbrev pub wild_of : Standing → Bool
+wild_of standing = is_wild (last_of standing.around)
 
 -- That of the innermost opening, else that outside all.
 abbrev pub context_of : Source → Standing → ℕ

@@ -1,6 +1,9 @@
 pub mod Rows
+pub mod Kinds
+pub mod Rewriting
 pub mod Targets
 pub mod Statuses
+pub mod Rewrites
 pub mod Requires
 pub mod RequireViews
 pub mod Sources

@@ -3,20 +3,23 @@
 use Rattle.std.specs.Prelude.{ℕ, ◌==◌, List, [], ◌∷◌, Bool, true, false, not, ◌&&◌, ◌||◌, is_some, if◌then◌else◌, Option, Some, None, Result, Ok, Err}
 use Rattle.std.specs.List.{list_any}
 use Rattle.hc_base.specs.Rules.{rule}
-use Rattle.hc_base.specs.declared.codes.TheConstants.{UNSUPPORTED_DIRECTIVE, WRONG_CONTEXT}
+use Rattle.hc_base.specs.declared.codes.TheConstants.{REWRITE_CONTEXT, UNSUPPORTED_DIRECTIVE, WRONG_CONTEXT}
 use Rattle.hc_base.specs.declared.fault.AtByte.{AtByte}
 use Rattle.hc_lines.specs.Words.{Spelling, conf_spelling, read_words, rewrite_spelling}
 use Rattle.hc_model.specs.declared.entry.EntryForm.{EntryForm}
 use Rattle.hc_model.specs.declared.entry.EntryForm.TheVariants.{Close, Directive, Opening}
 use Rattle.hc_table.specs.Directives.{directive_rows, is_container}
 use Rattle.hc_table.specs.Table.{find_in}
-use Rattle.hc_table.specs.declared.meaning.TheConstants.{DIRECTORY, DIRECTORY_MATCH, FILES, FILES_MATCH, LOCATION, LOCATION_MATCH, VIRTUAL_HOST}
-use Rattle.hc_table.specs.declared.meaning.TheConstants.{ELSE, ELSE_IF, IF, REQUIRE, REQUIRE_ALL, REQUIRE_ANY, REQUIRE_NONE}
+use Rattle.hc_table.specs.declared.context.TheConstants as context
+use Rattle.hc_table.specs.declared.meaning.TheConstants.{ELSE, ELSE_IF, REQUIRE, REQUIRE_ALL, REQUIRE_ANY, REQUIRE_NONE}
+use Rattle.hc_table.specs.declared.meaning.TheConstants.{REWRITE_BASE, REWRITE_COND, REWRITE_ENGINE, REWRITE_MAP, REWRITE_OPTIONS, REWRITE_RULE}
 use Rattle.hc_table.specs.declared.table.RowKind.{RowKind}
 use Rattle.hc_table.specs.declared.table.Wording.{Wording}
 use Rattle.hc_table.specs.declared.table.Wording.TheVariants.{Configuration, Rewriting}
 use Rattle.hc_config.specs.Among.{Among}
 use Rattle.hc_config.specs.Directives.{Giving, giving}
+use Rattle.hc_expr.specs.Reading.{lesser}
+use Rattle.hc_config.specs.Kinds.{is_level}
 use Rattle.hc_config.specs.Requires.{has_unknown_kind, line_of}
 use Rattle.hc_config.specs.Sources.{is_forbidden, may_stand, unless_forbidden}
 use Rattle.hc_config.specs.declared.source.Source.{Source}
@@ -70,26 +73,65 @@ misplaced kind among =
     if (kind.meaning == REQUIRE) && unknown_kind (read_words (spelling_of kind.wording) among.entry.rest)
     then UNSUPPORTED_DIRECTIVE else WRONG_CONTEXT
 
+-- What its words give, wherever it stands.
+unfoldable pub read_given : RowKind → Among → Result Effect AtByte
+read_given kind among = if_read (read_words (spelling_of kind.wording) among.entry.rest) (giving kind.meaning) among
+
 -- A place where it may not stand.
 abbrev pub if_placed : Source → Bool → RowKind → Among → Result Effect AtByte
 if_placed source false kind among = Err (rule (misplaced kind among))
 if_placed source true kind among =
-    unless_forbidden (is_forbidden source kind)
-    (if_read (read_words (spelling_of kind.wording) among.entry.rest) (giving kind.meaning) among)
+    unless_forbidden (is_forbidden source kind) (read_given kind among)
+
+-- ---- rewriting, which stands in servers and in plain directories
+
+abbrev pub is_one_of : List ℕ → ℕ → Bool
+is_one_of numbers number = list_any (λ other. number == other) numbers
+
+-- The directives of rewriting that directories may have.
+abbrev pub of_directories : List ℕ
+of_directories = REWRITE_ENGINE ∷ REWRITE_BASE ∷ REWRITE_COND ∷ REWRITE_RULE ∷ REWRITE_OPTIONS ∷ []
+
+abbrev pub of_rewriting : List ℕ
+of_rewriting = REWRITE_MAP ∷ of_directories
+
+-- Sections that no directory stands for.
+abbrev pub apart : List ℕ
+apart = context.DIRECTORY_MATCH ∷ context.FILES ∷ context.LOCATION ∷ context.IF_SECTION ∷ []
+
+abbrev pub in_wild_directory : ℕ → Among → Bool
+in_wild_directory place among = (place == context.DIRECTORY) && among.wild
+
+abbrev pub stands_apart : ℕ → RowKind → Among → Bool
+stands_apart place kind among =
+    (is_one_of of_rewriting kind.meaning && is_one_of apart place)
+    || (is_one_of of_directories kind.meaning && in_wild_directory place among)
+
+-- The smaller number counts.
+abbrev pub refused_behind : AtByte → Result Effect AtByte → Result Effect AtByte
+refused_behind broken (Ok effect) = Err broken
+refused_behind broken (Err earlier) = Err (lesser earlier broken)
+
+abbrev pub judged_apart : Source → RowKind → Among → Result Effect AtByte
+judged_apart source kind among =
+    unless_forbidden (is_forbidden source kind) (refused_behind (rule REWRITE_CONTEXT) (read_given kind among))
+
+-- The rules of directories are not built yet.
+abbrev pub is_pending : ℕ → RowKind → Bool
+is_pending place kind = is_one_of of_directories kind.meaning && is_one_of (context.DIRECTORY ∷ context.HTACCESS ∷ []) place
+
+-- ---- where it stands
+
+abbrev pub if_known : Source → ℕ → RowKind → Among → Result Effect AtByte
+if_known source place kind among =
+    if stands_apart place kind among then judged_apart source kind among
+    else (if is_pending place kind then Err (rule UNSUPPORTED_DIRECTIVE)
+    else if_placed source (may_stand source place kind && follows_its_chain kind among) kind among)
 
 -- A name that is not supported.
 abbrev pub if_supported : Source → ℕ → Option RowKind → Among → Result Effect AtByte
-if_supported source context None among = Err (rule UNSUPPORTED_DIRECTIVE)
-if_supported source context (Some kind) among =
-    if_placed source (may_stand source context kind && follows_its_chain kind among) kind among
-
--- The sections that have settings of their own. What stands in another one stands where that does.
-abbrev pub levels : List ℕ
-levels = VIRTUAL_HOST ∷ DIRECTORY ∷ DIRECTORY_MATCH ∷ FILES ∷ FILES_MATCH ∷ LOCATION ∷ LOCATION_MATCH ∷ IF ∷ ELSE_IF ∷ ELSE ∷ []
-
-abbrev pub is_level : Option RowKind → Bool
-is_level None = false
-is_level (Some kind) = list_any (λ level. kind.meaning == level) levels
+if_supported source place None among = Err (rule UNSUPPORTED_DIRECTIVE)
+if_supported source place (Some kind) among = if_known source place kind among
 
 abbrev pub require_containers : List ℕ
 require_containers = REQUIRE_ALL ∷ REQUIRE_ANY ∷ REQUIRE_NONE ∷ []

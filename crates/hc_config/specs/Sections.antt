@@ -3,13 +3,14 @@
 -- slash of a Directory is dropped is our own choice.
 use Rattle.std.specs.Prelude.{ℕ, true, false, List, [], ◌∷◌, Result, Ok, Err, codes, if◌then◌else◌}
 use Rattle.std.specs.Str.{bytes_eq}
+use Rattle.hc_base.specs.Paths.{without_final_slash}
 use Rattle.hc_base.specs.declared.fault.AtByte.{AtByte}
 use Rattle.hc_model.specs.declared.section.Reach.{Reach}
 use Rattle.hc_model.specs.declared.section.Reach.TheVariants.{Dir, Files, Location, LocationGlob}
 use Rattle.hc_pattern.specs.Globs.{glob_pattern, has_wildcard}
 use Rattle.hc_pattern.specs.Pattern.{Pattern}
 use Rattle.hc_pattern.specs.Reading.{parse_pattern}
-use Rattle.hc_config.specs.Targets.{without_final_slash, wrong}
+use Rattle.hc_config.specs.Targets.{wrong}
 
 -- A pattern that is read, as a reach.
 abbrev pub reached_by : (Pattern → Reach) → Result Pattern AtByte → Result Reach AtByte

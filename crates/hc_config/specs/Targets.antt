@@ -1,11 +1,11 @@
 -- Where aliases and redirects look, and where they lead.
 -- Apache manual, mod_alias: AliasMatch, Redirect, RedirectMatch. What is kept for other signs is our
 -- own choice.
-use Rattle.std.specs.Prelude.{ℕ, ◌-◌, ◌==◌, List, [], ◌∷◌, ◌||◌, ◌&&◌, Bool, true, false, length, take, nat_lt}
+use Rattle.std.specs.Prelude.{ℕ, ◌==◌, List, [], ◌∷◌, ◌||◌, Bool, true, false}
 use Rattle.std.specs.Prelude.{if◌then◌else◌, Result, Ok, Err}
 use Rattle.std.specs.List.{list_any}
 use Rattle.hc_base.specs.Bytes.{ampersand, backslash}
-use Rattle.hc_base.specs.Paths.{begins_with_slash, ends_with_slash}
+use Rattle.hc_base.specs.Paths.{begins_with_slash}
 use Rattle.hc_base.specs.Rules.{rule}
 use Rattle.hc_base.specs.declared.codes.TheConstants.{WRONG_ARGUMENTS}
 use Rattle.hc_base.specs.declared.fault.AtByte.{AtByte}
@@ -15,6 +15,7 @@ use Rattle.hc_model.specs.declared.template.Piece.{Piece}
 use Rattle.hc_model.specs.declared.template.Piece.TheVariants.{Bytes}
 use Rattle.hc_pattern.specs.Reading.{parse_pattern}
 use Rattle.hc_template.specs.Reading.{template}
+use Rattle.hc_template.specs.declared.signs.Names.TheVariants.{NoName}
 use Rattle.hc_template.specs.declared.signs.Signs.{Signs}
 use Rattle.hc_config.specs.declared.targets.PathForm.{PathForm}
 use Rattle.hc_config.specs.declared.targets.PathForm.TheVariants.{Plain, Match}
@@ -35,17 +36,11 @@ abbrev pub test_by : PathForm → List ℕ → Result PathTest AtByte
 test_by Plain word = prefix_test word
 test_by Match word = search_test word
 
--- ---- paths
-
--- A final slash is dropped, but for `/`.
-abbrev pub without_final_slash : List ℕ → List ℕ
-without_final_slash path = if nat_lt 1 (length path) && ends_with_slash path then take (length path - 1) path else path
-
 -- ---- targets
 
 -- `$0` to `$9` stand for groups, and all other bytes for themselves.
 abbrev pub groups_alone : Signs
-groups_alone = record { groups = true; conditions = false; names = false; escapes = false }
+groups_alone = record { groups = true; conditions = false; names = NoName; escapes = false; lookups = false }
 
 -- Signs of what is not supported.
 abbrev pub is_other_sign : ℕ → Bool

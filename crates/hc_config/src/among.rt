@@ -23,6 +23,8 @@ pub(crate) struct Among<'e, 's> {
     pub container: Option<Container>,
     /// Where none of the chain of `<If>` and `<ElseIf>` right before it applies.
     pub otherwise: Option<&'s Expr>,
+    /// It stands right in a `<Directory>` with wildcards.
+    pub wild: bool,
     pub entries: &'e Entries,
     /// Its place among them.
     pub place: usize,

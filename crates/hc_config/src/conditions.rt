@@ -86,6 +86,7 @@ fn branches(among: &Among, branch: Branch) -> Result<Effect, NoMemory>
         spot: spot_of(among.entry)?,
         opened: Opened::Reached(Reach::When(branch.test)),
         otherwise: branch.otherwise,
+        wild: false,
     }))
 }
 

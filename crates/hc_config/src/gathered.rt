@@ -3,15 +3,17 @@ ghost use Rattle.hc_config.specs.Levels.{nothing_gathered, section_body, section
 ghost use Rattle.hc_config.specs.Levels.{with_closed, with_given};
 
 use crate::containers::{Container, section_tree};
+use crate::rewriting::Rewriting;
 use hc_base::{List, NoMemory, Place, Text};
 use hc_model::{
-    Alias, Allowed, Body, Expr, HostAddr, Inherit, Merging, OptStep, Reach, Redirect, ReqTree,
-    Section, Server, Spot,
+    Alias, Allowed, Body, Cond, Expr, HostAddr, Inherit, Map, Merging, OptStep, Reach, Redirect,
+    ReqTree, Rule, Section, Server, Spot,
 };
 use std::alloc::Global;
 use std::mem::replace;
 
-/// What a directive gives to the server or section in which it stands (Apache manual, core and mod_alias).
+/// What a directive gives to the server or section in which it stands (Apache manual, core, mod_alias and
+/// mod_rewrite).
 #[derive(Drop)]
 pub(crate) enum Given {
     /// `DocumentRoot`.
@@ -32,6 +34,18 @@ pub(crate) enum Given {
     Merges(Merging),
     /// A Require line, or a container that is closed.
     Member(ReqTree),
+    /// `RewriteEngine`.
+    Engine(bool),
+    /// `RewriteOptions`.
+    Inherits(Inherit),
+    /// `RewriteCond`.
+    Condition(Cond),
+    /// `RewriteRule`.
+    Rewrite(Rule),
+    /// `LimitInternalRecursion`.
+    Recursion(u32),
+    /// `RewriteMap`.
+    Values(Map),
 }
 
 /// What an opening opens.
@@ -49,6 +63,8 @@ pub(crate) struct Opening {
     pub opened: Opened,
     /// For an `<If>` or `<ElseIf>`: where none of its chain up to it applies.
     pub otherwise: Option<Expr>,
+    /// A `<Directory>` with wildcards.
+    pub wild: bool,
 }
 
 /// A container of Require lines, and the place of its opening.
@@ -80,6 +96,9 @@ pub(crate) struct Gathered {
     pub merging: Merging,
     /// The Require lines and containers of the innermost container, else of the section.
     pub members: List<ReqTree>,
+    pub rewriting: Rewriting,
+    pub recursion: Option<u32>,
+    pub maps_by_name: List<Map>,
 }
 
 impl Gathered {
@@ -100,10 +119,14 @@ impl Gathered {
             hosts: List::new(alloc),
             merging: Merging::Off,
             members: List::new(alloc),
+            rewriting: Rewriting::nothing(alloc),
+            recursion: None,
+            maps_by_name: List::new(alloc),
         }
     }
 
-    /// The last DocumentRoot, ServerName, AllowOverride and AuthMerging count; of all else every line.
+    /// The last line counts of DocumentRoot, ServerName, AllowOverride, AuthMerging, RewriteEngine,
+    /// RewriteOptions and LimitInternalRecursion; of all else every line.
     pub(crate) fn take(&mut self, given: Given) -> Result<(), NoMemory>
         ensures { OnOk result (self.new ≡ with_given self.old given) }
     {
@@ -121,6 +144,12 @@ impl Gathered {
             Given::Allow(allowed) => self.allow = Some(allowed),
             Given::Merges(merging) => self.merging = merging,
             Given::Member(member) => self.members.push(member)?,
+            Given::Engine(on) => self.rewriting.set_engine(on),
+            Given::Inherits(inherit) => self.rewriting.set_inherit(inherit),
+            Given::Condition(cond) => self.rewriting.push_cond(cond)?,
+            Given::Rewrite(rule) => self.rewriting.push_rule(rule)?,
+            Given::Recursion(limit) => self.recursion = Some(limit),
+            Given::Values(map) => self.maps_by_name.push(map)?,
         }
         Ok(())
     }
@@ -142,10 +171,10 @@ impl Gathered {
             root: self.root,
             redirects: self.redirects,
             maps: self.maps,
-            body: server_body(alloc, self.options),
+            body: server_body(alloc, self.options, self.rewriting),
             sections: self.sections,
-            recursion: None,
-            maps_by_name: List::new(alloc),
+            recursion: self.recursion,
+            maps_by_name: self.maps_by_name,
         }
     }
 
@@ -219,20 +248,20 @@ fn joined(mut names: List<Text>, more: &[Text]) -> Result<List<Text>, NoMemory>
 }
 
 // A server keeps its redirects and sections beside its body.
-fn server_body(alloc: Global, options: List<OptStep>) -> Body
-    ensures { result ≡ server_body options }
+fn server_body(alloc: Global, options: List<OptStep>, rewriting: Rewriting) -> Body
+    ensures { result ≡ server_body options rewriting }
 {
     Body {
         options,
         allow: None,
         merging: Merging::Off,
         require: None,
-        engine: None,
+        engine: rewriting.engine,
         base: None,
-        rules: List::new(alloc),
-        rewrites: false,
+        rules: rewriting.rules,
+        rewrites: rewriting.stands,
         redirects: List::new(alloc),
         inner: List::new(alloc),
-        inherit: Inherit::No,
+        inherit: rewriting.inherit,
     }
 }

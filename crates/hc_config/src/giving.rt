@@ -1,8 +1,11 @@
 //! What each directive and section gives, by its meaning.
-ghost use Rattle.std.specs.Prelude.{◌≡◌, is_some, Ok};
+ghost use Rattle.std.specs.Prelude.{◌≡◌, is_some, map, Ok};
 ghost use Rattle.hc_base.specs.Gives.{Gives};
+ghost use Rattle.hc_table.specs.Directives.{directive_rows};
+ghost use Rattle.hc_table.specs.Table.{row_of};
 ghost use Rattle.hc_config.specs.Among.{among_of};
-ghost use Rattle.hc_config.specs.Directives.{condition_givings, giving, require_givings, server_givings};
+ghost use Rattle.hc_config.specs.Directives.{condition_givings, giving, require_givings, rewrite_givings};
+ghost use Rattle.hc_config.specs.Directives.{server_givings};
 ghost use Rattle.hc_config.specs.Rows.{by_number};
 ghost use Rattle.hc_config.specs.Rules.{if_read};
 
@@ -15,7 +18,11 @@ use crate::effect::{
 };
 use crate::redirect::{redirect, redirect_as};
 use crate::requiring::{auth_merging, require, require_container};
-use crate::sections::{Seen, match_section, section, virtual_host};
+use crate::rewrites::{
+    recursion, rewrite_base, rewrite_cond, rewrite_engine, rewrite_map, rewrite_options,
+    rewrite_rule,
+};
+use crate::sections::{Seen, directory_section, match_section, section, virtual_host};
 use crate::status::{PERMANENT, TEMPORARY};
 use crate::targets::PathForm;
 use hc_base::codes::UNSUPPORTED_DIRECTIVE;
@@ -69,6 +76,13 @@ pub(crate) fn is_built(meaning: u16) -> bool
             | meaning::IF
             | meaning::ELSE_IF
             | meaning::ELSE
+            | meaning::REWRITE_ENGINE
+            | meaning::REWRITE_BASE
+            | meaning::REWRITE_COND
+            | meaning::REWRITE_RULE
+            | meaning::REWRITE_OPTIONS
+            | meaning::REWRITE_MAP
+            | meaning::LIMIT_INTERNAL_RECURSION
             | meaning::IF_DEFINE
             | meaning::IF_MODULE
     )
@@ -76,6 +90,7 @@ pub(crate) fn is_built(meaning: u16) -> bool
 
 /// What a directive gives with these words.
 pub(crate) fn give(meaning: u16, among: &Among, words: &[CowStr]) -> Result<Effect, EffectFault>
+    requires { map row_of among.now.names.now ≡ directive_rows }
     ensures { Gives result (if_read (Ok words.now) (giving meaning) (among_of among.now)) }
 {
     match meaning {
@@ -100,6 +115,7 @@ pub(crate) fn give(meaning: u16, among: &Among, words: &[CowStr]) -> Result<Effe
 
 // What a directive or section of virtual hosts and sections gives.
 fn give_to_server(meaning: u16, among: &Among, words: &[CowStr]) -> Result<Effect, EffectFault>
+    requires { map row_of among.now.names.now ≡ directive_rows }
     ensures { Gives result (if_read (Ok words.now) (by_number meaning server_givings) (among_of among.now)) }
 {
     match meaning {
@@ -108,7 +124,7 @@ fn give_to_server(meaning: u16, among: &Among, words: &[CowStr]) -> Result<Effec
         meaning::OPTIONS => options(among, words),
         meaning::ALLOW_OVERRIDE => allow_override(words),
         meaning::VIRTUAL_HOST => virtual_host(among, words),
-        meaning::DIRECTORY => section(Seen::Directory, among, words),
+        meaning::DIRECTORY => directory_section(among, words),
         meaning::DIRECTORY_MATCH => match_section(Seen::Directory, among, words),
         meaning::FILES => section(Seen::Files, among, words),
         meaning::FILES_MATCH => match_section(Seen::Files, among, words),
@@ -120,6 +136,7 @@ fn give_to_server(meaning: u16, among: &Among, words: &[CowStr]) -> Result<Effec
 
 // What a directive or container of authorization gives.
 fn give_to_require(meaning: u16, among: &Among, words: &[CowStr]) -> Result<Effect, EffectFault>
+    requires { map row_of among.now.names.now ≡ directive_rows }
     ensures { Gives result (if_read (Ok words.now) (by_number meaning require_givings) (among_of among.now)) }
 {
     match meaning {
@@ -138,12 +155,30 @@ fn give_under_condition(
     among: &Among,
     words: &[CowStr],
 ) -> Result<Effect, EffectFault>
+    requires { map row_of among.now.names.now ≡ directive_rows }
     ensures { Gives result (if_read (Ok words.now) (by_number meaning condition_givings) (among_of among.now)) }
 {
     match meaning {
         meaning::IF => if_section(among, words),
         meaning::ELSE_IF => else_if(among, words),
         meaning::ELSE => else_section(among, words),
+        _ => give_to_rewriting(meaning, among, words),
+    }
+}
+
+// What a directive of rewriting gives.
+fn give_to_rewriting(meaning: u16, among: &Among, words: &[CowStr]) -> Result<Effect, EffectFault>
+    requires { map row_of among.now.names.now ≡ directive_rows }
+    ensures { Gives result (if_read (Ok words.now) (by_number meaning rewrite_givings) (among_of among.now)) }
+{
+    match meaning {
+        meaning::REWRITE_ENGINE => rewrite_engine(words),
+        meaning::REWRITE_BASE => rewrite_base(words),
+        meaning::REWRITE_COND => rewrite_cond(among, words),
+        meaning::REWRITE_RULE => rewrite_rule(among, words),
+        meaning::REWRITE_OPTIONS => rewrite_options(words),
+        meaning::REWRITE_MAP => rewrite_map(among, words),
+        meaning::LIMIT_INTERNAL_RECURSION => recursion(words),
         _ => Err(UNSUPPORTED),
     }
 }

@@ -2,7 +2,8 @@ ghost use Rattle.std.specs.Prelude.{◌≡◌, Err, OnOk};
 ghost use Rattle.hc_base.specs.Gives.{Gives};
 ghost use Rattle.hc_base.specs.Rules.{refusal_at, rule};
 ghost use Rattle.hc_config.specs.Levels.{container_of, context_inside, context_of, context_of_reach, holding_opened};
-ghost use Rattle.hc_config.specs.Levels.{innermost_closed, innermost_released, nothing_standing, opened, with_given};
+ghost use Rattle.hc_config.specs.Levels.{innermost_closed, innermost_released, nothing_standing, opened, wild_of};
+ghost use Rattle.hc_config.specs.Levels.{with_given};
 ghost use Rattle.hc_config.specs.LevelViews.{left_by, standing_of};
 
 use crate::config::BuildFault;
@@ -56,6 +57,16 @@ impl Standing {
         match self.around.last() {
             Some(around) => context_inside(&around.opening.opened),
             None => source.top_context(),
+        }
+    }
+
+    /// An entry that comes next stands right in a `<Directory>` with wildcards.
+    pub(crate) fn is_wild(&self) -> bool
+        ensures { result ≡ wild_of (standing_of self.now) }
+    {
+        match self.around.last() {
+            Some(around) => around.opening.wild,
+            None => false,
         }
     }
 
@@ -125,6 +136,7 @@ impl Standing {
             spot,
             opened,
             otherwise,
+            wild: _,
         } = around.opening;
         self.held = around.held;
         self.otherwise = otherwise;

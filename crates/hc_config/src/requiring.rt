@@ -63,7 +63,8 @@ fn line_of<'w, 't>(words: &'w [CowStr<'t>]) -> Line<'w, 't>
     }
 }
 
-fn is_word(fixed: &str, word: &CowStr) -> bool
+/// The word is this one, without case.
+pub(crate) fn is_word(fixed: &str, word: &CowStr) -> bool
     ensures { result ≡ is_word fixed.now word.now }
 {
     fixed.eq_ignore_ascii_case(word.as_str())

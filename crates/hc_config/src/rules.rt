@@ -1,26 +1,30 @@
-ghost use Rattle.std.specs.Prelude.{◌≡◌, ◌==◌, ◌&&◌, is_some, map, true, IfOk, Some};
+ghost use Rattle.std.specs.Prelude.{◌≡◌, ◌==◌, ◌&&◌, ◌||◌, is_some, map, true, IfOk, Result, Some};
 ghost use Rattle.std.specs.List.{list_any};
 ghost use Rattle.hc_base.specs.Gives.{Gives, GivesList};
+ghost use Rattle.hc_base.specs.Rules.{rule};
 ghost use Rattle.hc_flat.specs.EntriesView.{entry_of};
 ghost use Rattle.hc_lines.specs.Words.{read_words};
 ghost use Rattle.hc_table.specs.Directives.{directive_rows};
 ghost use Rattle.hc_table.specs.Table.{find_in, row_of};
 ghost use Rattle.hc_config.specs.Among.{among_of};
 ghost use Rattle.hc_config.specs.Directives.{giving};
-ghost use Rattle.hc_config.specs.Rules.{closing, follows_its_chain, if_placed, if_read, if_supported};
-ghost use Rattle.hc_config.specs.Rules.{is_closing, is_of_form, judged, levels, misplaced};
-ghost use Rattle.hc_config.specs.Rules.{require_containers, spelling_of, supported, unknown_kind};
+ghost use Rattle.hc_config.specs.Rules.{apart, closing, follows_its_chain, if_known, if_placed};
+ghost use Rattle.hc_config.specs.Rules.{in_wild_directory, is_closing, is_of_form, is_one_of, is_pending, judged};
+ghost use Rattle.hc_config.specs.Rules.{judged_apart, of_directories, of_rewriting, read_given, refused_behind};
+ghost use Rattle.hc_config.specs.Rules.{require_containers, spelling_of, stands_apart, supported, unknown_kind};
+ghost use Rattle.hc_config.specs.Sources.{may_stand, unless_forbidden};
 
 use crate::among::Among;
 use crate::effect::{Effect, EffectFault};
 use crate::giving::{give, is_built};
+use crate::kinds::is_level;
 use crate::requiring::has_unknown_kind;
-use hc_base::codes::{OVERRIDE_NOT_ALLOWED, UNSUPPORTED_DIRECTIVE, WRONG_CONTEXT};
+use hc_base::codes::{OVERRIDE_NOT_ALLOWED, REWRITE_CONTEXT, UNSUPPORTED_DIRECTIVE, WRONG_CONTEXT};
 use hc_base::{AtByte, CowStr, Fault, NoMemory};
 use hc_flat::EntryView;
 use hc_lines::{conf_words, rewrite_words};
 use hc_model::EntryForm;
-use hc_table::{Row, RowKind, Wording, find_in, meaning};
+use hc_table::{Row, RowKind, Wording, context, find_in, meaning};
 use std::alloc::Global;
 
 /// What an entry gives, or the first rule that it breaks.
@@ -49,7 +53,7 @@ fn closing(kind: Option<RowKind>) -> Effect
     ensures { result ≡ closing kind }
 {
     match kind {
-        Some(kind) if is_level(kind.meaning) => Effect::Closes,
+        kind if is_level(kind) => Effect::Closes,
         Some(kind) if is_require_container(kind.meaning) => Effect::Releases,
         _ => Effect::Nothing,
     }
@@ -61,24 +65,6 @@ fn is_require_container(meaning: u16) -> bool
     matches!(
         meaning,
         meaning::REQUIRE_ALL | meaning::REQUIRE_ANY | meaning::REQUIRE_NONE
-    )
-}
-
-fn is_level(meaning: u16) -> bool
-    ensures { result ≡ list_any (λ level. meaning == level) levels }
-{
-    matches!(
-        meaning,
-        meaning::VIRTUAL_HOST
-            | meaning::DIRECTORY
-            | meaning::DIRECTORY_MATCH
-            | meaning::FILES
-            | meaning::FILES_MATCH
-            | meaning::LOCATION
-            | meaning::LOCATION_MATCH
-            | meaning::IF
-            | meaning::ELSE_IF
-            | meaning::ELSE
     )
 }
 
@@ -116,10 +102,26 @@ fn is_of_form(form: EntryForm, meaning: u16) -> bool
     }
 }
 
-// An entry of this row, where it may stand.
+// An entry of this row.
 fn judge_as(kind: RowKind, among: &Among) -> Result<Effect, EffectFault>
     requires { map row_of among.now.names.now ≡ directive_rows }
-    ensures { Gives result (if_supported among.now.source among.now.context (Some kind) (among_of among.now)) }
+    ensures { Gives result (if_known among.now.source among.now.context kind (among_of among.now)) }
+{
+    if stands_apart(kind, among) {
+        judge_apart(kind, among)
+    } else if is_pending(among.context, kind) {
+        Err(broken(UNSUPPORTED_DIRECTIVE))
+    } else {
+        judge_placed(kind, among)
+    }
+}
+
+// Where it may stand.
+fn judge_placed(kind: RowKind, among: &Among) -> Result<Effect, EffectFault>
+    requires { map row_of among.now.names.now ≡ directive_rows }
+    ensures { Gives result (if_placed among.now.source
+        (may_stand among.now.source among.now.context kind && follows_its_chain kind (among_of among.now))
+        kind (among_of among.now)) }
 {
     if among.source.may_stand(among.context, kind) && follows_its_chain(kind, among) {
         return read_where_allowed(kind, among);
@@ -128,6 +130,57 @@ fn judge_as(kind: RowKind, among: &Among) -> Result<Effect, EffectFault>
         return Err(broken(UNSUPPORTED_DIRECTIVE));
     }
     Err(broken(WRONG_CONTEXT))
+}
+
+// A directive of rewriting where no directory of its own stands.
+fn stands_apart(kind: RowKind, among: &Among) -> bool
+    ensures { result ≡ stands_apart among.now.context kind (among_of among.now) }
+{
+    (is_of_rewriting(kind.meaning) && is_apart(among.context))
+        || (is_of_directories(kind.meaning) && in_wild_directory(among))
+}
+
+fn in_wild_directory(among: &Among) -> bool
+    ensures { result ≡ in_wild_directory among.now.context (among_of among.now) }
+{
+    among.context == context::DIRECTORY && among.wild
+}
+
+// The rules of directories are not built yet.
+fn is_pending(place: u16, kind: RowKind) -> bool
+    ensures { result ≡ is_pending place kind }
+{
+    is_of_directories(kind.meaning) && matches!(place, context::DIRECTORY | context::HTACCESS)
+}
+
+fn is_of_rewriting(meaning: u16) -> bool
+    ensures { result ≡ is_one_of of_rewriting meaning }
+{
+    meaning == meaning::REWRITE_MAP || is_of_directories(meaning)
+}
+
+// The directives of rewriting that directories may have.
+fn is_of_directories(meaning: u16) -> bool
+    ensures { result ≡ is_one_of of_directories meaning }
+{
+    matches!(
+        meaning,
+        meaning::REWRITE_ENGINE
+            | meaning::REWRITE_BASE
+            | meaning::REWRITE_COND
+            | meaning::REWRITE_RULE
+            | meaning::REWRITE_OPTIONS
+    )
+}
+
+// Sections that no directory stands for.
+fn is_apart(context: u16) -> bool
+    ensures { result ≡ is_one_of apart context }
+{
+    matches!(
+        context,
+        context::DIRECTORY_MATCH | context::FILES | context::LOCATION | context::IF_SECTION
+    )
 }
 
 // A Require line of a kind that is not known.
@@ -151,10 +204,30 @@ fn follows_its_chain(kind: RowKind, among: &Among) -> bool
 
 // Of a rule that it breaks and that its class is not allowed the smaller number counts.
 fn read_where_allowed(kind: RowKind, among: &Among) -> Result<Effect, EffectFault>
+    requires { map row_of among.now.names.now ≡ directive_rows }
     ensures { Gives result (if_placed among.now.source true kind (among_of among.now)) }
 {
     let given = read_and_give(kind, among);
-    if !among.source.is_forbidden(kind) {
+    unless_forbidden(among.source.is_forbidden(kind), given)
+}
+
+// The same of a rule that it breaks, of where it stands and of its class.
+fn judge_apart(kind: RowKind, among: &Among) -> Result<Effect, EffectFault>
+    requires { map row_of among.now.names.now ≡ directive_rows }
+    ensures { Gives result (judged_apart among.now.source kind (among_of among.now)) }
+{
+    let refused = refused_behind(read_and_give(kind, among));
+    unless_forbidden(among.source.is_forbidden(kind), refused)
+}
+
+fn unless_forbidden(
+    forbidden: bool,
+    given: Result<Effect, EffectFault>,
+) -> Result<Effect, EffectFault>
+    ensures { (wanted : Result Effect AtByte) → Gives given wanted
+        → Gives result (unless_forbidden forbidden wanted) }
+{
+    if !forbidden {
         return given;
     }
     match given {
@@ -164,9 +237,22 @@ fn read_where_allowed(kind: RowKind, among: &Among) -> Result<Effect, EffectFaul
     }
 }
 
+// It may not stand there, whatever its words.
+fn refused_behind(given: Result<Effect, EffectFault>) -> Result<Effect, EffectFault>
+    ensures { (wanted : Result Effect AtByte) → Gives given wanted
+        → Gives result (refused_behind (rule REWRITE_CONTEXT) wanted) }
+{
+    match given {
+        Err(Fault::NoMemory) => Err(Fault::NoMemory),
+        Err(Fault::Refused(rule)) if rule.code <= REWRITE_CONTEXT => Err(Fault::Refused(rule)),
+        _ => Err(broken(REWRITE_CONTEXT)),
+    }
+}
+
+#[tactic(auto, unfolding(crate::specs::Rules::read_given))]
 fn read_and_give(kind: RowKind, among: &Among) -> Result<Effect, EffectFault>
-    ensures { Gives result (if_read (read_words (spelling_of kind.wording) (among_of among.now).entry.rest)
-        (giving kind.meaning) (among_of among.now)) }
+    requires { map row_of among.now.names.now ≡ directive_rows }
+    ensures { Gives result (read_given kind (among_of among.now)) }
 {
     match read_as(among.alloc, kind.wording, among.entry.rest) {
         Ok(words) => give(kind.meaning, among, &words),

@@ -1,8 +1,9 @@
-ghost use Rattle.std.specs.Prelude.{◌≡◌, Ok};
+ghost use Rattle.std.specs.Prelude.{◌≡◌, IfOk, Ok};
 ghost use Rattle.hc_base.specs.Gives.{Gives};
 ghost use Rattle.hc_model.specs.declared.section.Reach.TheVariants.{LocationGlob};
 ghost use Rattle.hc_config.specs.Among.{among_of};
-ghost use Rattle.hc_config.specs.Directives.{opens, section, virtual_host};
+ghost use Rattle.hc_config.specs.Directives.{directory_section, has_wildcards, opens, opens_as, section};
+ghost use Rattle.hc_config.specs.Directives.{virtual_host};
 ghost use Rattle.hc_config.specs.Sections.{directory, location, name_glob, path_glob, pattern_alone, plain_or_tilde};
 ghost use Rattle.hc_config.specs.Sections.{searched};
 ghost use Rattle.hc_config.specs.SectionViews.{plain_of, reach_of};
@@ -11,8 +12,8 @@ use crate::among::{Among, spot_of};
 use crate::effect::{Effect, EffectFault, REFUSED};
 use crate::gathered::{Opened, Opening};
 use crate::hosts::host_addrs;
-use crate::targets::without_final_slash;
-use hc_base::{CowStr, Text};
+use hc_base::paths::without_final_slash;
+use hc_base::{CowStr, NoMemory, Text};
 use hc_model::{Reach, Regex};
 use hc_pattern::{glob_pattern, has_wildcard, parse_pattern};
 use std::alloc::Global;
@@ -39,16 +40,40 @@ pub(crate) fn virtual_host(among: &Among, words: &[CowStr]) -> Result<Effect, Ef
     opens(among, Opened::Host(addresses))
 }
 
-/// `<Directory path>` and its like, or `~` and a pattern (core).
+/// `<Directory path>`, or `~` and a pattern (core). A path with wildcards is no directory of its own.
+pub(crate) fn directory_section(among: &Among, words: &[CowStr]) -> Result<Effect, EffectFault>
+    ensures { Gives result (directory_section (among_of among.now) words.now) }
+{
+    let reach = reach_by(among.alloc, Seen::Directory, words)?;
+    let wild = has_wildcards(among.alloc, words)?;
+    opens_as(wild, among, Opened::Reached(reach))
+}
+
+fn has_wildcards(alloc: Global, words: &[CowStr]) -> Result<bool, NoMemory>
+    ensures { IfOk result (λ wild. wild ≡ has_wildcards words.now) }
+{
+    match words {
+        [word] => has_wildcard(alloc, without_final_slash(word.as_str().as_bytes())),
+        _ => Ok(false),
+    }
+}
+
+/// `<Files name>` and `<Location url-path>`, or `~` and a pattern (core).
 pub(crate) fn section(seen: Seen, among: &Among, words: &[CowStr]) -> Result<Effect, EffectFault>
     ensures { Gives result (section (plain_or_tilde (plain_of seen) (reach_of seen)) (among_of among.now) words.now) }
 {
-    let reach = match words {
-        [word] => plain(among.alloc, seen, word.as_str().as_bytes())?,
-        [sign, word] if sign.as_str() == "~" => searched(among.alloc, seen, word)?,
-        _ => return Err(REFUSED),
-    };
+    let reach = reach_by(among.alloc, seen, words)?;
     opens(among, Opened::Reached(reach))
+}
+
+fn reach_by(alloc: Global, seen: Seen, words: &[CowStr]) -> Result<Reach, EffectFault>
+    ensures { Gives result (plain_or_tilde (plain_of seen) (reach_of seen) words.now) }
+{
+    match words {
+        [word] => plain(alloc, seen, word.as_str().as_bytes()),
+        [sign, word] if sign.as_str() == "~" => searched(alloc, seen, word),
+        _ => Err(REFUSED),
+    }
 }
 
 /// `<DirectoryMatch pattern>` and its like (core).
@@ -69,10 +94,17 @@ pub(crate) fn match_section(
 fn opens(among: &Among, opened: Opened) -> Result<Effect, EffectFault>
     ensures { Gives result (Ok (opens (among_of among.now) opened)) }
 {
+    opens_as(false, among, opened)
+}
+
+fn opens_as(wild: bool, among: &Among, opened: Opened) -> Result<Effect, EffectFault>
+    ensures { Gives result (Ok (opens_as wild (among_of among.now) opened)) }
+{
     Ok(Effect::Opens(Opening {
         spot: spot_of(among.entry)?,
         opened,
         otherwise: None,
+        wild,
     }))
 }
 

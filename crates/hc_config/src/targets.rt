@@ -4,14 +4,14 @@ ghost use Rattle.hc_base.specs.Gives.{Gives};
 ghost use Rattle.hc_base.specs.Paths.{begins_with_slash};
 ghost use Rattle.hc_model.specs.declared.template.Piece.TheVariants.{Bytes};
 ghost use Rattle.hc_config.specs.Targets.{group_target, is_other_sign, own_target_by, prefix_test, search_test};
-ghost use Rattle.hc_config.specs.Targets.{target_by, test_by, without_final_slash};
+ghost use Rattle.hc_config.specs.Targets.{target_by, test_by};
 
 use crate::effect::{EffectFault, REFUSED};
-use hc_base::paths::{begins_with_slash, ends_with_slash};
+use hc_base::paths::begins_with_slash;
 use hc_base::{CowStr, List, NoMemory, Text};
 use hc_model::{PathTest, Piece, Regex, Template};
 use hc_pattern::parse_pattern;
-use hc_template::{Signs, read_template};
+use hc_template::{Names, Signs, read_template};
 use std::alloc::Global;
 
 /// How an alias or a redirect says its paths and its target.
@@ -102,8 +102,9 @@ fn text_alone(alloc: Global, text: &[u8]) -> Result<Template, NoMemory>
 const GROUPS_ALONE: Signs = Signs {
     groups: true,
     conditions: false,
-    names: false,
+    names: Names::NoName,
     escapes: false,
+    lookups: false,
 };
 
 // A target in which `$0` to `$9` stand for groups.
@@ -126,15 +127,4 @@ fn is_other_sign(byte: u8) -> bool
     ensures { result ≡ is_other_sign byte }
 {
     byte == b'&' || byte == b'\\'
-}
-
-/// A final slash is dropped, but for `/`.
-pub(crate) fn without_final_slash(path: &[u8]) -> &[u8]
-    ensures { result.now ≡ without_final_slash path.now }
-{
-    if path.len() > 1 && ends_with_slash(path) {
-        path.split_at(path.len() - 1).0
-    } else {
-        path
-    }
 }

@@ -14,6 +14,7 @@ use Rattle.hc_model.specs.declared.template.Piece.TheVariants.{Bytes, Var}
 use Rattle.hc_pattern.specs.Reading.{parse_pattern}
 use Rattle.hc_template.specs.Reading.{template}
 use Rattle.hc_template.specs.Variables.{variable_named}
+use Rattle.hc_template.specs.declared.signs.Names.TheVariants.{Expression}
 use Rattle.hc_template.specs.declared.signs.Signs.{Signs}
 use Rattle.hc_expr.specs.Syntax.{Tree, both, either, is_expression, leaf, negated, tree_of}
 use Rattle.hc_expr.specs.Tokens.{Operand, Test, Token, always, digits, network, quoted, same, search, tokens_of, variable}
@@ -22,7 +23,7 @@ use Rattle.hc_expr.specs.Tokens.{Operand, Test, Token, always, digits, network, 
 
 -- A quoted text may hold `%{NAME}`, and no other sign.
 abbrev pub names_alone : Signs
-names_alone = record { groups = false; conditions = false; names = true; escapes = false }
+names_alone = record { groups = false; conditions = false; names = Expression; lookups = false; escapes = false }
 
 abbrev pub name_alone : List ℕ → Result (List Piece) AtByte
 name_alone name = elim (variable_named name) [ None ↦ Err (rule UNSUPPORTED_VARIABLE) | Some var ↦ Ok (Var var ∷ []) ]

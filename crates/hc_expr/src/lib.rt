@@ -13,4 +13,4 @@ mod token;
 mod tree;
 
 pub use hold::holds;
-pub use read::{ExprFault, parse_expr};
+pub use read::{ExprFault, both, lesser, parse_expr};

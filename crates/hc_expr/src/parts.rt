@@ -13,7 +13,7 @@ use hc_base::codes::{BAD_ADDRESS, UNSUPPORTED_VARIABLE};
 use hc_base::{AtByte, Fault, List, NoMemory, Text};
 use hc_model::{Piece, Regex, Template};
 use hc_pattern::parse_pattern;
-use hc_template::{Signs, read_template, variable_named};
+use hc_template::{Names, Signs, read_template, variable_named};
 use std::alloc::Global;
 
 // A quoted text may hold `%{NAME}`, and no other sign.
@@ -23,7 +23,8 @@ fn names_alone() -> Signs
     Signs {
         groups: false,
         conditions: false,
-        names: true,
+        names: Names::Expression,
+        lookups: false,
         escapes: false,
     }
 }

@@ -26,8 +26,8 @@ use std::alloc::Global;
 /// is one of a pattern.
 pub type ExprFault = Fault<AtByte>;
 
-// The refusal of the smaller code, and of equal ones the first.
-fn lesser(first: AtByte, second: AtByte) -> AtByte
+/// The refusal of the smaller code, and of equal ones the first.
+pub fn lesser(first: AtByte, second: AtByte) -> AtByte
     ensures { result ≡ lesser first second }
 {
     if second.code < first.code {
@@ -37,12 +37,13 @@ fn lesser(first: AtByte, second: AtByte) -> AtByte
     }
 }
 
-// What two parts are read as, or the lesser of their refusals.
-fn both_of<A: Drop, B: Drop>(
-    first: Result<A, ExprFault>,
-    second: Result<B, ExprFault>,
-) -> Result<(A, B), ExprFault>
-    ensures { (make : A → B → Expr) (a : Result A AtByte) (b : Result B AtByte)
+/// What two parts are read as, or the lesser of their refusals; `NoMemory` where one of them found no
+/// memory. `C` is the type of what is made of them.
+pub fn both<A: Drop, B: Drop, C>(
+    first: Result<A, Fault<AtByte>>,
+    second: Result<B, Fault<AtByte>>,
+) -> Result<(A, B), Fault<AtByte>>
+    ensures { (make : A → B → C) (a : Result A AtByte) (b : Result B AtByte)
         → Gives first a → Gives second b
         → Gives (result_map_both (λ pair. make pair.0 pair.1) (λ fault. fault) result) (made_of_two make a b) }
 {
@@ -77,7 +78,7 @@ fn and_read(
     ensures { (a b : Result Expr AtByte) → Gives first a → Gives second b
         → Gives result (made_of_two expr.And a b) }
 {
-    match both_of(first, second) {
+    match both::<_, _, Expr>(first, second) {
         Ok((first, second)) => {
             let first = Boxed::new(alloc, first)?;
             Ok(Expr::And(first, Boxed::new(alloc, second)?))
@@ -94,7 +95,7 @@ fn or_read(
     ensures { (a b : Result Expr AtByte) → Gives first a → Gives second b
         → Gives result (made_of_two expr.Or a b) }
 {
-    match both_of(first, second) {
+    match both::<_, _, Expr>(first, second) {
         Ok((first, second)) => {
             let first = Boxed::new(alloc, first)?;
             Ok(Expr::Or(first, Boxed::new(alloc, second)?))
@@ -117,7 +118,7 @@ fn same_read(alloc: Global, left: Operand, right: Operand) -> Result<Expr, ExprF
     ensures { Gives result (made_of_two expr.Same
         (operand_of (operand_view left.entry)) (operand_of (operand_view right.entry))) }
 {
-    match both_of(operand_of(alloc, left), operand_of(alloc, right)) {
+    match both::<_, _, Expr>(operand_of(alloc, left), operand_of(alloc, right)) {
         Ok((left, right)) => Ok(Expr::Same(left, right)),
         Err(fault) => Err(fault),
     }
@@ -127,7 +128,7 @@ fn search_read(alloc: Global, left: Operand, pattern: Pattern) -> Result<Expr, E
     ensures { Gives result (made_of_two expr.Search
         (operand_of (operand_view left.entry)) (parse_pattern pattern.entry.text.now pattern.entry.nocase)) }
 {
-    match both_of(operand_of(alloc, left), regex_of(alloc, pattern)) {
+    match both::<_, _, Expr>(operand_of(alloc, left), regex_of(alloc, pattern)) {
         Ok((left, regex)) => Ok(Expr::Search(left, regex)),
         Err(fault) => Err(fault),
     }
@@ -137,7 +138,7 @@ fn network_read(alloc: Global, left: Operand, network: &[u8]) -> Result<Expr, Ex
     ensures { Gives result (made_of_two expr.IpMatch
         (operand_of (operand_view left.entry)) (network_of network.now)) }
 {
-    match both_of(operand_of(alloc, left), network_of(network)) {
+    match both::<_, _, Expr>(operand_of(alloc, left), network_of(network)) {
         Ok((left, net)) => Ok(Expr::IpMatch(left, net)),
         Err(fault) => Err(fault),
     }

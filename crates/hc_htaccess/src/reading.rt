@@ -1,5 +1,5 @@
 //! What a `.htaccess` is read as.
-ghost use Rattle.std.specs.Prelude.{◌≤◌};
+ghost use Rattle.std.specs.Prelude.{◌≡◌, ◌+◌, ◌≤◌, length, IfOk};
 ghost use Rattle.hc_base.specs.Gives.{Gives};
 ghost use Rattle.hc_htaccess.specs.Reading.{file_read};
 
@@ -24,6 +24,7 @@ pub fn read_overrides<L: Ledger>(
     bytes: &mut Steps<L>,
 ) -> Result<HtFile, AtFault>
     ensures file { Gives result (file_read config.now dir.now allowed text.now) }
+    ensures bytes { IfOk result (λ _. bytes.new ≡ bytes.old + length text.now) }
     ensures rise { bytes.old ≤ bytes.new }
 {
     let path = htaccess_of(alloc, dir)?;

@@ -33,7 +33,7 @@ pub use overrides::{AtFault, Overrides};
 pub use read::Read;
 pub use regex::Regex;
 pub use request::{Caller, Header, Request, Scheme, View};
-pub use rewrite::{Cond, CondKind, EnvSet, Flags, Rule, RwContext, RwState, SetResult};
+pub use rewrite::{Cond, CondKind, EnvSet, Flags, Rule};
 pub use section::{Allowed, Body, Effective, HtFile, Inherit, OptStep, Reach, Section};
 pub use spot::Spot;
 pub use template::{Piece, Template, Var};

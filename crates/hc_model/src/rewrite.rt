@@ -1,8 +1,8 @@
 ghost use Rattle.std.specs.Prelude.{◌≡◌};
 
 use crate::template::copy_template;
-use crate::{Caller, Event, Header, Outcome, Read, Regex, Template};
-use hc_base::{List, NoMemory, Place, Span, Text, copy_option};
+use crate::{Regex, Template};
+use hc_base::{List, NoMemory, Place, Span, Text};
 
 /// A RewriteRule, with the conditions that stand before it (Apache manual, mod_rewrite).
 #[derive(Drop)]
@@ -83,58 +83,6 @@ pub struct EnvSet {
     pub value: Option<Template>,
 }
 
-/// What a list of rules changes while it runs.
-#[derive(Drop)]
-pub struct RwState {
-    pub caller: Caller,
-    /// The URL path of the pass.
-    pub path: Text,
-    /// DOCUMENT_ROOT.
-    pub root: Text,
-    /// The text that is rewritten.
-    pub text: Text,
-    pub query: Text,
-    /// The path information.
-    pub info: Text,
-    /// The variables that E sets.
-    pub vars: List<Header>,
-    /// END was met.
-    pub end: bool,
-    /// What the groups of the rule's pattern matched, `$0` first.
-    pub groups: List<Text>,
-    /// What the groups of the last condition's pattern matched, `%0` first.
-    pub cond_groups: List<Text>,
-}
-
-/// Where a list of rules runs.
-#[derive(Drop)]
-pub struct RwContext {
-    /// The directory whose rules run, None for the rules of a server.
-    pub engine: Option<Text>,
-    /// RewriteBase.
-    pub base: Option<Text>,
-    /// The document root.
-    pub root: Option<Text>,
-    /// The file name does not come from the document root.
-    pub aliased: bool,
-    /// The query at the start of the pass.
-    pub first_query: Text,
-}
-
-/// What a run of a list of rules leaves.
-#[derive(Drop)]
-pub struct SetResult {
-    pub state: RwState,
-    /// A substitution other than `-` was made.
-    pub substituted: bool,
-    /// A rule with PT ended the run.
-    pub passed: bool,
-    /// The outcome where a rule answers the request.
-    pub outcome: Option<Outcome>,
-    pub events: List<Event>,
-    pub reads: List<Read>,
-}
-
 impl Clone for Rule {
     ghost is_clone = { λ rule copy. copy ≡ rule };
 
@@ -198,55 +146,6 @@ impl Clone for EnvSet {
         Ok(EnvSet {
             name: self.name.clone()?,
             value: copy_template(&self.value)?,
-        })
-    }
-}
-
-impl Clone for RwState {
-    ghost is_clone = { λ state copy. copy ≡ state };
-
-    fn clone(&self) -> Result<RwState, NoMemory> {
-        // What is costly to drop comes last, so that no refused clone has to drop it.
-        Ok(RwState {
-            path: self.path.clone()?,
-            root: self.root.clone()?,
-            text: self.text.clone()?,
-            query: self.query.clone()?,
-            info: self.info.clone()?,
-            vars: self.vars.copy()?,
-            end: self.end,
-            groups: self.groups.copy()?,
-            cond_groups: self.cond_groups.copy()?,
-            caller: self.caller.clone()?,
-        })
-    }
-}
-
-impl Clone for RwContext {
-    ghost is_clone = { λ context copy. copy ≡ context };
-
-    fn clone(&self) -> Result<RwContext, NoMemory> {
-        Ok(RwContext {
-            engine: copy_option(&self.engine)?,
-            base: copy_option(&self.base)?,
-            root: copy_option(&self.root)?,
-            aliased: self.aliased,
-            first_query: self.first_query.clone()?,
-        })
-    }
-}
-
-impl Clone for SetResult {
-    ghost is_clone = { λ run copy. copy ≡ run };
-
-    fn clone(&self) -> Result<SetResult, NoMemory> {
-        Ok(SetResult {
-            substituted: self.substituted,
-            passed: self.passed,
-            outcome: copy_option(&self.outcome)?,
-            events: self.events.copy()?,
-            reads: self.reads.copy()?,
-            state: self.state.clone()?,
         })
     }
 }

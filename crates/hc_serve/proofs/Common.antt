@@ -4,7 +4,7 @@ pub use Rattle.hc_serve.specs.Answers.{IsServed, log_of}
 unfoldable pub use Rattle.hc_serve.specs.Passing.{passed, passed_there, walked}
 pub use Rattle.hc_serve.specs.Request.{outcome_of, whole_run}
 unfoldable pub use Rattle.hc_serve.specs.Request.{passes, way}
-pub use Rattle.hc_steps.proofs.Going.{events_then_reads, handed_on, leads_all, leads_end, ran_no_further, ran_then, ran_off, ran_on}
+pub use Rattle.hc_steps.proofs.Going.{events_then_reads, handed_on, leads_all, leads_end, ran_leaves, ran_no_further, ran_then, ran_off, ran_on}
 pub use Rattle.hc_steps.specs.Ran.{Logged, grown, with_events, with_read, with_reads, Leads}
 unfoldable pub use Rattle.hc_steps.specs.Ran.{Ran}
 pub use Rattle.hc_steps.specs.Run.{Run, run}

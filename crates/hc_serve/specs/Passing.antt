@@ -2,12 +2,9 @@
 -- Apache manual: "Mapping URLs to Filesystem Locations"; core, DocumentRoot, AcceptPathInfo; mod_alias.
 -- What is outside is our own choice.
 use Rattle.std.specs.Prelude.{ℕ, List, [], ◌∷◌, Bool, true, false, if◌then◌else◌, Option, Some, None}
-use Rattle.std.specs.List.{list_any, slice_split}
 use Rattle.hc_alias.specs.Mapping.{away, map_url}
 use Rattle.hc_alias.specs.declared.mapping.Away.{Away}
-use Rattle.hc_alias.specs.declared.mapping.Mapped.{Mapped}
-use Rattle.hc_alias.specs.declared.mapping.Mapped.TheVariants as mapped
-use Rattle.hc_base.specs.Paths.{is_dots, is_slash, merge_slashes}
+use Rattle.hc_base.specs.Paths.{has_dots, merge_slashes}
 use Rattle.hc_authz.specs.Values.{value}
 use Rattle.hc_authz.specs.declared.tree.Tri.{Tri}
 use Rattle.hc_authz.specs.declared.tree.Tri.TheVariants as tri
@@ -23,7 +20,7 @@ use Rattle.hc_model.specs.declared.event.Event.{Event}
 use Rattle.hc_model.specs.declared.event.Event.TheVariants as event
 use Rattle.hc_model.specs.declared.outcome.Outcome.{Outcome}
 use Rattle.hc_model.specs.declared.outcome.Outcome.TheVariants.{Directory, File, HtRefused, NotFound, Outside, Status}
-use Rattle.hc_model.specs.declared.outcome.Reason.TheVariants.{DotSegment, NoRoot}
+use Rattle.hc_model.specs.declared.outcome.Reason.TheVariants.{DotSegment}
 use Rattle.hc_model.specs.declared.request.View.{View}
 use Rattle.hc_model.specs.declared.section.Effective.{Effective}
 use Rattle.hc_model.specs.declared.section.HtFile.{HtFile}
@@ -32,11 +29,15 @@ use Rattle.hc_model.specs.declared.config.Config.{Config}
 use Rattle.hc_model.specs.declared.walk.Kind.{Kind}
 use Rattle.hc_model.specs.declared.walk.Kind.TheVariants as kind
 use Rattle.hc_model.specs.declared.walk.Walk.{Walk}
+use Rattle.hc_serve.specs.Naming.{named}
+use Rattle.hc_serve.specs.ServerRules.{rewritten}
 use Rattle.hc_serve.specs.Site.{Site}
 use Rattle.hc_serve.specs.declared.admission.TheConstants.{FORBIDDEN}
 use Rattle.hc_serve.specs.declared.stage.Here.{Here}
 use Rattle.hc_serve.specs.declared.stage.Named.{Named}
 use Rattle.hc_serve.specs.declared.stage.Pass.{Pass}
+use Rattle.hc_serve.specs.declared.stage.Placed.{Placed}
+use Rattle.hc_serve.specs.declared.stage.Placed.TheVariants as placed
 use Rattle.hc_serve.specs.declared.stage.Walked.{Walked}
 use Rattle.hc_steps.specs.Step.{Step, leaves, ends, in_order, say, text_at, told, ◌>>=◌}
 use Rattle.hc_steps.specs.Walking.{walk}
@@ -44,23 +45,15 @@ use Rattle.hc_steps.specs.Walking.{walk}
 unfoldable pub begun : Pass → Step Outcome Pass
 begun pass = told (event.Pass pass.number pass.path pass.query) pass
 
--- 1. The rules of the server.
-abbrev pub rewritten : Site → Pass → Step Outcome Pass
-rewritten site pass = leaves pass
-
--- 2. The file name.
-unfoldable pub named : Pass → Mapped → Step Outcome Named
-named pass (mapped.Name name from) = leaves (record { pass = pass; name = name; from = from; own = false })
-named pass (mapped.Away away) = say (event.Redirect away.from) (ends away.outcome)
-named pass mapped.NoRoot = ends (Outside NoRoot)
-
+-- 1. The rules of the server. 2. The file name, where they left none.
 unfoldable pub mapped_at : Site → Pass → Step Outcome Named
 mapped_at site pass = named pass (map_url site.config site.host pass.path pass.query site.caller)
 
--- 3. Repeated slashes of the name are merged. A segment of dots is outside.
-abbrev pub has_dots : List ℕ → Bool
-has_dots name = list_any is_dots (slice_split is_slash name)
+unfoldable pub name_of : Site → Placed → Step Outcome Named
+name_of site (placed.Unnamed pass) = mapped_at site pass
+name_of site (placed.Named named) = leaves named
 
+-- 3. Repeated slashes of the name are merged. A segment of dots is outside.
 unfoldable pub without_dots : Named → Step Outcome Named
 without_dots named =
     if has_dots named.name then ends (Outside DotSegment) else told (event.Map named.from named.name) named
@@ -174,8 +167,8 @@ passed_there site there = do
 unfoldable pub passed : Site → Pass → Step Outcome Pass
 passed site pass = do
   pass ← begun pass
-  pass ← rewritten site pass
-  named ← mapped_at site pass
+  placed ← rewritten site pass
+  named ← name_of site placed
   named ← merged named
   there ← walked named
   passed_there site there

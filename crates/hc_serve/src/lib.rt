@@ -3,11 +3,14 @@
 
 mod admission;
 mod answer;
+mod component;
 mod files;
 mod force;
+mod inherited;
 pub mod laws;
-mod name;
+mod naming;
 mod pass;
+mod server_rules;
 mod site;
 mod stage;
 mod way;

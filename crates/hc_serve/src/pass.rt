@@ -2,7 +2,7 @@ ghost use Rattle.std.specs.Prelude.{◌≡◌};
 ghost use Rattle.hc_vhost.specs.Servers.{IsHostOf};
 ghost use Rattle.hc_htaccess.specs.Reading.{reading_in};
 ghost use Rattle.hc_model.specs.Overrides.{Kept};
-ghost use Rattle.hc_serve.specs.Passing.{admitted, admitted_by, answered, begun, mapped_at, merged, named, outcome_at};
+ghost use Rattle.hc_serve.specs.Passing.{admitted, admitted_by, answered, begun, mapped_at, merged, name_of, outcome_at};
 ghost use Rattle.hc_serve.specs.Passing.{passed, passed_there, seen_there, sent_by, sent_there, walked, without_dots};
 ghost use Rattle.hc_serve.specs.Site.{site_of};
 ghost use Rattle.hc_steps.specs.Ran.{Ran};
@@ -12,10 +12,12 @@ ghost use Rattle.hc_steps.specs.Walking.{walk};
 
 use crate::admission::{FORBIDDEN, authorized, lets_in};
 use crate::force::in_force;
-use crate::name::{has_dots, merge_slashes};
+use crate::naming::named;
+use crate::server_rules::rewritten;
 use crate::site::Asked;
-use crate::stage::{Here, Named, Pass, Stop, Walked};
-use hc_alias::{Away, Mapped, directory_redirect, map_url};
+use crate::stage::{Here, Named, Pass, Placed, Stop, Walked};
+use hc_alias::{Away, directory_redirect, map_url};
+use hc_base::paths::{has_dots, merge_slashes};
 use hc_base::{Fault, copy_option};
 use hc_model::{Authorized, Event, Kind, Outcome, Overrides, Reason, Walk};
 use hc_steps::Log;
@@ -37,7 +39,8 @@ pub(crate) fn passed<O: Overrides>(
     ensures kept { Kept (O.loaded over.old) (O.loaded over.new) }
 {
     let pass = begun(asked.world, log, pass)?;
-    let named = mapped_at(asked, log, pass)?;
+    let placed = rewritten(asked, log, pass)?;
+    let named = name_of(asked, log, placed)?;
     let named = merged(asked.world, log, named)?;
     let there = walked(asked.world, log, named)?;
     passed_there(asked, log, over, there)
@@ -76,7 +79,7 @@ fn begun(world: &World, log: &mut Log, pass: Pass) -> Result<Pass, Stop>
     Ok(pass)
 }
 
-// The file name.
+// The file name of a URL path.
 #[tactic(auto, unfolding(crate::specs::Passing::mapped_at), using(hc_steps::proofs::Going::telling))]
 fn mapped_at(asked: &Asked<'_>, log: &mut Log, pass: Pass) -> Result<Named, Stop>
     requires { IsHostOf asked.now.config.now asked.now.host }
@@ -94,22 +97,15 @@ fn mapped_at(asked: &Asked<'_>, log: &mut Log, pass: Pass) -> Result<Named, Stop
     named(asked.world, log, pass, mapped)
 }
 
-#[tactic(auto, unfolding(crate::specs::Passing::named), using(hc_steps::proofs::Going::telling))]
-fn named(world: &World, log: &mut Log, pass: Pass, mapped: Mapped) -> Result<Named, Stop>
-    ensures { Ran result log.old log.new (run (named pass mapped) (shown_by world.now.files)) }
+#[tactic(auto, unfolding(crate::specs::Passing::name_of), using(hc_steps::proofs::Going::telling))]
+fn name_of(asked: &Asked<'_>, log: &mut Log, placed: Placed) -> Result<Named, Stop>
+    requires { IsHostOf asked.now.config.now asked.now.host }
+    ensures { Ran result log.old log.new
+        (run (name_of (site_of asked.now) placed) (shown_by asked.now.world.now.files)) }
 {
-    match mapped {
-        Mapped::Name { name, from } => Ok(Named {
-            pass,
-            name,
-            from,
-            own: false,
-        }),
-        Mapped::Away(away) => {
-            log.say(Event::Redirect { spot: away.from })?;
-            Err(Fault::Refused(away.outcome))
-        }
-        Mapped::NoRoot => Err(Fault::Refused(Outcome::Outside(Reason::NoRoot))),
+    match placed {
+        Placed::Unnamed(pass) => mapped_at(asked, log, pass),
+        Placed::Named(named) => Ok(named),
     }
 }
 

@@ -28,6 +28,14 @@ pub(crate) struct Named {
     pub own: bool,
 }
 
+/// What the rules of the server leave.
+#[derive(Drop)]
+pub(crate) enum Placed {
+    /// A pass whose URL path is to be mapped.
+    Unnamed(Pass),
+    Named(Named),
+}
+
 /// A pass whose name was followed.
 #[derive(Drop)]
 pub(crate) struct Walked {

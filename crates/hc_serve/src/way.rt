@@ -20,7 +20,7 @@ use hc_target::{TargetRead, read_target};
 use hc_vhost::{choose, server_at};
 use hc_world::World;
 
-const BAD_REQUEST: u16 = 400;
+pub(crate) const BAD_REQUEST: u16 = 400;
 
 const NOT_FOUND: u16 = 404;
 

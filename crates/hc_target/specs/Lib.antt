@@ -1,3 +1,4 @@
 pub mod Escapes
 pub mod Segments
 pub mod Targets
+pub mod Urls

@@ -7,6 +7,8 @@ mod escape;
 pub mod laws;
 mod segments;
 mod target;
+mod urls;
 
 pub use escape::escape_path;
 pub use target::{TargetRead, read_target};
+pub use urls::{begins_without_case, is_redirection, is_url};

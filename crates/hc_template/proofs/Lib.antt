@@ -1,4 +1,7 @@
 pub mod ReadBehind
-pub mod Names
+pub mod UpTo
 pub mod Unclosed
 pub mod Runs
+pub mod LookingUp
+pub mod SmallRows
+pub mod Cutting

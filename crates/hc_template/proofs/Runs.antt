@@ -1,11 +1,10 @@
 -- What was read of a template, and one part more.
-use Rattle.std.proofs.Common.{◌≡◌, ℕ, List, [], ◌∷◌, ◌++◌, ◌<◌, length, Result, Ok, Err, arith, refl, ap, sym, ◌∙◌, append_assoc}
-use Rattle.hc_base.specs.declared.fault.AtByte.{AtByte}
+use Rattle.std.proofs.Common.{◌≡◌, ℕ, List, [], ◌∷◌, ◌++◌, ◌<◌, length, arith, refl, ap, sym, ◌∙◌, append_assoc}
 use Rattle.hc_model.specs.declared.template.Piece.{Piece}
 use Rattle.hc_model.specs.declared.template.Piece.TheVariants.{Bytes}
-use Rattle.hc_template.specs.Fronts.{before, with_run}
+use Rattle.hc_template.specs.Fronts.{Added, with_run}
 use Rattle.hc_template.specs.Pieces.{with_byte}
-use Rattle.hc_template.specs.Reading.{byte, piece, with_part}
+use Rattle.hc_template.specs.Reading.{byte, piece}
 use Rattle.hc_template.specs.declared.pieces.Pieces.{Pieces}
 
 -- The piece is no bytes, so bytes before it are a piece of their own.
@@ -32,16 +31,13 @@ longer : (run : List ℕ) (b : ℕ) (pieces : List Piece) → with_run (run ++ b
 longer [] b pieces = refl
 longer (c ∷ run) b pieces = ap (with_byte c) (longer run b pieces)
 
-pub byte_added : (old new : Pieces) (b : ℕ) → new.done ≡ old.done → new.run.items ≡ old.run.items ++ b ∷ [] → (more : Result (List Piece) AtByte)
-    → before new more ≡ before old (with_part (byte b) more)
-byte_added old new b done run (Err broken) = refl
-byte_added old new b done run (Ok pieces) = rw (done, run) (ap (λ rest. Ok (old.done ++ rest)) (longer old.run.items b pieces))
+pub byte_added : (old new : Pieces) (b : ℕ) → new.done ≡ old.done → new.run.items ≡ old.run.items ++ b ∷ [] → Added old new (byte b)
+byte_added old new b done run pieces = rw (done, run) (ap (λ rest. old.done ++ rest) (longer old.run.items b pieces))
 
 pub piece_added : (old new : Pieces) (p : Piece) → StandsAlone p → new.done ≡ (old.done ++ with_run old.run.items []) ++ p ∷ [] → new.run.items ≡ []
-    → (more : Result (List Piece) AtByte) → before new more ≡ before old (with_part (piece p) more)
-piece_added old new p alone done run (Err broken) = refl
-piece_added old new p alone done run (Ok pieces) =
+    → Added old new (piece p)
+piece_added old new p alone done run pieces =
     let cut = with_run old.run.items [] in
     rw (run, done)
-    (ap Ok (append_assoc (old.done ++ cut) (p ∷ []) pieces ∙ append_assoc old.done cut (p ∷ pieces)
-    ∙ ap (λ rest. old.done ++ rest) (sym (before_piece old.run.items p pieces alone))))
+    (append_assoc (old.done ++ cut) (p ∷ []) pieces ∙ append_assoc old.done cut (p ∷ pieces)
+    ∙ ap (λ rest. old.done ++ rest) (sym (before_piece old.run.items p pieces alone)))

@@ -1,6 +1,8 @@
 pub mod Pieces
-pub mod Reading
+pub mod MapNames
 pub mod Variables
+pub mod Reading
 pub mod Filled
-pub mod Fronts
+pub mod SeenView
 pub mod ViewFilling
+pub mod Fronts

@@ -1,7 +1,13 @@
 ghost use Rattle.std.specs.Prelude.{◌≡◌, [], ◌∷◌, ◌++◌, IfOk, OnOk};
-ghost use Rattle.hc_template.specs.Fronts.{Adds, part_of, with_run};
+ghost use Rattle.hc_base.specs.Bytes.{brace_open};
+ghost use Rattle.hc_template.specs.Fronts.{Adds, AddsCut, cut, cut_of, part_of, with_run};
+ghost use Rattle.hc_template.specs.Reading.{lookup_sign, name_part};
 
-use crate::front::Front;
+use crate::front::{Front, Sign};
+use crate::lookup::read_lookup;
+use crate::signs::{Names, Signs};
+use crate::variables::named_by;
+use hc_base::codes::UNSUPPORTED_VARIABLE;
 use hc_base::{AtByte, Fault, List, NoMemory, Text};
 use hc_model::{Piece, Template};
 use std::alloc::Global;
@@ -27,16 +33,56 @@ impl Pieces {
         }
     }
 
-    /// Adds a part, or answers its refusal.
-    pub(crate) fn add(&mut self, front: Front) -> Result<(), Fault<AtByte>>
-        ensures { Adds result self.old self.new (part_of front) }
+    /// Adds what a sign stands for, or answers its refusal. What follows the sign is answered.
+    pub(crate) fn add_sign<'t>(
+        &mut self,
+        signs: Signs,
+        sign: Sign<'t>,
+    ) -> Result<&'t [u8], Fault<AtByte>>
+        ensures { AddsCut result self.old self.new
+            (cut_of (lookup_sign signs) signs.names sign.entry.front sign.entry.behind.now) }
+    {
+        if let Front::Braced = sign.front {
+            return self.add_lookup(signs, sign.behind);
+        }
+        self.add(signs.names, sign.front)?;
+        Ok(sign.behind)
+    }
+
+    // The same of what begins with `${`.
+    fn add_lookup<'t>(&mut self, signs: Signs, text: &'t [u8]) -> Result<&'t [u8], Fault<AtByte>>
+        ensures { AddsCut result self.old self.new
+            (cut (lookup_sign signs text.now) (brace_open ∷ text.now)) }
+    {
+        let lookup = read_lookup(self.done.allocator(), signs, text)?;
+        self.add_piece(Piece::Lookup {
+            map: lookup.map,
+            key: lookup.key,
+            fallback: lookup.fallback,
+        })?;
+        Ok(lookup.behind)
+    }
+
+    /// Adds what stands in a look-up, where no other may stand, or answers its refusal.
+    pub(crate) fn add(&mut self, names: Names, front: Front<'_>) -> Result<(), Fault<AtByte>>
+        ensures { Adds result self.old self.new (part_of names front.entry) }
     {
         match front {
             Front::Byte(byte) => Ok(self.run.push(byte)?),
             Front::Group(number) => Ok(self.add_piece(Piece::Group(number))?),
             Front::Condition(number) => Ok(self.add_piece(Piece::CondGroup(number))?),
-            Front::Variable(var) => Ok(self.add_piece(Piece::Var(var))?),
-            Front::Refused(broken) => Err(Fault::Refused(broken)),
+            Front::Name(name) => self.add_variable(names, name),
+            Front::Braced => Err(Fault::Refused(AtByte::rule(UNSUPPORTED_VARIABLE))),
+        }
+    }
+
+    // A name that may not stand here is refused.
+    fn add_variable(&mut self, names: Names, name: &[u8]) -> Result<(), Fault<AtByte>>
+        ensures { Adds result self.old self.new (name_part names name.now) }
+    {
+        match named_by(self.done.allocator(), names, name)? {
+            Some(var) => Ok(self.add_piece(Piece::Var(var))?),
+            None => Err(Fault::Refused(AtByte::rule(UNSUPPORTED_VARIABLE))),
         }
     }
 

@@ -1,24 +1,75 @@
 ghost use Rattle.std.specs.Prelude.{◌≡◌, ◌++◌, OnOk, decimal};
 ghost use Rattle.hc_addr.specs.Printed.{printed};
+ghost use Rattle.hc_template.specs.SeenView.{seen_of};
 ghost use Rattle.hc_template.specs.ViewFilling.{filling_of};
-ghost use Rattle.hc_template.specs.Variables.{header_value, host_with_port, on_off};
+ghost use Rattle.hc_template.specs.Variables.{header_value, host_with_port, on_off, seen_by};
 ghost use Rattle.hc_template.specs.Variables.{value_among, values_of};
 
 use crate::filling::Fills;
 use crate::server::{push_port, scheme_name};
 use hc_addr::{Addr, print_addr};
 use hc_base::NoMemory;
-use hc_model::{Header, Request, Scheme, Var, View};
+use hc_model::{Caller, Header, Request, Scheme, Var, View};
 use hc_table::variable::{
     HTTP_HOST, HTTP_REFERER, HTTP_USER_AGENT, HTTPS, QUERY_STRING, REMOTE_ADDR, REQUEST_FILENAME,
     REQUEST_METHOD, REQUEST_SCHEME, REQUEST_URI, SERVER_NAME, SERVER_PORT,
 };
+
+/// What variables have their values by: a request at a server, the URL path, the query and the file
+/// name.
+#[derive(Clone, Copy)]
+pub struct Values<'v> {
+    pub caller: &'v Caller,
+    pub path: &'v [u8],
+    pub query: &'v [u8],
+    pub name: &'v [u8],
+}
+
+impl<'v> Values<'v> {
+    /// Adds the value of a variable of the table, by its number; nothing for one that an expression may not
+    /// name. `NoMemory` where memory is refused.
+    pub fn push_value(&self, out: &mut Vec<u8>, number: u8) -> Result<(), NoMemory>
+        ensures { OnOk result (
+            out.new.items ≡ out.old.items ++ value_among (values_of (seen_of self.now)) number) }
+    {
+        let request = &self.caller.request;
+        let headers = request.headers.as_slice();
+        match u16::from(number) {
+            REQUEST_URI => out.extend_from_slice(self.path),
+            REQUEST_FILENAME => out.extend_from_slice(self.name),
+            QUERY_STRING => out.extend_from_slice(self.query),
+            REQUEST_METHOD => out.extend_from_slice(request.method.as_bytes()),
+            REQUEST_SCHEME => out.extend_from_slice(scheme_name(request.scheme)),
+            HTTPS => out.extend_from_slice(on_off(request.scheme)),
+            HTTP_HOST => push_host(out, request),
+            HTTP_USER_AGENT => out.extend_from_slice(header_value(headers, b"User-Agent")),
+            HTTP_REFERER => out.extend_from_slice(header_value(headers, b"Referer")),
+            REMOTE_ADDR => push_address(out, request.client),
+            SERVER_NAME => out.extend_from_slice(self.caller.name.as_bytes()),
+            SERVER_PORT => push_number(out, request.port),
+            _ => Ok(()),
+        }
+    }
+}
 
 /// The parts of a text in an expression: a variable has its value for a request, and no group is set
 /// (Apache manual, "Expressions in Apache HTTP Server").
 #[derive(Clone, Copy)]
 pub struct ViewFilling<'v> {
     pub view: &'v View,
+}
+
+impl<'v> ViewFilling<'v> {
+    fn values(&self) -> Values<'v>
+        ensures { seen_of result ≡ seen_by self.now.view.now }
+    {
+        Values {
+            caller: &self.view.caller,
+            path: self.view.path.as_bytes(),
+            query: self.view.query.as_bytes(),
+            name: self.view.name.as_bytes(),
+        }
+    }
 }
 
 impl<'v> Fills for ViewFilling<'v> {
@@ -41,31 +92,8 @@ impl<'v> Fills for ViewFilling<'v> {
                 ))
             }
             Var::Env(_) => Ok(()),
-            Var::Named(number) => push_value(self.view, out, *number),
+            Var::Named(number) => self.values().push_value(out, *number),
         }
-    }
-}
-
-// Adds the value of a variable of the table.
-fn push_value(view: &View, out: &mut Vec<u8>, number: u8) -> Result<(), NoMemory>
-    ensures { OnOk result (out.new.items ≡ out.old.items ++ value_among (values_of view.now) number) }
-{
-    let request = &view.caller.request;
-    let headers = request.headers.as_slice();
-    match u16::from(number) {
-        REQUEST_URI => out.extend_from_slice(view.path.as_bytes()),
-        REQUEST_FILENAME => out.extend_from_slice(view.name.as_bytes()),
-        QUERY_STRING => out.extend_from_slice(view.query.as_bytes()),
-        REQUEST_METHOD => out.extend_from_slice(request.method.as_bytes()),
-        REQUEST_SCHEME => out.extend_from_slice(scheme_name(request.scheme)),
-        HTTPS => out.extend_from_slice(on_off(request.scheme)),
-        HTTP_HOST => push_host(out, request),
-        HTTP_USER_AGENT => out.extend_from_slice(header_value(headers, b"User-Agent")),
-        HTTP_REFERER => out.extend_from_slice(header_value(headers, b"Referer")),
-        REMOTE_ADDR => push_address(out, request.client),
-        SERVER_NAME => out.extend_from_slice(view.caller.name.as_bytes()),
-        SERVER_PORT => push_number(out, request.port),
-        _ => Ok(()),
     }
 }
 
@@ -78,8 +106,8 @@ fn on_off(scheme: Scheme) -> &'static [u8]
     }
 }
 
-// The value of the first header of this name, without case; empty where there is none.
-fn header_value<'h>(headers: &'h [Header], name: &[u8]) -> &'h [u8]
+/// The value of the first header of this name, without case; empty where there is none.
+pub fn header_value<'h>(headers: &'h [Header], name: &[u8]) -> &'h [u8]
     ensures { result.now ≡ header_value headers.now name.now }
 {
     match headers
@@ -91,15 +119,17 @@ fn header_value<'h>(headers: &'h [Header], name: &[u8]) -> &'h [u8]
     }
 }
 
-// The name of the Host header, and the port unless it is the scheme's default.
-fn push_host(out: &mut Vec<u8>, request: &Request) -> Result<(), NoMemory>
+/// Adds the name of the Host header, and the port unless it is the scheme's default. `NoMemory` where
+/// memory is refused.
+pub fn push_host(out: &mut Vec<u8>, request: &Request) -> Result<(), NoMemory>
     ensures { OnOk result (out.new.items ≡ out.old.items ++ host_with_port request.now) }
 {
     out.extend_from_slice(request.host.as_bytes())?;
     push_port(out, request.scheme, request.port)
 }
 
-fn push_address(out: &mut Vec<u8>, address: Addr) -> Result<(), NoMemory>
+/// Adds an address. `NoMemory` where memory is refused.
+pub fn push_address(out: &mut Vec<u8>, address: Addr) -> Result<(), NoMemory>
     ensures { OnOk result (out.new.items ≡ out.old.items ++ printed address) }
 {
     let text = print_addr(*out.allocator(), address)?;

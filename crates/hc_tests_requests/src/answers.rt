@@ -202,6 +202,19 @@ text /etc/httpd/conf/httpd.conf \nkind /srv \n",
     ),
 ];
 
+fn check_in(
+    rt: &impl Abort,
+    alloc: Global,
+    world: &World,
+    request: &Request,
+    wanted: &str,
+) -> Result<(), Fail> {
+    match config_of(alloc, world) {
+        Ok(config) => check_answer(rt, alloc, &config, world, request, wanted),
+        Err(_) => panic!(rt; "no configuration"),
+    }
+}
+
 /// What is answered to a request under a main file.
 pub fn check_under(
     rt: &impl Abort,
@@ -213,10 +226,7 @@ pub fn check_under(
 ) -> Result<(), Fail> {
     let request = request(alloc, host, target)?;
     let world = world_of(alloc, main)?;
-    match config_of(alloc, &world) {
-        Ok(config) => check_answer(rt, alloc, &config, &world, &request, wanted),
-        Err(_) => panic!(rt; "no configuration"),
-    }
+    check_in(rt, alloc, &world, &request, wanted)
 }
 
 #[test]

@@ -6,11 +6,13 @@ use hc_base::{Fault, Steps};
 use hc_config::{BuildFault, build};
 use hc_include::flatten;
 use hc_model::Config;
-use hc_session::MAIN_FILE;
 use hc_world::{ListKind, World, WorldFault};
 use std::alloc::Global;
 use std::marker::Brand;
 use std::sync::ledger::{Blank, Ledger};
+
+/// The main file of each of these worlds.
+pub const MAIN_FILE: &str = "/etc/httpd/conf/httpd.conf";
 
 /// A world with this main file, the file `/srv/f`, and two `.htaccess` files.
 pub fn world_of(alloc: Global, main: &str) -> Result<World, WorldFault> {

@@ -1,29 +1,13 @@
-//! Tests of requests and sessions, most of them as dialogues. Tables of cases, whose answers come from the
-//! manual or from our own rules, and never from the code.
+//! Tests of the calls that answer a request. Tables of cases, whose answers come from the manual or from our own
+//! rules, and never from the code.
 #![tactic(auto)]
 
 #[cfg(test)]
 mod answers;
 #[cfg(test)]
-mod authorization;
-#[cfg(test)]
-mod commands;
-#[cfg(test)]
-mod conditions;
-#[cfg(test)]
 mod configs;
 #[cfg(test)]
-mod dialogue;
-#[cfg(test)]
-mod folder_files;
-#[cfg(test)]
-mod hosts;
-#[cfg(test)]
 mod htaccess;
-#[cfg(test)]
-mod include;
-#[cfg(test)]
-mod main_files;
 #[cfg(test)]
 mod merging;
 #[cfg(test)]
@@ -31,13 +15,7 @@ mod model;
 #[cfg(test)]
 mod overrides;
 #[cfg(test)]
-mod section_files;
-#[cfg(test)]
-mod sections;
-#[cfg(test)]
-mod serve;
-#[cfg(test)]
-mod session;
+mod rules;
 #[cfg(test)]
 mod target;
 #[cfg(test)]

@@ -1,7 +1,7 @@
 //! What AllowOverride allows, and where the `.htaccess` of a directory stands among its sections.
 
 use crate::answers::request;
-use crate::configs::{config_of, world_of};
+use crate::configs::{MAIN_FILE, config_of, world_of};
 use crate::htaccess::{load_each, one_file};
 use hc_addr::Addr;
 use hc_base::{List, NoMemory, Text};
@@ -9,7 +9,6 @@ use hc_merge::{Wanted, allowed, effective, wanted_by};
 use hc_model::{
     Allowed, AtFault, Caller, Config, Effective, Event, HostId, Kind, Piece, Redirect, View, Walk,
 };
-use hc_session::MAIN_FILE;
 use hc_vhost::choose;
 use std::alloc::Global;
 use std::process::Abort;
@@ -150,28 +149,32 @@ static IN_FORCE: &[(&str, &str)] = &[
     ),
 ];
 
-fn walk_of(alloc: Global, dirs: &[&str], name: &str) -> Result<Walk, NoMemory> {
-    let mut followed = List::new(alloc);
-    for dir in dirs {
-        followed.push(Text::copy_of(alloc, dir.as_bytes())?)?;
+fn texts_of(alloc: Global, words: &[&str]) -> Result<List<Text>, NoMemory> {
+    let mut texts = List::new(alloc);
+    for word in words {
+        texts.push(Text::copy_of(alloc, word.as_bytes())?)?;
     }
+    Ok(texts)
+}
+
+fn walk_of(alloc: Global, dirs: &[&str], name: &str) -> Result<Walk, NoMemory> {
     Ok(Walk {
         name: Text::copy_of(alloc, name.as_bytes())?,
         info: Text::new(alloc),
         kind: Kind::File,
-        dirs: followed,
+        dirs: texts_of(alloc, dirs)?,
     })
 }
 
 fn view_of(alloc: Global, name: &str) -> Result<View, NoMemory> {
     Ok(View {
-        caller: Caller {
-            request: request(alloc, "h", "/d/e/f")?,
-            name: Text::copy_of(alloc, b"h")?,
-        },
         path: Text::copy_of(alloc, b"/d/e/f")?,
         query: Text::new(alloc),
         name: Text::copy_of(alloc, name.as_bytes())?,
+        caller: Caller {
+            name: Text::copy_of(alloc, b"h")?,
+            request: request(alloc, "h", "/d/e/f")?,
+        },
     })
 }
 

@@ -101,6 +101,40 @@ fn push_event(out: &mut Vec<u8>, alloc: Global, event: &Event) -> Result<(), NoM
         }
         Event::Section { spot } => push_spot(out, alloc, b"section", spot),
         Event::Auth { value } => push_line(out, b"auth", authorized_name(*value)),
+        _ => push_rewriting(out, alloc, event),
+    }
+}
+
+fn is_or_not(is: bool) -> &'static [u8] {
+    if is { b"yes" } else { b"no" }
+}
+
+fn push_tried(
+    out: &mut Vec<u8>,
+    alloc: Global,
+    word: &[u8],
+    spot: &Spot,
+    is: bool,
+) -> Result<(), NoMemory> {
+    push_word(out, word)?;
+    push_place(out, alloc, &spot.place)?;
+    push_line(out, is_or_not(is), b"")
+}
+
+// What rules and conditions tell.
+fn push_rewriting(out: &mut Vec<u8>, alloc: Global, event: &Event) -> Result<(), NoMemory> {
+    match event {
+        Event::Cond { spot, held } => push_tried(out, alloc, b"cond", spot, *held),
+        Event::Rule { spot, matched } => push_tried(out, alloc, b"rule", spot, *matched),
+        Event::Text { text, query } => {
+            push_three(out, b"text", text.as_bytes(), query.as_bytes())?;
+            end_line(out)
+        }
+        Event::Round { number } => {
+            push_word(out, b"round")?;
+            push_number(out, alloc, u64::from(*number))?;
+            end_line(out)
+        }
         _ => push_line(out, b"other", b""),
     }
 }
@@ -147,21 +181,29 @@ fn count_line(out: &mut Vec<u8>, alloc: Global, count: u64) -> Result<(), NoMemo
     end_line(out)
 }
 
-pub fn answer_text(alloc: Global, answer: &Answer) -> Result<Vec<u8>, NoMemory> {
+fn all_text(
+    alloc: Global,
+    outcome: &Outcome,
+    count: u64,
+    events: &[Event],
+    reads: &[Read],
+) -> Result<Vec<u8>, NoMemory> {
     let mut out = Vec::new(alloc);
-    push_outcome(&mut out, alloc, &answer.outcome)?;
-    count_line(&mut out, alloc, answer.events)?;
-    push_events(&mut out, alloc, answer.trail.as_slice())?;
-    push_reads(&mut out, answer.reads.as_slice())?;
+    push_outcome(&mut out, alloc, outcome)?;
+    count_line(&mut out, alloc, count)?;
+    push_events(&mut out, alloc, events)?;
+    push_reads(&mut out, reads)?;
     Ok(out)
 }
 
+pub fn answer_text(alloc: Global, answer: &Answer) -> Result<Vec<u8>, NoMemory> {
+    let trail = answer.trail.as_slice();
+    let reads = answer.reads.as_slice();
+    all_text(alloc, &answer.outcome, answer.events, trail, reads)
+}
+
 pub fn whole_text(alloc: Global, whole: &WholeRun) -> Result<Vec<u8>, NoMemory> {
-    let mut out = Vec::new(alloc);
     let events = whole.events.as_slice();
-    push_outcome(&mut out, alloc, &whole.outcome)?;
-    count_line(&mut out, alloc, events.len() as u64)?;
-    push_events(&mut out, alloc, events)?;
-    push_reads(&mut out, whole.reads.as_slice())?;
-    Ok(out)
+    let reads = whole.reads.as_slice();
+    all_text(alloc, &whole.outcome, events.len() as u64, events, reads)
 }

@@ -3,31 +3,34 @@
 use hc_addr::Addr;
 use hc_base::{AtByte, Fault, List, NoMemory, Text};
 use hc_model::{Caller, Header, Piece, Request, Scheme, Template, Var, View};
-use hc_template::{Signs, ViewFilling, expand, push_port, read_template, variable_named};
+use hc_template::{Names, Signs, ViewFilling, expand, push_port, read_template, variable_named};
 use std::alloc::Global;
 
 // The signs of rewriting.
 const ALL: Signs = Signs {
     groups: true,
     conditions: true,
-    names: true,
+    names: Names::Rewriting,
     escapes: true,
+    lookups: true,
 };
 
 // The signs of a redirect's target.
 const GROUPS: Signs = Signs {
     groups: true,
     conditions: false,
-    names: false,
+    names: Names::NoName,
     escapes: false,
+    lookups: false,
 };
 
 // The signs of a text in an expression.
 const NAMES: Signs = Signs {
     groups: false,
     conditions: false,
-    names: true,
+    names: Names::Expression,
     escapes: false,
+    lookups: false,
 };
 
 fn push_number(out: &mut Vec<u8>, sign: u8, number: u8) -> Result<(), NoMemory> {
@@ -36,23 +39,67 @@ fn push_number(out: &mut Vec<u8>, sign: u8, number: u8) -> Result<(), NoMemory> 
     out.extend_from_slice(text.as_bytes())
 }
 
+fn push_named(out: &mut Vec<u8>, sign: u8, name: &Text) -> Result<(), NoMemory> {
+    out.push(sign)?;
+    out.extend_from_slice(name.as_bytes())
+}
+
+fn push_variable(out: &mut Vec<u8>, var: &Var) -> Result<(), NoMemory> {
+    match var {
+        Var::Named(number) => push_number(out, b'@', *number),
+        Var::Header(name) => push_named(out, b'H', name),
+        Var::Env(name) => push_named(out, b'E', name),
+    }
+}
+
+// A look-up within another, which no text gives, is shown as `?`.
 fn push_piece(out: &mut Vec<u8>, piece: &Piece) -> Result<(), NoMemory> {
     match piece {
         Piece::Bytes(bytes) => out.extend_from_slice(bytes.as_bytes()),
         Piece::Group(number) => push_number(out, b'$', *number),
         Piece::CondGroup(number) => push_number(out, b'%', *number),
-        Piece::Var(Var::Named(number)) => push_number(out, b'@', *number),
-        Piece::Var(Var::Header(_) | Var::Env(_)) | Piece::Lookup { .. } => out.extend_from_slice(
-            b"?",
-        ),
+        Piece::Var(var) => push_variable(out, var),
+        Piece::Lookup { .. } => out.extend_from_slice(b"?"),
     }
 }
 
 // The pieces, each before a bar.
+fn push_pieces(out: &mut Vec<u8>, pieces: &Template) -> Result<(), NoMemory> {
+    for piece in pieces.as_slice() {
+        push_piece(out, piece)?;
+        out.push(b'|')?;
+    }
+    Ok(())
+}
+
+fn push_lookup(
+    out: &mut Vec<u8>,
+    map: &Text,
+    key: &Template,
+    fallback: &Template,
+) -> Result<(), NoMemory> {
+    push_named(out, b'<', map)?;
+    out.push(b':')?;
+    push_pieces(out, key)?;
+    out.push(b';')?;
+    push_pieces(out, fallback)?;
+    out.extend_from_slice(b">")
+}
+
+fn push_outer(out: &mut Vec<u8>, piece: &Piece) -> Result<(), NoMemory> {
+    match piece {
+        Piece::Lookup { map, key, fallback } => {
+            push_lookup(out, map.get(), key.get(), fallback.get())
+        }
+        _ => push_piece(out, piece),
+    }
+}
+
+// The same with look-ups.
 fn shown(alloc: Global, pieces: &Template) -> Result<Vec<u8>, NoMemory> {
     let mut out = Vec::new(alloc);
     for piece in pieces.as_slice() {
-        push_piece(&mut out, piece)?;
+        push_outer(&mut out, piece)?;
         out.push(b'|')?;
     }
     Ok(out)
@@ -85,7 +132,28 @@ fn templates_are_read_into_pieces(rt: HostRuntime) -> Result<(), NoMemory> {
         ("%{HTTPS", ALL, "%{HTTPS|"),
         ("%{}", ALL, "refused 19 0"),
         ("%{NO}%{HTTPS}", ALL, "refused 19 0"),
-        ("%{THE_REQUEST}", ALL, "refused 19 0"),
+        ("%{THE_REQUEST}", ALL, "@20|"),
+        ("%{THE_REQUEST}", NAMES, "refused 19 0"),
+        ("%{ENV:a b}%{env:}%{http:X-Y}", ALL, "Ea b|E|HX-Y|"),
+        ("%{ENV:x}", NAMES, "refused 19 0"),
+        ("%{HTTP_HOST:}", ALL, "refused 19 0"),
+        ("%{HTTP:a:b}", ALL, "Ha:b|"),
+        ("/x/${m:$1|none}", ALL, "/x/|<m:$1|;none|>|"),
+        ("${low:%{HTTP_HOST}}y", ALL, "<low:@0|;>|y|"),
+        ("${a-_9:a\\}b|c\\|d|e}", ALL, "<a-_9:a}b|;c|d|e|>|"),
+        ("${m:}${m:|}", ALL, "<m:;>|<m:;>|"),
+        ("${m:%{HTTP:a|b}|%2}", ALL, "<m:Ha|b|;%2|>|"),
+        ("$${m:$}", ALL, "$|<m:$|;>|"),
+        ("${m:${n:x}}", ALL, "refused 19 0"),
+        ("${m:a|${n:x}}", ALL, "refused 19 0"),
+        ("${m:a", ALL, "refused 19 0"),
+        ("${m:a|b", ALL, "refused 19 0"),
+        ("${m:%{a}", ALL, "refused 19 0"),
+        ("${m:a\\}", ALL, "refused 19 0"),
+        ("${m", ALL, "refused 19 0"),
+        ("${:a}", ALL, "refused 19 0"),
+        ("${m!:a}", ALL, "refused 19 0"),
+        ("a${m:b}", GROUPS, "a${m:b}|"),
         ("%{%{HTTPS}", ALL, "refused 19 0"),
         ("%{HTTPS}}$1", ALL, "@19|}|$1|"),
         ("$1%1%{NO}\\$2", GROUPS, "$1|%1%{NO}\\|$2|"),

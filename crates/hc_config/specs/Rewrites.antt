@@ -1,0 +1,153 @@
+-- The words of the directives of rewriting, and of LimitInternalRecursion.
+-- Apache manual, mod_rewrite: RewriteEngine, RewriteBase, RewriteCond, RewriteRule, RewriteOptions, RewriteMap; core,
+-- LimitInternalRecursion. Which sources of maps there are, the range of a limit, and that a rule which redirects has L or
+-- END where another follows, is our own choice.
+use Rattle.std.specs.Prelude.{ℕ, zero, suc, ◌==◌, List, [], ◌∷◌, length, take, drop, Bool, true, false, not, ◌&&◌, ◌||◌, nat_le, if◌then◌else◌, codes}
+use Rattle.std.specs.Prelude.{Option, Some, None, option_map, Result, Ok, Err}
+use Rattle.std.specs.Str.{str_eq_ignore_ascii_case}
+use Rattle.hc_addr.specs.Numbers.{at_most, decimal_of}
+use Rattle.hc_base.specs.Paths.{begins_with_slash}
+use Rattle.hc_base.specs.Rules.{rule}
+use Rattle.hc_base.specs.declared.codes.TheConstants.{MAP_FORM, REDIRECT_WITHOUT_LAST}
+use Rattle.hc_base.specs.declared.fault.AtByte.{AtByte}
+use Rattle.hc_model.specs.declared.entry.Entry.{Entry}
+use Rattle.hc_model.specs.declared.entry.EntryForm.{EntryForm}
+use Rattle.hc_model.specs.declared.entry.EntryForm.TheVariants.{Close, Directive, Opening}
+use Rattle.hc_model.specs.declared.mapping.Map.{Map}
+use Rattle.hc_model.specs.declared.mapping.MapKind.{MapKind}
+use Rattle.hc_model.specs.declared.mapping.MapKind.TheVariants as kind
+use Rattle.hc_model.specs.declared.rewrite.Flags.{Flags}
+use Rattle.hc_model.specs.declared.rewrite.Rule.{Rule}
+use Rattle.hc_model.specs.declared.section.Inherit.{Inherit}
+use Rattle.hc_model.specs.declared.section.Inherit.TheVariants.{After, Before}
+use Rattle.hc_model.specs.declared.spot.Spot.{Spot}
+use Rattle.hc_rw_parse.specs.Rules.{rule_of}
+use Rattle.hc_table.specs.Directives.{directive_rows}
+use Rattle.hc_table.specs.Table.{find_in}
+use Rattle.hc_table.specs.declared.meaning.TheConstants.{REWRITE_RULE}
+use Rattle.hc_table.specs.declared.table.RowKind.{RowKind}
+use Rattle.hc_target.specs.Urls.{is_url}
+use Rattle.hc_template.specs.MapNames.{is_map_name}
+use Rattle.hc_config.specs.Kinds.{is_level}
+use Rattle.hc_config.specs.Targets.{wrong}
+use Rattle.hc_config.specs.declared.rewriting.TheConstants.{MOST_RECURSIONS}
+
+-- ---- words
+
+abbrev pub named : {A : Type 0} → List (List ℕ × A) → List ℕ → Result A AtByte
+named [] word = Err wrong
+named (row ∷ rows) word = if str_eq_ignore_ascii_case row.0 word then Ok row.1 else named rows word
+
+abbrev pub one_named : {A : Type 0} → List (List ℕ × A) → List (List ℕ) → Result A AtByte
+one_named rows (word ∷ []) = named rows word
+one_named rows words = Err wrong
+
+abbrev pub engine_of : List (List ℕ) → Result Bool AtByte
+engine_of words = one_named ((codes "On", true) ∷ (codes "Off", false) ∷ []) words
+
+abbrev pub inherit_of : List (List ℕ) → Result Inherit AtByte
+inherit_of words = one_named ((codes "Inherit", After) ∷ (codes "InheritBefore", Before) ∷ []) words
+
+-- One path, which begins with a slash.
+abbrev pub base_of : List (List ℕ) → Result (List ℕ) AtByte
+base_of (path ∷ []) = if begins_with_slash path then Ok path else Err wrong
+base_of words = Err wrong
+
+-- A decimal number from 1 to 1,000.
+abbrev pub in_limits : Option ℕ → Result ℕ AtByte
+in_limits None = Err wrong
+in_limits (Some number) = if nat_le 1 number then Ok number else Err wrong
+
+abbrev pub limit_of : List ℕ → Result ℕ AtByte
+limit_of word = in_limits (at_most MOST_RECURSIONS (decimal_of word))
+
+-- Of subrequests there are none.
+abbrev pub before_limit : Result ℕ AtByte → Result ℕ AtByte → Result ℕ AtByte
+before_limit (Err broken) second = Err broken
+before_limit (Ok first) (Err broken) = Err broken
+before_limit (Ok first) (Ok second) = Ok first
+
+-- One limit or two, of which the first counts.
+abbrev pub recursion_of : List (List ℕ) → Result ℕ AtByte
+recursion_of (first ∷ []) = limit_of first
+recursion_of (first ∷ second ∷ []) = before_limit (limit_of first) (limit_of second)
+recursion_of words = Err wrong
+
+-- ---- maps
+
+abbrev pub text_front : List ℕ
+text_front = codes "txt:"
+
+-- `txt:` and a path that begins with a slash, `int:toupper` or `int:tolower`.
+abbrev pub map_kind : List ℕ → Option MapKind
+map_kind source =
+    if str_eq_ignore_ascii_case (codes "int:toupper") source then Some kind.Upper
+    else (if str_eq_ignore_ascii_case (codes "int:tolower") source then Some kind.Lower
+    else (if str_eq_ignore_ascii_case text_front (take (length text_front) source) && begins_with_slash (drop (length text_front) source)
+    then Some (kind.File (drop (length text_front) source)) else None))
+
+abbrev pub map_with : List ℕ → Option MapKind → Result Map AtByte
+map_with name None = Err (rule MAP_FORM)
+map_with name (Some kind) = if is_map_name name then Ok (record { name = name; kind = kind }) else Err (rule MAP_FORM)
+
+abbrev pub map_of : List (List ℕ) → Result Map AtByte
+map_of (name ∷ source ∷ []) = map_with name (map_kind source)
+map_of words = Err wrong
+
+-- ---- a rule that redirects
+
+abbrev pub row_of_entry : Entry → Option RowKind
+row_of_entry entry = find_in directive_rows entry.name
+
+abbrev pub is_meaning : ℕ → Option RowKind → Bool
+is_meaning meaning None = false
+is_meaning meaning (Some kind) = kind.meaning == meaning
+
+abbrev pub is_directive : EntryForm → Bool
+is_directive Directive = true
+is_directive Opening = false
+is_directive Close = false
+
+abbrev pub is_rule : Entry → Bool
+is_rule entry = is_directive entry.form && is_meaning REWRITE_RULE (row_of_entry entry)
+
+abbrev pub one_less : ℕ → Option ℕ
+one_less zero = None
+one_less (suc inside) = Some inside
+
+-- How many sections inside are open behind an entry: none where it closes what is around.
+abbrev pub open_behind : ℕ → EntryForm → Bool → Option ℕ
+open_behind inside Opening true = Some (suc inside)
+open_behind inside Close true = one_less inside
+open_behind inside form level = Some inside
+
+-- Another RewriteRule follows in the same server or section.
+abbrev pub rule_follows : ℕ → List Entry → Bool
+rule_follows inside [] = false
+rule_follows inside (entry ∷ entries) =
+    (is_rule entry && (inside == 0))
+    || (elim (open_behind inside entry.form (is_level (row_of_entry entry))) [ None ↦ false | Some left ↦ rule_follows left entries ])
+
+-- R, or a substitution that is a URL.
+abbrev pub may_redirect : Flags → List ℕ → Bool
+may_redirect flags substitution = not (flags.redirect == 0) || is_url substitution
+
+-- It redirects without L and END.
+abbrev pub goes_on_behind : Rule → List ℕ → Bool
+goes_on_behind rule substitution =
+    may_redirect rule.flags substitution && not (rule.flags.last || rule.flags.end)
+
+abbrev pub unless_followed : List ℕ → List Entry → Rule → Result Rule AtByte
+unless_followed substitution behind made =
+    if goes_on_behind made substitution && rule_follows 0 behind then Err (rule REDIRECT_WITHOUT_LAST) else Ok made
+
+abbrev pub substitution_of : List (List ℕ) → List ℕ
+substitution_of (pattern ∷ substitution ∷ words) = substitution
+substitution_of words = []
+
+abbrev pub checked : List (List ℕ) → List Entry → Result Rule AtByte → Result Rule AtByte
+checked words behind (Err broken) = Err broken
+checked words behind (Ok made) = unless_followed (substitution_of words) behind made
+
+abbrev pub rule_read : Spot → List Entry → List (List ℕ) → Result Rule AtByte
+rule_read spot behind words = checked words behind (rule_of spot words)

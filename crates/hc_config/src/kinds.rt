@@ -1,0 +1,33 @@
+ghost use Rattle.std.specs.Prelude.{◌≡◌, ◌==◌};
+ghost use Rattle.std.specs.List.{list_any};
+ghost use Rattle.hc_config.specs.Kinds.{is_level, levels};
+
+use hc_table::{RowKind, meaning};
+
+/// A section that has settings of its own (Apache manual, "Configuration Sections").
+pub(crate) fn is_level(kind: Option<RowKind>) -> bool
+    ensures { result ≡ is_level kind }
+{
+    match kind {
+        Some(kind) => is_among_levels(kind.meaning),
+        None => false,
+    }
+}
+
+fn is_among_levels(meaning: u16) -> bool
+    ensures { result ≡ list_any (λ level. meaning == level) levels }
+{
+    matches!(
+        meaning,
+        meaning::VIRTUAL_HOST
+            | meaning::DIRECTORY
+            | meaning::DIRECTORY_MATCH
+            | meaning::FILES
+            | meaning::FILES_MATCH
+            | meaning::LOCATION
+            | meaning::LOCATION_MATCH
+            | meaning::IF
+            | meaning::ELSE_IF
+            | meaning::ELSE
+    )
+}

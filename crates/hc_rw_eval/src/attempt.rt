@@ -1,0 +1,165 @@
+//! The attempt of one rule: its pattern first, then its conditions, and then what it does (Apache manual, "Apache
+//! mod_rewrite Technical Details", "Ruleset Processing").
+ghost use Rattle.std.specs.Prelude.{◌≡◌, IfOk, option_map};
+ghost use Rattle.hc_match.specs.Settings.{captured};
+ghost use Rattle.hc_rw_eval.specs.Attempts.{groups_of, matched, not_matched, pattern_held};
+ghost use Rattle.hc_rw_eval.specs.Conditions.{matched_of, searched};
+ghost use Rattle.hc_rw_eval.specs.Frames.{context_at, looks_at, shown_at};
+ghost use Rattle.hc_rw_eval.specs.Turns.{looked, with_groups};
+ghost use Rattle.hc_steps.specs.Ran.{Ran};
+ghost use Rattle.hc_steps.specs.Run.{run};
+ghost use Rattle.hc_steps.specs.Shown.{shown_by};
+
+use crate::conditions::{Tested, conds_tried, counted};
+use crate::frame::{Frame, Stop};
+use crate::substitution::applied;
+use crate::told::tell_rule;
+use hc_base::{NoMemory, Text};
+use hc_match::{Captures, first_match};
+use hc_model::{Lookups, Rule};
+use hc_rw_expand::{Matched, RwState};
+use hc_steps::Log;
+use hc_world::World;
+use std::alloc::Global;
+
+/// The state of a run, and whether some substitution was made in it.
+#[derive(Drop)]
+pub struct Rewritten {
+    pub state: RwState,
+    pub substituted: bool,
+}
+
+/// What an attempt leaves, and whether the rule matched: its pattern, negation counted, and its conditions.
+#[derive(Drop)]
+pub(crate) struct Attempt {
+    pub matched: bool,
+    pub left: Rewritten,
+}
+
+/// What the pattern of a rule came to, negation counted.
+#[derive(Drop)]
+pub(crate) enum Looked {
+    Failed,
+    /// It held, and the groups are set to this.
+    Held(Option<Matched>),
+}
+
+impl Clone for Rewritten {
+    ghost is_clone = { λ rewritten copy. copy ≡ rewritten };
+
+    fn clone(&self) -> Result<Rewritten, NoMemory> {
+        Ok(Rewritten {
+            substituted: self.substituted,
+            state: self.state.clone()?,
+        })
+    }
+}
+
+// What the groups are set to; a negated pattern sets none.
+fn groups_of(
+    alloc: Global,
+    negated: bool,
+    text: &Text,
+    found: Option<Captures>,
+) -> Result<Option<Matched>, NoMemory>
+    ensures { IfOk result (λ groups. groups
+        ≡ groups_of negated (matched_of text.now (option_map captured found))) }
+{
+    match found {
+        Some(captures) if !negated => { Ok(Some(Matched::new(alloc, text.clone()?, &captures)?)) },
+        _ => Ok(None),
+    }
+}
+
+/// Looks for the pattern of a rule in the text that is rewritten. Nothing is made where it fails.
+#[tactic(auto, unfolding(crate::specs::Turns::looked), using(hc_steps::proofs::Going::telling))]
+pub(crate) fn looked_for(
+    world: &World,
+    log: &mut Log,
+    rule: &Rule,
+    text: &Text,
+) -> Result<Looked, Stop>
+    ensures { Ran result log.old log.new
+        (run (looked rule.now (searched text.now rule.now.pat)) (shown_by world.now.files)) }
+{
+    let found = first_match(log.allocator(), rule.pat.as_pat(), text.as_bytes())?;
+    if !counted(rule.negated, found.is_some()) {
+        tell_rule(log, rule, false)?;
+        return Ok(Looked::Failed);
+    }
+    Ok(Looked::Held(groups_of(log.allocator(), rule.negated, text, found)?))
+}
+
+/// The groups are set, and no condition has set any for this rule.
+pub(crate) fn with_groups(before: Rewritten, groups: Option<Matched>) -> Rewritten
+    ensures { result ≡ with_groups groups before }
+{
+    let Rewritten { state, substituted } = before;
+    Rewritten {
+        state: RwState {
+            groups,
+            cond_groups: None,
+            ..state
+        },
+        substituted,
+    }
+}
+
+#[tactic(auto, unfolding(crate::specs::Attempts::matched), using(crate::proofs::Leading::stepping))]
+fn matched<P: Lookups>(
+    frame: &Frame<'_, P>,
+    log: &mut Log,
+    rule: &Rule,
+    followed: bool,
+    before: Rewritten,
+) -> Result<Attempt, Stop>
+    ensures { Ran result log.old log.new
+        (run (matched (context_at frame.now) (looks_at P.files P.values frame.now) rule.now followed before)
+        (shown_at frame.now)) }
+{
+    tell_rule(log, rule, true)?;
+    let left = applied(frame, log, rule, followed, before)?;
+    Ok(Attempt {
+        matched: true,
+        left,
+    })
+}
+
+#[tactic(auto, unfolding(crate::specs::Attempts::not_matched), using(hc_steps::proofs::Going::telling))]
+fn not_matched<P: Lookups>(
+    frame: &Frame<'_, P>,
+    log: &mut Log,
+    rule: &Rule,
+    left: Rewritten,
+) -> Result<Attempt, Stop>
+    ensures { Ran result log.old log.new (run (not_matched rule.now left) (shown_at frame.now)) }
+{
+    tell_rule(log, rule, false)?;
+    Ok(Attempt {
+        matched: false,
+        left,
+    })
+}
+
+/// Tries the conditions of a rule whose pattern held.
+#[tactic(auto, unfolding(crate::specs::Attempts::pattern_held), using(crate::proofs::Leading::stepping))]
+pub(crate) fn pattern_held<P: Lookups>(
+    frame: &Frame<'_, P>,
+    log: &mut Log,
+    rule: &Rule,
+    followed: bool,
+    before: Rewritten,
+) -> Result<Attempt, Stop>
+    ensures { Ran result log.old log.new
+        (run (pattern_held (context_at frame.now) (looks_at P.files P.values frame.now) rule.now followed before)
+        (shown_at frame.now)) }
+{
+    let Rewritten { state, substituted } = before;
+    let Tested { holds, state } = conds_tried(frame, log, state, rule.conds.as_slice())?;
+    let before = Rewritten { state, substituted };
+    if holds {
+        matched(frame, log, rule, followed, before)
+    } else {
+        not_matched(frame, log, rule, before)
+    }
+}

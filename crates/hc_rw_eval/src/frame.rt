@@ -1,0 +1,36 @@
+ghost use Rattle.hc_rw_eval.specs.Frames.{context_at, looks_at, shown_at};
+ghost use Rattle.hc_rw_expand.specs.Lookups.{expanded};
+ghost use Rattle.hc_rw_expand.specs.Values.{filling_in};
+ghost use Rattle.hc_steps.specs.Ran.{Ran};
+ghost use Rattle.hc_steps.specs.Run.{run};
+
+use hc_base::{Fault, Text};
+use hc_model::{Lookups, Outcome, Template};
+use hc_rw_expand::{RwContext, RwState, expanded};
+use hc_steps::Log;
+use hc_world::World;
+
+/// Why a run does not go on: the request is answered, or memory was refused.
+pub(crate) type Stop = Fault<Outcome>;
+
+/// What a list of rules runs in: the world, what its rules see of the request, and the maps.
+#[derive(Drop)]
+pub(crate) struct Frame<'f, P> {
+    pub world: &'f World,
+    pub context: &'f RwContext<'f>,
+    pub look: &'f P,
+}
+
+/// A template with its parts filled in, and what its look-ups look at.
+pub(crate) fn filled<P: Lookups>(
+    frame: &Frame<'_, P>,
+    log: &mut Log,
+    state: &RwState,
+    template: &Template,
+) -> Result<Text, Stop>
+    ensures { Ran result log.old log.new
+        (run (expanded (looks_at P.files P.values frame.now) (filling_in (context_at frame.now) state.now) template.now)
+        (shown_at frame.now)) }
+{
+    expanded(frame.world, log, template, frame.context, state, frame.look)
+}

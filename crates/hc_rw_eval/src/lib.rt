@@ -1,0 +1,18 @@
+//! Runs of lists of rewriting rules, told as steps: conditions, substitutions and rounds.
+//! Apache manual, mod_rewrite; "Apache mod_rewrite Technical Details"; "RewriteRule Flags".
+#![tactic(auto)]
+
+mod attempt;
+mod conditions;
+mod files;
+mod frame;
+mod locations;
+mod placement;
+mod round;
+mod run;
+mod substitution;
+mod told;
+mod variables;
+
+pub use attempt::Rewritten;
+pub use run::{Finished, run_rules};

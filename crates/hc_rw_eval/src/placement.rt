@@ -1,0 +1,225 @@
+//! Where a text that a substitution left leads: to a path of the server's own, or elsewhere (Apache manual,
+//! mod_rewrite, RewriteRule, "Substitution"; "RewriteRule Flags", R).
+ghost use Rattle.std.specs.Prelude.{◌≡◌, IfOk, [], option_map};
+ghost use Rattle.hc_rw_eval.specs.Frames.{context_at, shown_at};
+ghost use Rattle.hc_rw_eval.specs.Locations.{own_path};
+ghost use Rattle.hc_rw_expand.specs.Contexts.{context_of};
+ghost use Rattle.hc_rw_eval.specs.Substitutions.{left, location_of, own_unless, path_placed, path_sent, redirects};
+ghost use Rattle.hc_rw_eval.specs.Substitutions.{sent, status_sent, stops, text_placed, unless_long, url_placed};
+ghost use Rattle.hc_steps.specs.Ran.{Ran};
+ghost use Rattle.hc_steps.specs.Run.{run};
+ghost use Rattle.hc_template.specs.Variables.{origin};
+
+use crate::attempt::Rewritten;
+use crate::frame::{Frame, Stop};
+use crate::locations::{has_scheme, location, own_path};
+use crate::substitution::{FOUND, is_long};
+use crate::told::tell_text;
+use hc_base::paths::begins_with_slash;
+use hc_base::{Fault, NoMemory, Text};
+use hc_model::{Caller, Flags, Lookups, Outcome, Reason};
+use hc_rw_expand::{RwContext, RwState};
+use hc_steps::Log;
+use hc_target::is_url;
+use hc_template::push_origin;
+use std::alloc::Global;
+
+// R.
+fn redirects(flags: &Flags) -> bool
+    ensures { result ≡ redirects flags.now }
+{
+    flags.redirect != 0
+}
+
+fn status_sent(flags: &Flags) -> u16
+    ensures { result ≡ status_sent flags.now }
+{
+    if redirects(flags) {
+        flags.redirect
+    } else {
+        FOUND
+    }
+}
+
+fn stops(flags: &Flags) -> bool
+    ensures { result ≡ stops flags.now }
+{
+    flags.last || flags.end
+}
+
+// A rule that sends the request elsewhere ends the list, or no rule follows it.
+#[tactic(auto, unfolding(crate::specs::Substitutions::sent), using(hc_steps::proofs::Going::telling))]
+fn sent<P: Lookups>(
+    frame: &Frame<'_, P>,
+    log: &mut Log,
+    flags: &Flags,
+    followed: bool,
+    location: Text,
+) -> Result<Rewritten, Stop>
+    ensures { Ran result log.old log.new (run (sent flags.now followed location) (shown_at frame.now)) }
+{
+    if followed && !stops(flags) {
+        return Err(Fault::Refused(Outcome::Outside(Reason::Scheme)));
+    }
+    Err(Fault::Refused(Outcome::Redirect {
+        status: status_sent(flags),
+        location,
+    }))
+}
+
+// The location that a text is, behind what is not escaped.
+fn location_of(
+    context: &RwContext<'_>,
+    flags: &Flags,
+    front: Vec<u8>,
+    state: &RwState,
+) -> Result<Text, NoMemory>
+    ensures { IfOk result (λ location. location
+        ≡ location_of (context_of context.now) flags.now front.items state.now) }
+{
+    location(
+        flags.noescape,
+        front,
+        state.text.as_bytes(),
+        context.first_query.as_bytes(),
+        state.query.as_bytes(),
+    )
+}
+
+#[tactic(auto, unfolding(crate::specs::Substitutions::left), using(hc_steps::proofs::Going::telling))]
+fn left<P: Lookups>(frame: &Frame<'_, P>, log: &mut Log, state: RwState) -> Result<Rewritten, Stop>
+    ensures { Ran result log.old log.new (run (left state) (shown_at frame.now)) }
+{
+    tell_text(log, &state)?;
+    Ok(Rewritten {
+        state,
+        substituted: true,
+    })
+}
+
+// A URL of the server's own loses its scheme and name.
+#[tactic(auto, unfolding(crate::specs::Substitutions::url_placed), using(hc_steps::proofs::Going::telling))]
+fn url_placed<P: Lookups>(
+    frame: &Frame<'_, P>,
+    log: &mut Log,
+    flags: &Flags,
+    followed: bool,
+    state: RwState,
+    path: Option<Text>,
+) -> Result<Rewritten, Stop>
+    ensures { Ran result log.old log.new
+        (run (url_placed (context_at frame.now) flags.now followed state path) (shown_at frame.now)) }
+{
+    let Some(text) = path else {
+        let front = Vec::new(log.allocator());
+        let location = location_of(frame.context, flags, front, &state)?;
+        return sent(frame, log, flags, followed, location);
+    };
+    left(frame, log, RwState { text, ..state })
+}
+
+// With R a URL of the server's own is a URL like others.
+fn own_unless(
+    alloc: Global,
+    redirects: bool,
+    caller: &Caller,
+    text: &[u8],
+) -> Result<Option<Text>, NoMemory>
+    ensures { IfOk result (λ path. path ≡ own_unless redirects (own_path caller.now text.now)) }
+{
+    if redirects {
+        return Ok(None);
+    }
+    own_path(alloc, caller, text)
+}
+
+fn origin(alloc: Global, caller: &Caller) -> Result<Vec<u8>, NoMemory>
+    ensures { IfOk result (λ front. front.items ≡ origin caller.now) }
+{
+    let mut front = Vec::new(alloc);
+    push_origin(&mut front, caller)?;
+    Ok(front)
+}
+
+// R on a text that is no URL: the server's own name is put before a path.
+#[tactic(auto, unfolding(crate::specs::Substitutions::path_sent), using(hc_steps::proofs::Going::telling))]
+fn path_sent<P: Lookups>(
+    frame: &Frame<'_, P>,
+    log: &mut Log,
+    flags: &Flags,
+    followed: bool,
+    state: RwState,
+) -> Result<Rewritten, Stop>
+    ensures { Ran result log.old log.new
+        (run (path_sent (context_at frame.now) flags.now followed state) (shown_at frame.now)) }
+{
+    if !begins_with_slash(state.text.as_bytes()) {
+        return Err(Fault::Refused(Outcome::Outside(Reason::RelativeRedirect)));
+    }
+    let front = origin(log.allocator(), frame.context.caller)?;
+    let location = location_of(frame.context, flags, front, &state)?;
+    sent(frame, log, flags, followed, location)
+}
+
+#[tactic(auto, unfolding(crate::specs::Substitutions::path_placed), using(hc_steps::proofs::Going::telling))]
+fn path_placed<P: Lookups>(
+    frame: &Frame<'_, P>,
+    log: &mut Log,
+    flags: &Flags,
+    followed: bool,
+    state: RwState,
+) -> Result<Rewritten, Stop>
+    ensures { Ran result log.old log.new
+        (run (path_placed (context_at frame.now) flags.now followed state) (shown_at frame.now)) }
+{
+    if redirects(flags) {
+        path_sent(frame, log, flags, followed, state)
+    } else {
+        left(frame, log, state)
+    }
+}
+
+#[tactic(auto, unfolding(crate::specs::Substitutions::text_placed), using(hc_steps::proofs::Going::telling))]
+fn text_placed<P: Lookups>(
+    frame: &Frame<'_, P>,
+    log: &mut Log,
+    flags: &Flags,
+    followed: bool,
+    state: RwState,
+) -> Result<Rewritten, Stop>
+    ensures { Ran result log.old log.new
+        (run (text_placed (context_at frame.now) flags.now followed state) (shown_at frame.now)) }
+{
+    if is_url(state.text.as_bytes()) {
+        let caller = frame.context.caller;
+        let path = own_unless(
+            log.allocator(),
+            redirects(flags),
+            caller,
+            state.text.as_bytes(),
+        )?;
+        return url_placed(frame, log, flags, followed, state, path);
+    }
+    if has_scheme(state.text.as_bytes()) {
+        return Err(Fault::Refused(Outcome::Outside(Reason::Scheme)));
+    }
+    path_placed(frame, log, flags, followed, state)
+}
+
+/// Where the text of a state leads, unless it or the query is too long.
+#[tactic(auto, unfolding(crate::specs::Substitutions::unless_long), using(hc_steps::proofs::Going::telling))]
+pub(crate) fn unless_long<P: Lookups>(
+    frame: &Frame<'_, P>,
+    log: &mut Log,
+    flags: &Flags,
+    followed: bool,
+    state: RwState,
+) -> Result<Rewritten, Stop>
+    ensures { Ran result log.old log.new
+        (run (unless_long (context_at frame.now) flags.now followed state) (shown_at frame.now)) }
+{
+    if is_long(state.text.as_bytes()) || is_long(state.query.as_bytes()) {
+        return Err(Fault::Refused(Outcome::Outside(Reason::LongText)));
+    }
+    text_placed(frame, log, flags, followed, state)
+}

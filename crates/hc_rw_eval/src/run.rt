@@ -1,0 +1,123 @@
+//! The run of a list of rules (Apache manual, "Apache mod_rewrite Technical Details", "Ruleset Processing").
+ghost use Rattle.std.specs.Prelude.{◌≡◌, ◌+◌, OnOk};
+ghost use Rattle.hc_rw_eval.specs.Frames.{context_at, looks_at, shown_at};
+ghost use Rattle.hc_rw_eval.specs.Lists.{begun, most_rounds, next_round, rounds_from, run_rules};
+ghost use Rattle.hc_rw_expand.specs.Contexts.{context_of};
+ghost use Rattle.hc_rw_expand.specs.Lookups.{Looks, Stands};
+ghost use Rattle.hc_steps.specs.Ran.{Ran, with_event};
+ghost use Rattle.hc_steps.specs.Run.{run};
+ghost use Rattle.hc_steps.specs.Shown.{shown_by};
+
+use crate::attempt::Rewritten;
+use crate::frame::{Frame, Stop};
+use crate::round::from_place;
+use hc_base::{Fault, NoMemory};
+use hc_model::{Event, LimitKind, Lookups, Outcome, Rule};
+use hc_rw_expand::{RwContext, RwState};
+use hc_steps::Log;
+use hc_world::World;
+
+/// What the run of a list leaves, and whether PT stopped it.
+#[derive(Drop)]
+pub struct Finished {
+    pub left: Rewritten,
+    pub passed: bool,
+}
+
+/// What a round comes to: the run is over, or N begins the list again.
+#[derive(Drop)]
+pub(crate) enum Round {
+    Over(Finished),
+    Again(Rewritten),
+}
+
+impl Clone for Finished {
+    ghost is_clone = { λ finished copy. copy ≡ finished };
+
+    fn clone(&self) -> Result<Finished, NoMemory> {
+        Ok(Finished {
+            passed: self.passed,
+            left: self.left.clone()?,
+        })
+    }
+}
+
+// No round comes behind the greatest bound.
+fn most_rounds(rules: &[Rule]) -> u32
+    ensures { result ≡ most_rounds rules.now }
+{
+    let mut most = 1;
+    for rule in rules {
+        most = rule.flags.rounds.max(most);
+    }
+    most
+}
+
+fn begun(state: RwState) -> Rewritten
+    ensures { result ≡ begun state }
+{
+    Rewritten {
+        state,
+        substituted: false,
+    }
+}
+
+// A further round is told. A run that has counted its last round finds no memory.
+fn tell_round(log: &mut Log, round: u32) -> Result<(), NoMemory>
+    ensures { OnOk result (log.new ≡ with_event log.old (Event.Round (round + 1))) }
+{
+    let Some(number) = round.checked_add(1) else {
+        return Err(NoMemory);
+    };
+    log.say(Event::Round { number })
+}
+
+// So many rounds at most.
+#[tactic(auto, using(crate::proofs::Rounds::rounds_begin, hc_steps::proofs::Going::ran_no_memory))]
+fn rounds_from<P: Lookups>(
+    frame: &Frame<'_, P>,
+    log: &mut Log,
+    most: u32,
+    rules: &[Rule],
+    left: Rewritten,
+) -> Result<Finished, Stop>
+    ensures { Ran result log.old log.new
+        (run (rounds_from most (context_at frame.now) (looks_at P.files P.values frame.now) rules.now 1 left)
+        (shown_at frame.now)) }
+{
+    let mut left = left;
+    for earlier in 0..most {
+        let round = earlier + 1;
+        match from_place(frame, log, round, rules, left)? {
+            Round::Over(finished) => return Ok(finished),
+            Round::Again(again) => {
+                tell_round(log, round)?;
+                left = again;
+            }
+        }
+    }
+    Err(Fault::Refused(Outcome::Limit(LimitKind::Rounds)))
+}
+
+/// Runs a list of rules on a state, and tells each attempt, what was looked at, and each round. A request
+/// that the rules answer does not go on, and neither does one at its last round; `NoMemory` where memory is
+/// refused.
+pub fn run_rules<P: Lookups>(
+    world: &World,
+    log: &mut Log,
+    context: &RwContext<'_>,
+    look: &P,
+    rules: &[Rule],
+    state: RwState,
+) -> Result<Finished, Fault<Outcome>>
+    ensures { (looks : Looks) → Stands (P.files look.now) (P.values look.now) looks (shown_by world.now.files)
+        → Ran result log.old log.new
+        (run (run_rules (context_of context.now) looks rules.now state) (shown_by world.now.files)) }
+{
+    let frame = Frame {
+        world,
+        context,
+        look,
+    };
+    rounds_from(&frame, log, most_rounds(rules), rules, begun(state))
+}

@@ -1,0 +1,112 @@
+//! The variables that a rule sets (Apache manual, "RewriteRule Flags", E).
+ghost use Rattle.std.specs.Prelude.{◌≡◌, IfOk};
+ghost use Rattle.hc_rw_eval.specs.Frames.{context_at, looks_at, shown_at};
+ghost use Rattle.hc_rw_eval.specs.Substitutions.{is_long, set_by, set_to, variable_set, variables_set};
+ghost use Rattle.hc_rw_eval.specs.Substitutions.{with_variable, without, without_variable};
+ghost use Rattle.hc_steps.specs.Ran.{Ran};
+ghost use Rattle.hc_steps.specs.Run.{run};
+
+use crate::frame::{Frame, Stop, filled};
+use crate::substitution::is_long;
+use hc_base::{Fault, List, NoMemory, Text};
+use hc_model::{EnvSet, Header, Lookups, Outcome, Reason, Template};
+use hc_rw_expand::RwState;
+use hc_steps::Log;
+use std::alloc::Global;
+
+// The variables but for those of a name.
+fn without(alloc: Global, name: &Text, vars: &[Header]) -> Result<List<Header>, NoMemory>
+    ensures { IfOk result (λ kept. kept ≡ without name.now vars.now) }
+{
+    let mut kept = List::new(alloc);
+    for each in vars {
+        if each.name.as_bytes() != name.as_bytes() {
+            kept.push(each.clone()?)?;
+        }
+    }
+    Ok(kept)
+}
+
+fn without_variable(name: &Text, state: RwState) -> Result<RwState, NoMemory>
+    ensures { IfOk result (λ left. left ≡ without_variable name.now state) }
+{
+    let vars = without(state.vars.allocator(), name, state.vars.as_slice())?;
+    Ok(RwState { vars, ..state })
+}
+
+fn with_variable(name: &Text, value: Text, state: RwState) -> Result<RwState, NoMemory>
+    ensures { IfOk result (λ left. left ≡ with_variable name.now value state) }
+{
+    let name = name.clone()?;
+    let mut vars = without(state.vars.allocator(), &name, state.vars.as_slice())?;
+    vars.push(Header { name, value })?;
+    Ok(RwState { vars, ..state })
+}
+
+#[tactic(auto, unfolding(crate::specs::Substitutions::set_to), using(hc_steps::proofs::Going::telling))]
+fn set_to<P: Lookups>(
+    frame: &Frame<'_, P>,
+    log: &mut Log,
+    state: RwState,
+    name: &Text,
+    value: Text,
+) -> Result<RwState, Stop>
+    ensures { Ran result log.old log.new (run (set_to state name.now value) (shown_at frame.now)) }
+{
+    if is_long(value.as_bytes()) {
+        return Err(Fault::Refused(Outcome::Outside(Reason::LongText)));
+    }
+    Ok(with_variable(name, value, state)?)
+}
+
+#[tactic(auto, unfolding(crate::specs::Substitutions::set_by), using(crate::proofs::Leading::stepping))]
+fn set_by<P: Lookups>(
+    frame: &Frame<'_, P>,
+    log: &mut Log,
+    state: RwState,
+    name: &Text,
+    value: &Option<Template>,
+) -> Result<RwState, Stop>
+    ensures { Ran result log.old log.new
+        (run (set_by (context_at frame.now) (looks_at P.files P.values frame.now) state name.now value.now)
+        (shown_at frame.now)) }
+{
+    let Some(value) = value else {
+        return Ok(without_variable(name, state)?);
+    };
+    let value = filled(frame, log, &state, value)?;
+    set_to(frame, log, state, name, value)
+}
+
+#[tactic(auto, unfolding(crate::specs::Substitutions::variable_set))]
+fn variable_set<P: Lookups>(
+    frame: &Frame<'_, P>,
+    log: &mut Log,
+    state: RwState,
+    set: &EnvSet,
+) -> Result<RwState, Stop>
+    ensures { Ran result log.old log.new
+        (run (variable_set (context_at frame.now) (looks_at P.files P.values frame.now) state set.now)
+        (shown_at frame.now)) }
+{
+    set_by(frame, log, state, &set.name, &set.value)
+}
+
+/// Sets and unsets variables, one after another.
+#[tactic(auto, unfolding(crate::specs::Substitutions::variables_set), using(hc_steps::proofs::Going::items))]
+pub(crate) fn variables_set<P: Lookups>(
+    frame: &Frame<'_, P>,
+    log: &mut Log,
+    state: RwState,
+    sets: &[EnvSet],
+) -> Result<RwState, Stop>
+    ensures { Ran result log.old log.new
+        (run (variables_set (context_at frame.now) (looks_at P.files P.values frame.now) state sets.now)
+        (shown_at frame.now)) }
+{
+    let mut state = state;
+    for set in sets {
+        state = variable_set(frame, log, state, set)?;
+    }
+    Ok(state)
+}

@@ -1,0 +1,6 @@
+pub mod Contexts
+pub mod Groups
+pub mod Values
+pub mod Lookups
+pub mod Queries
+pub mod LookReads

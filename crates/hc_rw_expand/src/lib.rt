@@ -1,0 +1,17 @@
+//! Templates of rewriting rules, filled in: groups, variables and look-ups in maps (Apache manual,
+//! mod_rewrite).
+#![tactic(auto)]
+
+mod context;
+mod filling;
+mod groups;
+mod lookups;
+mod query;
+mod state;
+
+pub use context::RwContext;
+pub use filling::StateFilling;
+pub use groups::Matched;
+pub use lookups::{expand, expanded};
+pub use query::{Split, split_query};
+pub use state::RwState;

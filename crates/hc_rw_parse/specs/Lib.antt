@@ -1,0 +1,4 @@
+pub mod Templates
+pub mod RuleFlags
+pub mod CondFlags
+pub mod Rules

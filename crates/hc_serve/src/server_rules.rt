@@ -1,0 +1,263 @@
+//! The rules of the server that answers, and what a pass goes on with behind them (Apache manual, mod_rewrite).
+ghost use Rattle.std.specs.Prelude.{◌≡◌, [], IfOk, OnOk};
+ghost use Rattle.hc_rw_eval.specs.Lists.{run_rules};
+ghost use Rattle.hc_rw_expand.specs.Contexts.{context_of};
+ghost use Rattle.hc_serve.specs.ServerRules.{absolute_left, context_at, exists, finished, is_there, looks_of, maps_at};
+ghost use Rattle.hc_serve.specs.ServerRules.{name_left, own_name, pass_with, path_left, rewritten, rules_at, rules_run};
+ghost use Rattle.hc_serve.specs.ServerRules.{state_at, text_left};
+ghost use Rattle.hc_serve.specs.Site.{site_of};
+ghost use Rattle.hc_steps.specs.Ran.{Ran};
+ghost use Rattle.hc_steps.specs.Run.{run};
+ghost use Rattle.hc_steps.specs.Shown.{shown_by};
+ghost use Rattle.hc_vhost.specs.Servers.{IsHostOf};
+
+use crate::component::first_component;
+use crate::inherited::{engine_at, maps_at, rules_at};
+use crate::naming::named;
+use crate::site::Asked;
+use crate::stage::{Named, Pass, Placed, Stop};
+use crate::way::BAD_REQUEST;
+use hc_alias::{root_of, under_root};
+use hc_base::paths::{begins_with_slash, has_dots, merge_slashes};
+use hc_base::{Fault, List, NoMemory, Text};
+use hc_map::WorldMaps;
+use hc_model::{Kind, Map, Outcome, Reason, Rule};
+use hc_rw_eval::{Finished, Rewritten, run_rules};
+use hc_rw_expand::{RwContext, RwState};
+use hc_steps::Log;
+use hc_world::{World, kind_at};
+use std::alloc::Global;
+use std::mem::replace;
+
+/// What the rules of the server leave, where its engine is on.
+#[tactic(auto, unfolding(crate::specs::ServerRules::rewritten), using(hc_steps::proofs::Going::ran_leaves))]
+pub(crate) fn rewritten(asked: &Asked<'_>, log: &mut Log, pass: Pass) -> Result<Placed, Stop>
+    requires { IsHostOf asked.now.config.now asked.now.host }
+    ensures { Ran result log.old log.new
+        (run (rewritten (site_of asked.now) pass) (shown_by asked.now.world.now.files)) }
+{
+    if engine_at(asked) {
+        rules_run(asked, log, pass)
+    } else {
+        Ok(Placed::Unnamed(pass))
+    }
+}
+
+#[tactic(auto, unfolding(crate::specs::ServerRules::rules_run), using(hc_steps::proofs::Going::ran_no_memory))]
+fn rules_run(asked: &Asked<'_>, log: &mut Log, pass: Pass) -> Result<Placed, Stop>
+    requires { IsHostOf asked.now.config.now asked.now.host }
+    ensures { Ran result log.old log.new
+        (run (rules_run (site_of asked.now) pass) (shown_by asked.now.world.now.files)) }
+{
+    let mut pass = pass;
+    let state = state_at(log.allocator(), &mut pass)?;
+    let ran = run_at(asked, log, &pass, state)?;
+    finished(asked, log, pass, ran)
+}
+
+// The state that a run begins with. It takes the variables of the pass.
+fn state_at(alloc: Global, pass: &mut Pass) -> Result<RwState, NoMemory>
+    ensures state { IfOk result (λ state. state ≡ state_at pass.old) }
+    ensures pass { OnOk result (pass.new ≡ record pass.old { vars = [] }) }
+{
+    Ok(RwState {
+        text: pass.path.clone()?,
+        query: pass.query.clone()?,
+        info: Text::new(alloc),
+        vars: replace(&mut pass.vars, List::new(alloc)),
+        end: pass.end,
+        groups: None,
+        cond_groups: None,
+    })
+}
+
+// The rules over the maps that are in force.
+#[tactic(auto, using(hc_steps::proofs::Going::ran_no_memory))]
+fn run_at(asked: &Asked<'_>, log: &mut Log, pass: &Pass, state: RwState) -> Result<Finished, Stop>
+    requires { IsHostOf asked.now.config.now asked.now.host }
+    ensures { Ran result log.old log.new
+        (run (run_rules (context_at (site_of asked.now) pass.now) (looks_of (maps_at (site_of asked.now)))
+        (rules_at (site_of asked.now)) state) (shown_by asked.now.world.now.files)) }
+{
+    let rules = rules_at(asked)?;
+    let maps = maps_at(asked)?;
+    let context = context_at(asked, pass);
+    run_with(
+        asked.world,
+        log,
+        &context,
+        maps.as_slice(),
+        rules.as_slice(),
+        state,
+    )
+}
+
+// The rules over these maps in a world.
+fn run_with(
+    world: &World,
+    log: &mut Log,
+    context: &RwContext<'_>,
+    maps: &[Map],
+    rules: &[Rule],
+    state: RwState,
+) -> Result<Finished, Stop>
+    ensures { Ran result log.old log.new
+        (run (run_rules (context_of context.now) (looks_of maps.now) rules.now state) (shown_by world.now.files)) }
+{
+    let look = WorldMaps {
+        alloc: log.allocator(),
+        maps,
+        world,
+    };
+    run_rules(world, log, context, &look, rules, state)
+}
+
+fn context_at<'p>(asked: &Asked<'p>, pass: &'p Pass) -> RwContext<'p>
+    requires { IsHostOf asked.now.config.now asked.now.host }
+    ensures { context_of result ≡ context_at (site_of asked.now) pass.now }
+{
+    RwContext {
+        caller: asked.caller,
+        path: &pass.path,
+        root: root_of(asked.config, asked.host),
+        first_query: &pass.query,
+    }
+}
+
+#[tactic(auto, unfolding(crate::specs::ServerRules::finished), using(hc_steps::proofs::Going::ran_leaves))]
+fn finished(asked: &Asked<'_>, log: &mut Log, pass: Pass, ran: Finished) -> Result<Placed, Stop>
+    requires { IsHostOf asked.now.config.now asked.now.host }
+    ensures { Ran result log.old log.new
+        (run (finished (site_of asked.now) pass ran) (shown_by asked.now.world.now.files)) }
+{
+    let Finished { left, passed } = ran;
+    let Rewritten { state, substituted } = left;
+    let (pass, text) = pass_with(pass, state);
+    if substituted {
+        text_left(asked, passed, log, pass, text)
+    } else {
+        Ok(Placed::Unnamed(pass))
+    }
+}
+
+// The pass behind a run, and the text that the run leaves.
+fn pass_with(pass: Pass, state: RwState) -> (Pass, Text)
+    ensures pass { result.0 ≡ pass_with pass state }
+    ensures text { result.1 ≡ state.text }
+{
+    let RwState {
+        text,
+        query,
+        vars,
+        end,
+        ..
+    } = state;
+    let pass = Pass {
+        query,
+        vars,
+        end,
+        ..pass
+    };
+    (pass, text)
+}
+
+#[tactic(auto, unfolding(crate::specs::ServerRules::text_left), using(hc_steps::proofs::Going::ran_ends))]
+fn text_left(
+    asked: &Asked<'_>,
+    passed: bool,
+    log: &mut Log,
+    pass: Pass,
+    text: Text,
+) -> Result<Placed, Stop>
+    requires { IsHostOf asked.now.config.now asked.now.host }
+    ensures { Ran result log.old log.new
+        (run (text_left (site_of asked.now) passed pass text) (shown_by asked.now.world.now.files)) }
+{
+    if begins_with_slash(text.as_bytes()) {
+        absolute_left(asked, passed, log, pass, text)
+    } else {
+        Err(Fault::Refused(Outcome::Status(BAD_REQUEST)))
+    }
+}
+
+// PT: the text is a URL path.
+#[tactic(auto, unfolding(crate::specs::ServerRules::absolute_left), using(hc_steps::proofs::Going::ran_no_memory))]
+fn absolute_left(
+    asked: &Asked<'_>,
+    passed: bool,
+    log: &mut Log,
+    pass: Pass,
+    text: Text,
+) -> Result<Placed, Stop>
+    requires { IsHostOf asked.now.config.now asked.now.host }
+    ensures { Ran result log.old log.new
+        (run (absolute_left (site_of asked.now) passed pass text) (shown_by asked.now.world.now.files)) }
+{
+    if passed {
+        return path_left(asked.world, log, pass, text);
+    }
+    let first = first_component(log.allocator(), text.as_bytes())?;
+    let there = exists(asked.world, log, first)?;
+    name_left(asked, log, pass, text, there)
+}
+
+#[tactic(auto, unfolding(crate::specs::ServerRules::path_left), using(hc_steps::proofs::Going::telling))]
+fn path_left(world: &World, log: &mut Log, pass: Pass, text: Text) -> Result<Placed, Stop>
+    ensures { Ran result log.old log.new (run (path_left pass text) (shown_by world.now.files)) }
+{
+    if has_dots(text.as_bytes()) {
+        return Err(Fault::Refused(Outcome::Outside(Reason::DotSegment)));
+    }
+    let path = merge_slashes(log.allocator(), text.as_bytes())?;
+    Ok(Placed::Unnamed(Pass { path, ..pass }))
+}
+
+#[tactic(auto, unfolding(crate::specs::ServerRules::exists), using(hc_steps::proofs::Going::ran_leaves))]
+fn exists(world: &World, log: &mut Log, path: Option<Text>) -> Result<bool, Stop>
+    ensures { Ran result log.old log.new (run (exists path) (shown_by world.now.files)) }
+{
+    let Some(path) = path else {
+        return Ok(false);
+    };
+    let kind = kind_at::<Outcome>(world, log, path.as_bytes())?;
+    Ok(is_there(kind))
+}
+
+fn is_there(kind: Kind) -> bool
+    ensures { result ≡ is_there kind }
+{
+    kind != Kind::Absent
+}
+
+// A text that names something that exists is a file name.
+#[tactic(auto, unfolding(crate::specs::ServerRules::name_left), using(hc_steps::proofs::Going::telling))]
+fn name_left(
+    asked: &Asked<'_>,
+    log: &mut Log,
+    pass: Pass,
+    text: Text,
+    there: bool,
+) -> Result<Placed, Stop>
+    requires { IsHostOf asked.now.config.now asked.now.host }
+    ensures { Ran result log.old log.new
+        (run (name_left (site_of asked.now) pass text there) (shown_by asked.now.world.now.files)) }
+{
+    if there {
+        return Ok(own_name(pass, text));
+    }
+    let root = root_of(asked.config, asked.host);
+    let mapped = under_root(log.allocator(), root, text.as_bytes())?;
+    let name = named(asked.world, log, pass, mapped)?;
+    Ok(Placed::Named(name))
+}
+
+fn own_name(pass: Pass, text: Text) -> Placed
+    ensures { result ≡ own_name pass text }
+{
+    Placed::Named(Named {
+        pass,
+        name: text,
+        from: None,
+        own: true,
+    })
+}

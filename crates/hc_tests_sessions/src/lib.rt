@@ -1,0 +1,34 @@
+//! Tests of sessions, most of them as dialogues. Tables of cases, whose answers come from the manual or from our
+//! own rules, and never from the code.
+#![tactic(auto)]
+
+#[cfg(test)]
+mod authorization;
+#[cfg(test)]
+mod commands;
+#[cfg(test)]
+mod conditions;
+#[cfg(test)]
+mod dialogue;
+#[cfg(test)]
+mod folder_files;
+#[cfg(test)]
+mod hosts;
+#[cfg(test)]
+mod include;
+#[cfg(test)]
+mod main_files;
+#[cfg(test)]
+mod rewrite_files;
+#[cfg(test)]
+mod rewrite_flags;
+#[cfg(test)]
+mod rewriting;
+#[cfg(test)]
+mod section_files;
+#[cfg(test)]
+mod sections;
+#[cfg(test)]
+mod serve;
+#[cfg(test)]
+mod session;
