@@ -1,5 +1,5 @@
 -- What follows an entry, one entry after another.
-use Rattle.std.proofs.Common.{◌≡◌, ◌==◌, ℕ, ◌+◌, Bool, true, false, ◌&&◌, List, ◌∷◌, drop, Option, Some, None, refl, ap, ◌∙◌}
+use Rattle.std.proofs.Common.{◌≡◌, ◌==◌, ℕ, true, false, ◌&&◌, List, ◌∷◌, drop, Some, None, refl, ap, ◌∙◌}
 use Rattle.hc_model.specs.declared.entry.Entry.{Entry}
 use Rattle.hc_config.specs.Kinds.{is_level}
 use Rattle.hc_config.specs.Rewrites.{is_rule, open_behind, row_of_entry, rule_follows}

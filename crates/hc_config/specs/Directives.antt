@@ -1,6 +1,5 @@
--- The directives and sections that are built so far: what words each takes, and what it gives.
--- Apache manual: core; mod_alias, Alias; mod_so, LoadModule; mod_userdir, UserDir. What is not built
--- is refused as if it had no name; our own choice.
+-- The directives and sections: what words each takes, and what it gives.
+-- Apache manual: core; mod_alias, Alias; mod_rewrite; mod_so, LoadModule; mod_userdir, UserDir.
 use Rattle.std.specs.Prelude.{ℕ, List, [], ◌∷◌, length, Bool, ◌&&◌, false, nat_le, if◌then◌else◌}
 use Rattle.std.specs.Prelude.{Option, Some, None, Result, Ok, Err, codes}
 use Rattle.std.specs.Str.{str_eq_ignore_ascii_case}
@@ -206,9 +205,8 @@ directory_section among words =
 abbrev pub rewrite_engine : List (List ℕ) → Result Effect AtByte
 rewrite_engine words = given_by (λ on. Gives (given.Engine on)) (engine_of words)
 
--- It changes nothing yet: it may stand for directories alone, and what is of these is not built.
 abbrev pub rewrite_base : List (List ℕ) → Result Effect AtByte
-rewrite_base words = given_by (λ path. Nothing) (base_of words)
+rewrite_base words = given_by (λ path. Gives (given.Base path)) (base_of words)
 
 abbrev pub rewrite_options : List (List ℕ) → Result Effect AtByte
 rewrite_options words = given_by (λ inherit. Gives (given.Inherits inherit)) (inherit_of words)
@@ -320,6 +318,6 @@ givings =
     (IF_MODULE, by_words (counted 1 1)) ∷
     server_givings
 
--- What a directive or section of this meaning gives, where it is built.
+-- What a directive or section of this meaning gives.
 abbrev pub giving : ℕ → Option Giving
 giving meaning = by_number meaning givings

@@ -1,7 +1,5 @@
 -- What the code keeps of what stands open.
 use Rattle.std.specs.Prelude.{map, Result, Ok, Err}
-use Rattle.hc_base.specs.declared.fault.Fault.{Fault}
-use Rattle.hc_base.specs.declared.place.Refusal.{Refusal}
 use Rattle.hc_config.specs.Levels as definition
 use Rattle.hc_config.specs.declared.levels.Around.{Around}
 use Rattle.hc_config.specs.declared.levels.Standing.{Standing}

@@ -5,16 +5,12 @@ use Rattle.std.specs.Prelude.{ℕ, ◌-◌, Bool, List, [], ◌∷◌, ◌++◌,
 use Rattle.hc_base.specs.declared.place.Place.{Place}
 use Rattle.hc_base.specs.Rules.{refusal_at, rule}
 use Rattle.hc_base.specs.declared.place.Refusal.{Refusal}
-use Rattle.hc_model.specs.declared.authorization.Merging.{Merging}
 use Rattle.hc_model.specs.declared.authorization.Merging.TheVariants.{Off}
 use Rattle.hc_model.specs.declared.authorization.ReqTree.{ReqTree}
 use Rattle.hc_model.specs.declared.config.HostAddr.{HostAddr}
 use Rattle.hc_model.specs.declared.config.Server.{Server}
 use Rattle.hc_model.specs.declared.expression.Expr.{Expr}
-use Rattle.hc_model.specs.declared.mapping.Redirect.{Redirect}
-use Rattle.hc_model.specs.declared.section.Allowed.{Allowed}
 use Rattle.hc_model.specs.declared.section.Body.{Body, roll-Body}
-use Rattle.hc_model.specs.declared.section.Inherit.TheVariants.{No}
 use Rattle.hc_model.specs.declared.section.OptStep.{OptStep}
 use Rattle.hc_model.specs.declared.section.Reach.{Reach}
 use Rattle.hc_model.specs.declared.section.Reach.TheVariants.{Dir, DirSearch, Files, Location, LocationGlob, LocationSearch, When}
@@ -32,7 +28,7 @@ use Rattle.hc_config.specs.declared.gathered.Opening.{Opening}
 use Rattle.hc_config.specs.declared.containers.Container.{Container}
 use Rattle.hc_config.specs.declared.source.Source.{Source}
 use Rattle.hc_config.specs.Requires.{container_rule, section_tree, tree_of}
-use Rattle.hc_config.specs.Rewriting.{no_rewriting, with_cond, with_engine, with_inherit, with_rule}
+use Rattle.hc_config.specs.Rewriting.{no_rewriting, with_base, with_cond, with_engine, with_inherit, with_rule}
 use Rattle.hc_config.specs.declared.rewriting.Rewriting.{Rewriting}
 use Rattle.hc_config.specs.Sources.{top_context}
 
@@ -71,8 +67,8 @@ nothing_gathered = record {
   maps_by_name = [];
 }
 
--- The last line counts of DocumentRoot, ServerName, AllowOverride, AuthMerging, RewriteEngine, RewriteOptions and
--- LimitInternalRecursion; of all else every line, in its order.
+-- The last line counts of DocumentRoot, ServerName, AllowOverride, AuthMerging, RewriteEngine, RewriteBase, RewriteOptions
+-- and LimitInternalRecursion; of all else every line, in its order.
 abbrev pub with_given : Gathered → Given → Gathered
 with_given gathered (given.Root path) = record gathered { root = Some path }
 with_given gathered (given.Name name) = record gathered { name = Some name }
@@ -84,6 +80,7 @@ with_given gathered (given.Allow allowed) = record gathered { allow = Some allow
 with_given gathered (given.Merges merging) = record gathered { merging = merging }
 with_given gathered (given.Member member) = record gathered { members = gathered.members ++ member ∷ [] }
 with_given gathered (given.Engine on) = record gathered { rewriting = with_engine gathered.rewriting on }
+with_given gathered (given.Base path) = record gathered { rewriting = with_base gathered.rewriting path }
 with_given gathered (given.Inherits inherit) = record gathered { rewriting = with_inherit gathered.rewriting inherit }
 with_given gathered (given.Condition cond) = record gathered { rewriting = with_cond gathered.rewriting cond }
 with_given gathered (given.Rewrite made) = record gathered { rewriting = with_rule gathered.rewriting made }
@@ -92,7 +89,7 @@ with_given gathered (given.Values map) = record gathered { maps_by_name = gather
 
 -- ---- bodies
 
--- A server keeps its redirects and sections beside its body.
+-- A server keeps its redirects and sections beside its body, and no RewriteBase stands in it.
 abbrev pub server_body : List OptStep → Rewriting → Body
 server_body options rewriting = roll-Body (record {
   options = options;
@@ -114,13 +111,13 @@ section_body gathered = roll-Body (record {
   allow = gathered.allow;
   merging = gathered.merging;
   require = section_tree gathered.members;
-  engine = None;
-  base = None;
-  rules = [];
-  rewrites = false;
+  engine = gathered.rewriting.engine;
+  base = gathered.rewriting.base;
+  rules = gathered.rewriting.rules;
+  rewrites = gathered.rewriting.stands;
   redirects = gathered.redirects;
   inner = gathered.sections;
-  inherit = No;
+  inherit = gathered.rewriting.inherit;
 })
 
 abbrev pub server_of : Place → List HostAddr → Gathered → Server

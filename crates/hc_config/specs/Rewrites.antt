@@ -3,7 +3,7 @@
 -- LimitInternalRecursion. Which sources of maps there are, the range of a limit, and that a rule which redirects has L or
 -- END where another follows, is our own choice.
 use Rattle.std.specs.Prelude.{ℕ, zero, suc, ◌==◌, List, [], ◌∷◌, length, take, drop, Bool, true, false, not, ◌&&◌, ◌||◌, nat_le, if◌then◌else◌, codes}
-use Rattle.std.specs.Prelude.{Option, Some, None, option_map, Result, Ok, Err}
+use Rattle.std.specs.Prelude.{Option, Some, None, Result, Ok, Err}
 use Rattle.std.specs.Str.{str_eq_ignore_ascii_case}
 use Rattle.hc_addr.specs.Numbers.{at_most, decimal_of}
 use Rattle.hc_base.specs.Paths.{begins_with_slash}

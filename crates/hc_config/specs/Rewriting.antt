@@ -1,6 +1,6 @@
--- What a server or a section has of rewriting so far.
+-- What a server, a section or a `.htaccess` has of rewriting so far.
 -- Apache manual, mod_rewrite.
-use Rattle.std.specs.Prelude.{[], ◌∷◌, ◌++◌, Bool, true, false, Some, None}
+use Rattle.std.specs.Prelude.{ℕ, List, [], ◌∷◌, ◌++◌, Bool, true, false, Some, None}
 use Rattle.hc_model.specs.declared.rewrite.Cond.{Cond}
 use Rattle.hc_model.specs.declared.rewrite.Rule.{Rule}
 use Rattle.hc_model.specs.declared.section.Inherit.{Inherit}
@@ -8,10 +8,13 @@ use Rattle.hc_model.specs.declared.section.Inherit.TheVariants.{No}
 use Rattle.hc_config.specs.declared.rewriting.Rewriting.{Rewriting}
 
 abbrev pub no_rewriting : Rewriting
-no_rewriting = record { stands = false; engine = None; inherit = No; rules = []; conds = [] }
+no_rewriting = record { stands = false; engine = None; base = None; inherit = No; rules = []; conds = [] }
 
 abbrev pub with_engine : Rewriting → Bool → Rewriting
 with_engine rewriting on = record rewriting { stands = true; engine = Some on }
+
+abbrev pub with_base : Rewriting → List ℕ → Rewriting
+with_base rewriting path = record rewriting { stands = true; base = Some path }
 
 abbrev pub with_inherit : Rewriting → Inherit → Rewriting
 with_inherit rewriting inherit = record rewriting { stands = true; inherit = inherit }

@@ -39,10 +39,10 @@ is_of_form Directive meaning = not (is_container meaning)
 is_of_form Opening meaning = is_container meaning
 is_of_form Close meaning = false
 
--- The row of a name, where a directive or section of this form is built.
+-- The row of a name, where it is one of this form.
 abbrev pub supported : EntryForm → Option RowKind → Option RowKind
 supported form None = None
-supported form (Some kind) = if is_of_form form kind.meaning && is_some (giving kind.meaning) then Some kind else None
+supported form (Some kind) = if is_of_form form kind.meaning then Some kind else None
 
 abbrev pub spelling_of : Wording → Spelling
 spelling_of Configuration = conf_spelling
@@ -83,7 +83,7 @@ if_placed source false kind among = Err (rule (misplaced kind among))
 if_placed source true kind among =
     unless_forbidden (is_forbidden source kind) (read_given kind among)
 
--- ---- rewriting, which stands in servers and in plain directories
+-- ---- rewriting, which stands in servers, in plain directories and in a `.htaccess`
 
 abbrev pub is_one_of : List ℕ → ℕ → Bool
 is_one_of numbers number = list_any (λ other. number == other) numbers
@@ -116,17 +116,12 @@ abbrev pub judged_apart : Source → RowKind → Among → Result Effect AtByte
 judged_apart source kind among =
     unless_forbidden (is_forbidden source kind) (refused_behind (rule REWRITE_CONTEXT) (read_given kind among))
 
--- The rules of directories are not built yet.
-abbrev pub is_pending : ℕ → RowKind → Bool
-is_pending place kind = is_one_of of_directories kind.meaning && is_one_of (context.DIRECTORY ∷ context.HTACCESS ∷ []) place
-
 -- ---- where it stands
 
 abbrev pub if_known : Source → ℕ → RowKind → Among → Result Effect AtByte
 if_known source place kind among =
     if stands_apart place kind among then judged_apart source kind among
-    else (if is_pending place kind then Err (rule UNSUPPORTED_DIRECTIVE)
-    else if_placed source (may_stand source place kind && follows_its_chain kind among) kind among)
+    else if_placed source (may_stand source place kind && follows_its_chain kind among) kind among
 
 -- A name that is not supported.
 abbrev pub if_supported : Source → ℕ → Option RowKind → Among → Result Effect AtByte

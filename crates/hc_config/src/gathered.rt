@@ -36,6 +36,8 @@ pub(crate) enum Given {
     Member(ReqTree),
     /// `RewriteEngine`.
     Engine(bool),
+    /// `RewriteBase`.
+    Base(Text),
     /// `RewriteOptions`.
     Inherits(Inherit),
     /// `RewriteCond`.
@@ -126,7 +128,7 @@ impl Gathered {
     }
 
     /// The last line counts of DocumentRoot, ServerName, AllowOverride, AuthMerging, RewriteEngine,
-    /// RewriteOptions and LimitInternalRecursion; of all else every line.
+    /// RewriteBase, RewriteOptions and LimitInternalRecursion; of all else every line.
     pub(crate) fn take(&mut self, given: Given) -> Result<(), NoMemory>
         ensures { OnOk result (self.new ≡ with_given self.old given) }
     {
@@ -145,6 +147,7 @@ impl Gathered {
             Given::Merges(merging) => self.merging = merging,
             Given::Member(member) => self.members.push(member)?,
             Given::Engine(on) => self.rewriting.set_engine(on),
+            Given::Base(path) => self.rewriting.set_base(path),
             Given::Inherits(inherit) => self.rewriting.set_inherit(inherit),
             Given::Condition(cond) => self.rewriting.push_cond(cond)?,
             Given::Rewrite(rule) => self.rewriting.push_rule(rule)?,
@@ -192,19 +195,19 @@ impl Gathered {
     pub(crate) fn into_body(self) -> Body
         ensures { result ≡ section_body self }
     {
-        let alloc = self.options.allocator();
+        let rewriting = self.rewriting;
         Body {
             options: self.options,
             allow: self.allow,
             merging: self.merging,
             require: section_tree(self.members),
-            engine: None,
-            base: None,
-            rules: List::new(alloc),
-            rewrites: false,
+            engine: rewriting.engine,
+            base: rewriting.base,
+            rules: rewriting.rules,
+            rewrites: rewriting.stands,
             redirects: self.redirects,
             inner: self.sections,
-            inherit: Inherit::No,
+            inherit: rewriting.inherit,
         }
     }
 
@@ -247,7 +250,7 @@ fn joined(mut names: List<Text>, more: &[Text]) -> Result<List<Text>, NoMemory>
     Ok(names)
 }
 
-// A server keeps its redirects and sections beside its body.
+// A server keeps its redirects and sections beside its body, and no RewriteBase stands in it.
 fn server_body(alloc: Global, options: List<OptStep>, rewriting: Rewriting) -> Body
     ensures { result ≡ server_body options rewriting }
 {

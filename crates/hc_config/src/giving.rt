@@ -1,5 +1,5 @@
 //! What each directive and section gives, by its meaning.
-ghost use Rattle.std.specs.Prelude.{◌≡◌, is_some, map, Ok};
+ghost use Rattle.std.specs.Prelude.{◌≡◌, map, Ok};
 ghost use Rattle.hc_base.specs.Gives.{Gives};
 ghost use Rattle.hc_table.specs.Directives.{directive_rows};
 ghost use Rattle.hc_table.specs.Table.{row_of};
@@ -33,60 +33,6 @@ const UNSUPPORTED: EffectFault = Fault::Refused(AtByte {
     code: UNSUPPORTED_DIRECTIVE,
     at: 0,
 });
-
-/// The directives and sections that are built so far.
-pub(crate) fn is_built(meaning: u16) -> bool
-    ensures { result ≡ is_some (giving meaning) }
-{
-    matches!(
-        meaning,
-        meaning::SERVER_ROOT
-            | meaning::DOCUMENT_ROOT
-            | meaning::DEFINE
-            | meaning::INCLUDE
-            | meaning::INCLUDE_OPTIONAL
-            | meaning::ALIAS
-            | meaning::SCRIPT_ALIAS
-            | meaning::ALIAS_MATCH
-            | meaning::REDIRECT
-            | meaning::REDIRECT_MATCH
-            | meaning::REDIRECT_PERMANENT
-            | meaning::REDIRECT_TEMP
-            | meaning::USE_CANONICAL_NAME
-            | meaning::USER_DIR
-            | meaning::ACCESS_FILE_NAME
-            | meaning::LOAD_MODULE
-            | meaning::INERT
-            | meaning::SERVER_NAME
-            | meaning::SERVER_ALIAS
-            | meaning::OPTIONS
-            | meaning::ALLOW_OVERRIDE
-            | meaning::VIRTUAL_HOST
-            | meaning::DIRECTORY
-            | meaning::DIRECTORY_MATCH
-            | meaning::FILES
-            | meaning::FILES_MATCH
-            | meaning::LOCATION
-            | meaning::LOCATION_MATCH
-            | meaning::REQUIRE
-            | meaning::AUTH_MERGING
-            | meaning::REQUIRE_ALL
-            | meaning::REQUIRE_ANY
-            | meaning::REQUIRE_NONE
-            | meaning::IF
-            | meaning::ELSE_IF
-            | meaning::ELSE
-            | meaning::REWRITE_ENGINE
-            | meaning::REWRITE_BASE
-            | meaning::REWRITE_COND
-            | meaning::REWRITE_RULE
-            | meaning::REWRITE_OPTIONS
-            | meaning::REWRITE_MAP
-            | meaning::LIMIT_INTERNAL_RECURSION
-            | meaning::IF_DEFINE
-            | meaning::IF_MODULE
-    )
-}
 
 /// What a directive gives with these words.
 pub(crate) fn give(meaning: u16, among: &Among, words: &[CowStr]) -> Result<Effect, EffectFault>
@@ -173,7 +119,7 @@ fn give_to_rewriting(meaning: u16, among: &Among, words: &[CowStr]) -> Result<Ef
 {
     match meaning {
         meaning::REWRITE_ENGINE => rewrite_engine(words),
-        meaning::REWRITE_BASE => rewrite_base(words),
+        meaning::REWRITE_BASE => rewrite_base(among, words),
         meaning::REWRITE_COND => rewrite_cond(among, words),
         meaning::REWRITE_RULE => rewrite_rule(among, words),
         meaning::REWRITE_OPTIONS => rewrite_options(words),

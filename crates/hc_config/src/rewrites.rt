@@ -82,12 +82,15 @@ fn inherit_of(words: &[CowStr]) -> Result<Inherit, EffectFault>
     }
 }
 
-/// `RewriteBase path` (mod_rewrite): a path that begins with a slash. It changes nothing yet.
-pub(crate) fn rewrite_base(words: &[CowStr]) -> Result<Effect, EffectFault>
+/// `RewriteBase path` (mod_rewrite): a path that begins with a slash.
+pub(crate) fn rewrite_base(among: &Among, words: &[CowStr]) -> Result<Effect, EffectFault>
     ensures { Gives result (rewrite_base words.now) }
 {
     match words {
-        [path] if is_absolute(path) => Ok(Effect::Nothing),
+        [path] if is_absolute(path) => {
+            let path = Text::copy_of(among.alloc, path.as_str().as_bytes())?;
+            Ok(Effect::Gives(Given::Base(path)))
+        }
         _ => Err(REFUSED),
     }
 }

@@ -1,7 +1,7 @@
 ghost use Rattle.std.specs.Prelude.{◌≡◌, OnOk};
-ghost use Rattle.hc_config.specs.Rewriting.{no_rewriting, with_cond, with_engine, with_inherit, with_rule};
+ghost use Rattle.hc_config.specs.Rewriting.{no_rewriting, with_base, with_cond, with_engine, with_inherit, with_rule};
 
-use hc_base::{List, NoMemory};
+use hc_base::{List, NoMemory, Text};
 use hc_model::{Cond, Inherit, Rule};
 use std::alloc::Global;
 use std::mem::replace;
@@ -9,13 +9,15 @@ use std::mem::replace;
 /// The highest LimitInternalRecursion (Apache manual, core); our own choice.
 pub(crate) const MOST_RECURSIONS: u32 = 1_000;
 
-/// What a server or a section has of rewriting so far (Apache manual, mod_rewrite).
+/// What a server, a section or a `.htaccess` has of rewriting so far (Apache manual, mod_rewrite).
 #[derive(Drop)]
 pub(crate) struct Rewriting {
     /// Some directive of mod_rewrite stands here.
     pub stands: bool,
     /// The last RewriteEngine.
     pub engine: Option<bool>,
+    /// The last RewriteBase.
+    pub base: Option<Text>,
     /// The last RewriteOptions.
     pub inherit: Inherit,
     pub rules: List<Rule>,
@@ -30,6 +32,7 @@ impl Rewriting {
         Rewriting {
             stands: false,
             engine: None,
+            base: None,
             inherit: Inherit::No,
             rules: List::new(alloc),
             conds: List::new(alloc),
@@ -41,6 +44,13 @@ impl Rewriting {
     {
         self.stands = true;
         self.engine = Some(on);
+    }
+
+    pub(crate) fn set_base(&mut self, path: Text)
+        ensures { self.new ≡ with_base self.old path }
+    {
+        self.stands = true;
+        self.base = Some(path);
     }
 
     pub(crate) fn set_inherit(&mut self, inherit: Inherit)

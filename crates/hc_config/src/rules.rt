@@ -1,4 +1,4 @@
-ghost use Rattle.std.specs.Prelude.{◌≡◌, ◌==◌, ◌&&◌, ◌||◌, is_some, map, true, IfOk, Result, Some};
+ghost use Rattle.std.specs.Prelude.{◌≡◌, ◌==◌, ◌&&◌, map, true, IfOk, Result, Some};
 ghost use Rattle.std.specs.List.{list_any};
 ghost use Rattle.hc_base.specs.Gives.{Gives, GivesList};
 ghost use Rattle.hc_base.specs.Rules.{rule};
@@ -7,16 +7,15 @@ ghost use Rattle.hc_lines.specs.Words.{read_words};
 ghost use Rattle.hc_table.specs.Directives.{directive_rows};
 ghost use Rattle.hc_table.specs.Table.{find_in, row_of};
 ghost use Rattle.hc_config.specs.Among.{among_of};
-ghost use Rattle.hc_config.specs.Directives.{giving};
 ghost use Rattle.hc_config.specs.Rules.{apart, closing, follows_its_chain, if_known, if_placed};
-ghost use Rattle.hc_config.specs.Rules.{in_wild_directory, is_closing, is_of_form, is_one_of, is_pending, judged};
+ghost use Rattle.hc_config.specs.Rules.{in_wild_directory, is_closing, is_of_form, is_one_of, judged};
 ghost use Rattle.hc_config.specs.Rules.{judged_apart, of_directories, of_rewriting, read_given, refused_behind};
 ghost use Rattle.hc_config.specs.Rules.{require_containers, spelling_of, stands_apart, supported, unknown_kind};
 ghost use Rattle.hc_config.specs.Sources.{may_stand, unless_forbidden};
 
 use crate::among::Among;
 use crate::effect::{Effect, EffectFault};
-use crate::giving::{give, is_built};
+use crate::giving::give;
 use crate::kinds::is_level;
 use crate::requiring::has_unknown_kind;
 use hc_base::codes::{OVERRIDE_NOT_ALLOWED, REWRITE_CONTEXT, UNSUPPORTED_DIRECTIVE, WRONG_CONTEXT};
@@ -74,21 +73,15 @@ fn broken(code: u8) -> EffectFault
     Fault::Refused(AtByte::rule(code))
 }
 
-// The row of an entry's name, where a directive or section of its form is built.
+// The row of an entry's name, where it is one of its form.
 fn kind_of(names: &[Row], entry: EntryView) -> Option<RowKind>
     requires { map row_of names.now ≡ directive_rows }
     ensures { result ≡ supported (entry_of entry.entry).form (find_in directive_rows (entry_of entry.entry).name) }
 {
     match find_in(names, entry.name.as_bytes()) {
-        Some(kind) if is_supported(entry.form, kind.meaning) => Some(kind),
+        Some(kind) if is_of_form(entry.form, kind.meaning) => Some(kind),
         _ => None,
     }
-}
-
-fn is_supported(form: EntryForm, meaning: u16) -> bool
-    ensures { result ≡ (is_of_form form meaning && is_some (giving meaning)) }
-{
-    is_of_form(form, meaning) && is_built(meaning)
 }
 
 // Only a container opens a section, and only another name is a directive.
@@ -109,8 +102,6 @@ fn judge_as(kind: RowKind, among: &Among) -> Result<Effect, EffectFault>
 {
     if stands_apart(kind, among) {
         judge_apart(kind, among)
-    } else if is_pending(among.context, kind) {
-        Err(broken(UNSUPPORTED_DIRECTIVE))
     } else {
         judge_placed(kind, among)
     }
@@ -144,13 +135,6 @@ fn in_wild_directory(among: &Among) -> bool
     ensures { result ≡ in_wild_directory among.now.context (among_of among.now) }
 {
     among.context == context::DIRECTORY && among.wild
-}
-
-// The rules of directories are not built yet.
-fn is_pending(place: u16, kind: RowKind) -> bool
-    ensures { result ≡ is_pending place kind }
-{
-    is_of_directories(kind.meaning) && matches!(place, context::DIRECTORY | context::HTACCESS)
 }
 
 fn is_of_rewriting(meaning: u16) -> bool

@@ -3,7 +3,9 @@ pub mod Groups
 pub mod Overriding
 pub mod Order
 pub mod Reaching
+pub mod Rewriting
 pub mod Settings
 pub mod CandidateView
+pub mod RewritingView
 pub mod WantedView
 pub mod Laws

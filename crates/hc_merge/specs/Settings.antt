@@ -21,6 +21,7 @@ use Rattle.hc_merge.specs.Candidates.{Candidate, servers_merged}
 use Rattle.hc_merge.specs.Order.{ordered_sections}
 use Rattle.hc_merge.specs.Overriding.{Files_at}
 use Rattle.hc_merge.specs.Reaching.{kept_by}
+use Rattle.hc_merge.specs.Rewriting.{rewriting_of}
 
 -- ---- Options
 
@@ -72,10 +73,10 @@ abbrev pub merged : Config → HostId → List Candidate → Effective
 merged config host kept = record {
   follow = follows (servers_merged config host) kept;
   require = require_of kept;
-  engine = false;
-  dir = None;
-  base = None;
-  rules = [];
+  engine = (rewriting_of kept).engine;
+  dir = (rewriting_of kept).dir;
+  base = (rewriting_of kept).base;
+  rules = (rewriting_of kept).rules;
   redirects = redirects_of kept;
   sections = map event_of kept;
 }

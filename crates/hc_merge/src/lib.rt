@@ -9,6 +9,7 @@ pub mod laws;
 mod order;
 mod overriding;
 mod reaching;
+mod rewriting;
 mod sections;
 mod settings;
 

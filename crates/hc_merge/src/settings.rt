@@ -1,8 +1,10 @@
 ghost use Rattle.std.specs.Prelude.{◌≡◌, ◌++◌, map, IfOk};
 ghost use Rattle.std.specs.List.{fold, list_any};
+ghost use Rattle.std.specs.Option.{option_map};
 ghost use Rattle.hc_merge.specs.CandidateView.{candidate_of, candidates_of};
 ghost use Rattle.hc_merge.specs.Candidates.{servers_merged};
 ghost use Rattle.hc_merge.specs.Overriding.{AreLoaded, files_read, wanted_by};
+ghost use Rattle.hc_merge.specs.RewritingView.{rules_in};
 ghost use Rattle.hc_merge.specs.Settings as definition;
 ghost use Rattle.hc_merge.specs.Settings.{event_of, follows, is_among, is_on, merged, on_after, on_at_sections};
 ghost use Rattle.hc_merge.specs.Settings.{on_at_servers, redirects_of, require_of, still_on};
@@ -12,10 +14,12 @@ ghost use Rattle.hc_vhost.specs.Servers.{IsHostOf};
 use crate::candidate::Candidate;
 use crate::order::ordered_sections;
 use crate::reaching::kept_by;
+use crate::rewriting::rewriting_of;
 use hc_authz::join;
-use hc_base::{List, NoMemory};
+use hc_base::{List, NoMemory, Text};
 use hc_model::{
-    Config, Effective, Event, HostId, Merging, OptStep, Overrides, Redirect, ReqTree, View, Walk,
+    Config, Effective, Event, HostId, Merging, OptStep, Overrides, Redirect, ReqTree, Rule, View,
+    Walk,
 };
 use hc_vhost::server_at;
 use std::alloc::Global;
@@ -25,8 +29,9 @@ const FOLLOW_LINKS: u8 = 5;
 
 const LINKS_IF_OWNER_MATCH: u8 = 6;
 
-/// What is in force for a file name: the sections that apply, merged (Apache manual, "How the sections are
-/// merged"). The `.htaccess` of each directory of the walk in which something is allowed has to be loaded.
+/// What is in force for a file name, rewriting too: the sections that apply, merged (Apache manual, "How the
+/// sections are merged"). The `.htaccess` of each directory of the walk in which something is allowed has to
+/// be loaded.
 pub fn effective<O: Overrides>(
     alloc: Global,
     config: &Config,
@@ -45,8 +50,8 @@ pub fn effective<O: Overrides>(
     merge_sections(alloc, config, host, &kept)
 }
 
-/// What these sections set, one behind another: each Options line, and redirects, of which a later
-/// section's come first.
+/// What these sections set, one behind another: each Options line, redirects, of which a later section's
+/// come first, and what of mod_rewrite is in force behind them.
 pub fn merge_sections(
     alloc: Global,
     config: &Config,
@@ -56,16 +61,20 @@ pub fn merge_sections(
     requires { IsHostOf config.now host }
     ensures { IfOk result (λ effective. effective ≡ merged config.now host (map candidate_of kept.now)) }
 {
+    let rewriting = rewriting_of(alloc, kept)?;
+    let dir = copied(rewriting.dir)?;
+    let base = copied(rewriting.base)?;
+    let rules = rules_of(alloc, &rewriting.rules)?;
     let redirects = redirects_of(alloc, kept)?;
     let sections = events_of(alloc, kept)?;
     let require = require_of(alloc, kept)?;
     Ok(Effective {
         follow: follows(config, host, kept),
         require,
-        engine: false,
-        dir: None,
-        base: None,
-        rules: List::new(alloc),
+        engine: rewriting.engine,
+        dir,
+        base,
+        rules,
         redirects,
         sections,
     })
@@ -173,13 +182,34 @@ fn redirects_of(alloc: Global, kept: &[Candidate<'_>]) -> Result<List<Redirect>,
     Ok(redirects)
 }
 
-fn behind(mut list: List<Redirect>, more: &[Redirect]) -> Result<List<Redirect>, NoMemory>
+// The rules of lists, one behind another.
+fn rules_of(alloc: Global, lists: &[&List<Rule>]) -> Result<List<Rule>, NoMemory>
+    ensures { IfOk result (λ rules. rules ≡ rules_in lists.now) }
+{
+    let mut rules = List::new(alloc);
+    for list in lists {
+        rules = behind(rules, list.as_slice())?;
+    }
+    Ok(rules)
+}
+
+fn behind<T: Clone + Drop>(mut list: List<T>, more: &[T]) -> Result<List<T>, NoMemory>
+    requires { (x y : T) → T.is_clone x y → y ≡ x }
     ensures { IfOk result (λ all. all ≡ list ++ more.now) }
 {
-    for redirect in more {
-        list.push(redirect.clone()?)?;
+    for item in more {
+        list.push(item.clone()?)?;
     }
     Ok(list)
+}
+
+fn copied(text: Option<&Text>) -> Result<Option<Text>, NoMemory>
+    ensures { IfOk result (λ copy. copy ≡ option_map (λ text. text.now) text.entry) }
+{
+    match text {
+        Some(text) => Ok(Some(text.clone()?)),
+        None => Ok(None),
+    }
 }
 
 fn events_of(alloc: Global, kept: &[Candidate<'_>]) -> Result<List<Event>, NoMemory>

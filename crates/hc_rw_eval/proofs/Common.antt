@@ -2,6 +2,13 @@
 pub use Rattle.std.proofs.Common.{◌≡◌, ◌∙◌, ℕ, zero, suc, ◌+◌, ◌-◌, ◌<◌, ◌≤◌, List, [], ◌∷◌, length, take, drop, get_or, Bool, true, false, Option, Some, None, Result, Ok, Err, refl, sym, ap, subst, arith, if◌then◌else◌}
 pub use Rattle.hc_base.specs.declared.fault.Fault.{Fault}
 pub use Rattle.hc_model.specs.declared.outcome.Outcome.{Outcome}
+pub use Rattle.hc_model.specs.declared.outcome.Outcome.TheVariants.{Limit}
+pub use Rattle.hc_model.specs.declared.rewrite.Rule.{Rule}
+pub use Rattle.hc_rw_eval.specs.declared.attempt.Attempt.{Attempt}
+pub use Rattle.hc_rw_eval.specs.declared.attempt.Rewritten.{Rewritten}
+pub use Rattle.hc_rw_eval.specs.declared.run.Finished.{Finished}
+pub use Rattle.hc_rw_eval.specs.declared.run.Round.{Round}
+pub use Rattle.hc_rw_eval.specs.declared.run.Round.TheVariants.{Again, Over}
 pub use Rattle.hc_rw_expand.specs.Contexts.{Context}
 pub use Rattle.hc_rw_expand.specs.Lookups.{Looks}
 pub use Rattle.hc_steps.specs.Ran.{Logged, Leads}

@@ -1,26 +1,19 @@
 -- What maps give in one world is all that a run in that world knows of them.
-use Rattle.hc_rw_eval.proofs.Common.{◌≡◌, ◌∙◌, ℕ, zero, suc, ◌+◌, List, [], ◌∷◌, Bool, true, false, Option, Some, None, refl, sym, ap, if◌then◌else◌, Outcome, Context, Looks, Run, run, Shown, Step, leaves, ends, say, look, in_order, ◌>>=◌}
+use Rattle.hc_rw_eval.proofs.Common.{◌≡◌, ◌∙◌, ℕ, zero, suc, ◌+◌, List, [], ◌∷◌, Bool, true, false, Option, Some, None, refl, sym, ap, if◌then◌else◌, Outcome, Context, Looks, run, Shown, Step, leaves, in_order, ◌>>=◌, Rule, Attempt, Rewritten, Finished, Round, Again, Over}
 use Rattle.hc_model.specs.declared.read.Read.TheVariants.{TextOf}
 use Rattle.hc_model.specs.declared.rewrite.Cond.{Cond}
 use Rattle.hc_model.specs.declared.rewrite.EnvSet.{EnvSet}
 use Rattle.hc_model.specs.declared.rewrite.Flags.{Flags}
-use Rattle.hc_model.specs.declared.rewrite.Rule.{Rule}
 use Rattle.hc_model.specs.declared.template.Piece.{Piece, out-Piece}
 use Rattle.hc_model.specs.declared.template.Piece.TheOpen.{Piece-F, Lookup}
-use Rattle.hc_rw_eval.specs.Attempts.{attempt, if_tested, matched, pattern_held, pattern_tried}
-use Rattle.hc_rw_eval.specs.Conditions.{cond_tried, conds_tried, counted, group_tried, groups_of, is_found, searched, tested_so_far, text_tested, unless_held, while_held}
+use Rattle.hc_rw_eval.specs.Attempts.{attempt, found_in, if_tested, matched, pattern_held, pattern_tried}
+use Rattle.hc_rw_eval.specs.Conditions.{cond_tried, conds_tried, counted, group_tried, groups_of, is_found, tested_so_far, unless_held, while_held}
 use Rattle.hc_rw_eval.specs.Frames.{looks_in}
 use Rattle.hc_rw_eval.specs.Lists.{begun, behind, behind_match, from_place, is_followed, most_rounds, next_round, rounds_from, run_rules, stops_run}
-use Rattle.hc_rw_eval.specs.Substitutions.{applied, set_by, set_to, status_of, substituted, text_made, unless_answered, variable_set, variables_set, with_state}
-use Rattle.hc_rw_eval.specs.declared.attempt.Attempt.{Attempt}
-use Rattle.hc_rw_eval.specs.declared.attempt.Rewritten.{Rewritten}
+use Rattle.hc_rw_eval.specs.Substitutions.{applied, set_by, status_of, substituted, unless_answered, variable_set, variables_set, with_state}
 use Rattle.hc_rw_eval.specs.declared.conditions.Tested.{Tested}
-use Rattle.hc_rw_eval.specs.declared.run.Finished.{Finished}
-use Rattle.hc_rw_eval.specs.declared.run.Round.{Round}
-use Rattle.hc_rw_eval.specs.declared.run.Round.TheVariants.{Again, Over}
 use Rattle.hc_rw_expand.specs.Lookups.{Stands, Values, expanded, open_expanded, text_of_map, text_shown, valued}
 use Rattle.hc_rw_expand.specs.Values.{filling_in}
-use Rattle.hc_rw_expand.specs.declared.groups.Matched.{Matched}
 use Rattle.hc_rw_expand.specs.declared.state.RwState.{RwState}
 use Rattle.hc_steps.specs.Run.{goes_on, run_then, saying}
 use Rattle.hc_steps.proofs.Running.{in_turn}
@@ -133,7 +126,7 @@ module _ (files : List ℕ → Option (List ℕ)) (values : Values) (looks : Loo
 
       same_attempt : (before : Rewritten) → run (attempt context (looks_in files values) rule followed before) w ≡ run (attempt context looks rule followed before) w
       unfolding attempt pattern_tried
-      same_attempt before = same_if w (counted rule.negated (is_found (searched before.state.text rule.pat))) _ _ _ _ (same_held _) refl
+      same_attempt before = same_if w (counted rule.negated (is_found (found_in context rule before.state))) _ _ _ _ (same_held _) refl
 
     same_behind_match : (f g : ℕ → Rewritten → Step Outcome Round) → ((skipped : ℕ) (left : Rewritten) → run (f skipped left) w ≡ run (g skipped left) w)
         → (flags : Flags) (round : ℕ) (left : Rewritten) → run (behind_match f flags round left) w ≡ run (behind_match g flags round left) w

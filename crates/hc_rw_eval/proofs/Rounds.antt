@@ -1,16 +1,10 @@
 -- Rounds, one after another. In the loop `whole` is what they come to from the start.
-use Rattle.hc_rw_eval.proofs.Common.{◌≡◌, ℕ, suc, ◌+◌, ◌-◌, ◌<◌, ◌≤◌, List, Result, Ok, Err, refl, subst, arith, Fault, Outcome, Context, Looks, Logged, Leads, Ran, Run, run, Shown, Step, say, ◌>>=◌, leads_all, leads_end, ran_ends, ran_said}
+use Rattle.hc_rw_eval.proofs.Common.{◌≡◌, ℕ, suc, ◌+◌, ◌-◌, ◌<◌, ◌≤◌, List, Result, Ok, Err, refl, subst, arith, Fault, Outcome, Context, Looks, Logged, Leads, Ran, Run, run, Shown, Step, ◌>>=◌, leads_all, leads_end, ran_ends, Rule, Rewritten, Finished, Round, Again, Over, Limit}
 use Rattle.std.specs.Result.{IsErrAnd}
 use Rattle.hc_base.specs.declared.fault.Fault.TheVariants.{Refused}
 use Rattle.hc_model.specs.declared.event.Event.TheVariants as event
 use Rattle.hc_model.specs.declared.outcome.LimitKind.TheVariants as limit
-use Rattle.hc_model.specs.declared.outcome.Outcome.TheVariants.{Limit}
-use Rattle.hc_model.specs.declared.rewrite.Rule.{Rule}
 use Rattle.hc_rw_eval.specs.Lists.{from_place, next_round, rounds_from}
-use Rattle.hc_rw_eval.specs.declared.attempt.Rewritten.{Rewritten}
-use Rattle.hc_rw_eval.specs.declared.run.Finished.{Finished}
-use Rattle.hc_rw_eval.specs.declared.run.Round.{Round}
-use Rattle.hc_rw_eval.specs.declared.run.Round.TheVariants.{Again, Over}
 use Rattle.hc_steps.specs.Ran.{with_event}
 use Rattle.hc_rw_eval.proofs.Leading.{leads_off, leads_said, leads_then}
 

@@ -1,25 +1,20 @@
 -- A round, rule by rule.
-use Rattle.hc_rw_eval.proofs.Common.{◌≡◌, ◌∙◌, ℕ, zero, suc, List, [], ◌∷◌, length, drop, Bool, true, false, Option, refl, sym, ap, subst, if◌then◌else◌, Result, Ok, Err, Fault, Outcome, Context, Looks, Logged, Leads, Ran, Run, run, Shown, Step, leaves, ends, say, look, told, ◌>>=◌, leads_end}
+use Rattle.hc_rw_eval.proofs.Common.{◌≡◌, ◌∙◌, ℕ, zero, suc, List, [], ◌∷◌, length, drop, Bool, true, false, Option, refl, sym, ap, subst, if◌then◌else◌, Result, Ok, Err, Fault, Outcome, Context, Looks, Logged, Leads, Ran, Run, run, Shown, Step, leaves, ends, say, look, told, ◌>>=◌, leads_end, Rule, Attempt, Rewritten, Round}
 use Rattle.std.proofs.lemmas.List.{nil_from_length}
 use Rattle.std.specs.Result.{IsErrAnd}
 use Rattle.hc_model.specs.declared.event.Event.TheVariants as event
-use Rattle.hc_model.specs.declared.rewrite.Flags.{Flags}
-use Rattle.hc_model.specs.declared.rewrite.Rule.{Rule}
-use Rattle.hc_rw_eval.specs.Attempts.{attempt, groups_of, not_matched, pattern_held, pattern_tried, rule_spot}
-use Rattle.hc_rw_eval.specs.Conditions.{counted, is_found, searched}
+use Rattle.hc_rw_eval.specs.Attempts.{attempt, found_in, groups_of, not_matched, pattern_held, pattern_tried, rule_spot}
+use Rattle.hc_rw_eval.specs.Conditions.{counted, is_found}
 use Rattle.hc_rw_eval.specs.Lists.{begun_again, behind, behind_match, from_place, is_followed, over, skipped_chain, stops_run}
 use Rattle.hc_rw_eval.specs.Turns.{looked, rule_held, turned, turned_match, with_groups}
-use Rattle.hc_rw_eval.specs.declared.attempt.Attempt.{Attempt}
 use Rattle.hc_rw_eval.specs.declared.attempt.Looked.{Looked}
 use Rattle.hc_rw_eval.specs.declared.attempt.Looked.TheVariants.{Failed, Held}
-use Rattle.hc_rw_eval.specs.declared.attempt.Rewritten.{Rewritten}
 use Rattle.hc_rw_eval.specs.declared.round.Turn.{Turn}
 use Rattle.hc_rw_eval.specs.declared.round.Turn.TheVariants.{Ended, Further}
-use Rattle.hc_rw_eval.specs.declared.run.Round.{Round}
 use Rattle.hc_rw_expand.specs.declared.groups.Matched.{Matched}
 use Rattle.hc_rw_eval.proofs.Leading.{leads_off, leads_then}
 
-assoc : {E A B C : Type 0} (s : Step E A) (f : A → Step E B) (g : B → Step E C) → (s >>= f) >>= g ≡ s >>= (λ a. f a >>= g)
+pub assoc : {E A B C : Type 0} (s : Step E A) (f : A → Step E B) (g : B → Step E C) → (s >>= f) >>= g ≡ s >>= (λ a. f a >>= g)
 unfolding ◌>>=◌
 assoc (leaves a) f g = refl
 assoc (ends e) f g = refl
@@ -67,12 +62,12 @@ module _ (context : Context) (looks : Looks) (round : ℕ) where
       ∙ sym (assoc held (turned rule rules round) (onward further))
 
   first_rule : (rule : Rule) (rules : List Rule) (left : Rewritten)
-      → from_place context looks round 0 (rule ∷ rules) left ≡ looked rule (searched left.state.text rule.pat) >>= behind_looked rule rules left
+      → from_place context looks round 0 (rule ∷ rules) left ≡ looked rule (found_in context rule left.state) >>= behind_looked rule rules left
   unfolding from_place attempt pattern_tried not_matched looked behind behind_looked ◌>>=◌
   first_rule rule rules left = by_pattern (counted rule.negated (is_found found))
     where
       found : Option Matched
-      found = searched left.state.text rule.pat
+      found = found_in context rule left.state
 
       further : ℕ → Rewritten → Step Outcome Round
       further skipped left = from_place context looks round skipped rules left
@@ -106,24 +101,24 @@ module _ (context : Context) (looks : Looks) (round : ℕ) where
         subst (λ step. Leads old whole now (run step w)) (from_skipped skipped behind left ∙ ap (λ more. from_place context looks round 0 more left) (sym is)) h
 
     module _ (now next : Logged) (rule : Rule) (rules behind : List Rule) (left : Rewritten) (is : rules ≡ rule ∷ behind) (h : Left now rules left) where
-      at_first : Leads old whole now (run (looked rule (searched left.state.text rule.pat) >>= behind_looked rule behind left) w)
+      at_first : Leads old whole now (run (looked rule (found_in context rule left.state) >>= behind_looked rule behind left) w)
       at_first = subst (λ step. Leads old whole now (run step w)) (ap (λ rules. from_place context looks round 0 rules left) is ∙ first_rule rule behind left) h
 
-      pub look_faults : (fault : Fault Outcome) (answer : Result Round (Fault Outcome)) → Ran {A = Looked} (Err fault) now next (run (looked rule (searched left.state.text rule.pat)) w)
+      pub look_faults : (fault : Fault Outcome) (answer : Result Round (Fault Outcome)) → Ran {A = Looked} (Err fault) now next (run (looked rule (found_in context rule left.state)) w)
           → IsErrAnd answer (λ other. other ≡ fault) → Ran answer old next whole
       look_faults fault answer ran is =
-          leads_off (looked rule (searched left.state.text rule.pat)) (behind_looked rule behind left) w fault answer old now next whole at_first ran is
+          leads_off (looked rule (found_in context rule left.state)) (behind_looked rule behind left) w fault answer old now next whole at_first ran is
 
-      looked_on : (found : Looked) → Ran (Ok found) now next (run (looked rule (searched left.state.text rule.pat)) w) → Leads old whole next (run (behind_looked rule behind left found) w)
-      looked_on found ran = leads_then (looked rule (searched left.state.text rule.pat)) (behind_looked rule behind left) w found old now next whole at_first ran
+      looked_on : (found : Looked) → Ran (Ok found) now next (run (looked rule (found_in context rule left.state)) w) → Leads old whole next (run (behind_looked rule behind left found) w)
+      looked_on found ran = leads_then (looked rule (found_in context rule left.state)) (behind_looked rule behind left) w found old now next whole at_first ran
 
-      pub rule_failed : (more : List Rule) → Ran (Ok Failed) now next (run (looked rule (searched left.state.text rule.pat)) w)
+      pub rule_failed : (more : List Rule) → Ran (Ok Failed) now next (run (looked rule (found_in context rule left.state)) w)
           → more ≡ drop (skipped_chain rule behind) behind → Left next more left
       unfolding behind_looked
       rule_failed more ran is = skipped_on next (skipped_chain rule behind) behind more left is (looked_on Failed ran)
 
       module _ (groups : Option Matched) (last : Logged) (before : Rewritten) (is_before : before ≡ with_groups groups left)
-          (held : Ran (Ok (Held groups)) now next (run (looked rule (searched left.state.text rule.pat)) w)) where
+          (held : Ran (Ok (Held groups)) now next (run (looked rule (found_in context rule left.state)) w)) where
         further : ℕ → Rewritten → Step Outcome Round
         further skipped left = from_place context looks round skipped behind left
 

@@ -1,11 +1,12 @@
 -- The attempt of one rule: its pattern first, then its conditions, and then what it does.
 -- Apache manual, mod_rewrite, RewriteRule; "Apache mod_rewrite Technical Details", "Ruleset Processing".
-use Rattle.std.specs.Prelude.{ℕ, List, Bool, true, false, not, if◌then◌else◌, Option, Some, None}
+use Rattle.std.specs.Prelude.{Bool, true, false, if◌then◌else◌, Option, None}
 use Rattle.hc_model.specs.declared.event.Event.TheVariants as event
 use Rattle.hc_model.specs.declared.outcome.Outcome.{Outcome}
 use Rattle.hc_model.specs.declared.rewrite.Rule.{Rule}
 use Rattle.hc_model.specs.declared.spot.Spot.{Spot}
 use Rattle.hc_rw_eval.specs.Conditions.{conds_tried, counted, is_found, searched}
+use Rattle.hc_rw_eval.specs.Directories.{subject_in}
 use Rattle.hc_rw_eval.specs.Substitutions.{applied, with_state}
 use Rattle.hc_rw_eval.specs.declared.attempt.Attempt.{Attempt}
 use Rattle.hc_rw_eval.specs.declared.attempt.Rewritten.{Rewritten}
@@ -53,7 +54,10 @@ pattern_tried context looks rule followed before found =
     then pattern_held context looks rule followed (with_state before (with_groups rule found before.state))
     else not_matched rule before
 
--- The pattern is looked for in the text that is rewritten.
+-- What the pattern of a rule finds: in a server in the text that is rewritten.
+abbrev pub found_in : Context → Rule → RwState → Option Matched
+found_in context rule state = searched (subject_in context.engine state) rule.pat
+
 unfoldable pub attempt : Context → Looks → Rule → Bool → Rewritten → Step Outcome Attempt
 attempt context looks rule followed before =
-    pattern_tried context looks rule followed before (searched before.state.text rule.pat)
+    pattern_tried context looks rule followed before (found_in context rule before.state)

@@ -1,6 +1,6 @@
 -- The conditions of a rule.
 -- Apache manual, mod_rewrite, RewriteCond. What `-f` and `-d` look at is our own choice.
-use Rattle.std.specs.Prelude.{ℕ, ◌==◌, List, [], ◌∷◌, Bool, true, false, not, ◌&&◌, if◌then◌else◌, Option, Some, None}
+use Rattle.std.specs.Prelude.{ℕ, List, [], ◌∷◌, Bool, true, false, not, ◌&&◌, if◌then◌else◌, Option, Some, None}
 use Rattle.std.specs.Str.{bytes_eq, str_eq_ignore_ascii_case}
 use Rattle.hc_base.specs.Paths.{begins_with_slash, has_dots, merge_slashes, without_final_slash}
 use Rattle.hc_model.specs.declared.event.Event.TheVariants as event

@@ -1,8 +1,10 @@
+pub mod Directories
 pub mod Conditions
 pub mod Locations
 pub mod Substitutions
 pub mod Attempts
 pub mod Lists
+pub mod Relation
 pub mod Frames
 pub mod Groups
 pub mod Turns

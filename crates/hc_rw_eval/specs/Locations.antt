@@ -1,12 +1,12 @@
 -- Where a substitution leads: a path of the server's own, or a location that the request is sent to.
 -- Apache manual, mod_rewrite, RewriteRule ("Substitution"); "RewriteRule Flags": R, NE. Which schemes are outside, and when a
 -- query is escaped, is our own choice.
-use Rattle.std.specs.Prelude.{ℕ, ◌==◌, ◌+◌, List, [], ◌∷◌, ◌++◌, length, take, drop, Bool, true, false, not, ◌&&◌, ◌||◌, if◌then◌else◌, codes}
-use Rattle.std.specs.Prelude.{Option, Some, None, option_map}
+use Rattle.std.specs.Prelude.{ℕ, ◌==◌, List, [], ◌∷◌, ◌++◌, length, drop, Bool, true, false, ◌&&◌, ◌||◌, if◌then◌else◌, codes}
+use Rattle.std.specs.Prelude.{Option, Some, None}
 use Rattle.std.specs.Char.{is_ascii_alphabetic, is_ascii_alphanumeric}
-use Rattle.std.specs.List.{after_first, before_first, list_any, starts_with}
+use Rattle.std.specs.List.{before_first, starts_with}
 use Rattle.std.specs.Prelude.{nat_eq}
-use Rattle.std.specs.Str.{bytes_eq, str_eq_ignore_ascii_case}
+use Rattle.std.specs.Str.{bytes_eq}
 use Rattle.hc_addr.specs.Numbers.{at_most, decimal_of}
 use Rattle.hc_addr.specs.declared.sizes.TheConstants.{HIGHEST_PORT}
 use Rattle.hc_base.specs.Bytes.{colon, dash, dot, plus, question}

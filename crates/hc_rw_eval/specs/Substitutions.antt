@@ -1,23 +1,25 @@
 -- What a rule that matches does: its variables, its status and its substitution.
--- Apache manual, mod_rewrite, RewriteRule; "RewriteRule Flags". The order of variables and substitution, and the longest text, are our
--- own choice.
+-- Apache manual, mod_rewrite: RewriteRule; RewriteBase; "RewriteRule Flags". The order of variables and substitution, the longest text,
+-- and what is outside, are our own choice.
 use Rattle.std.specs.Prelude.{ℕ, ◌==◌, List, [], ◌∷◌, ◌++◌, length, Bool, true, false, not, ◌&&◌, ◌||◌, nat_lt, if◌then◌else◌}
-use Rattle.std.specs.Prelude.{Option, Some, None, filter}
+use Rattle.std.specs.Prelude.{Option, Some, None, is_some, filter, Result, Ok, Err}
 use Rattle.std.specs.Str.{bytes_eq}
 use Rattle.hc_base.specs.Paths.{begins_with_slash}
 use Rattle.hc_model.specs.declared.event.Event.TheVariants as event
 use Rattle.hc_model.specs.declared.outcome.Outcome.{Outcome}
 use Rattle.hc_model.specs.declared.outcome.Outcome.TheVariants as outcome
-use Rattle.hc_model.specs.declared.outcome.Reason.TheVariants.{LongText, RelativeRedirect, Scheme}
+use Rattle.hc_model.specs.declared.outcome.Reason.{Reason}
+use Rattle.hc_model.specs.declared.outcome.Reason.TheVariants.{LongText, RelativeRedirect, RelativeUnderAlias, Scheme}
 use Rattle.hc_model.specs.declared.request.Header.{Header}
 use Rattle.hc_model.specs.declared.rewrite.EnvSet.{EnvSet}
 use Rattle.hc_model.specs.declared.rewrite.Flags.{Flags}
 use Rattle.hc_model.specs.declared.rewrite.Rule.{Rule}
 use Rattle.hc_model.specs.declared.template.Piece.{Piece}
+use Rattle.hc_rw_eval.specs.Directories.{url_path, with_slash}
 use Rattle.hc_rw_eval.specs.Locations.{has_scheme, location, own_path}
 use Rattle.hc_rw_eval.specs.declared.attempt.Rewritten.{Rewritten}
 use Rattle.hc_rw_eval.specs.declared.substitution.TheConstants.{FORBIDDEN, FOUND, GONE, LONGEST_TEXT}
-use Rattle.hc_rw_expand.specs.Contexts.{Context}
+use Rattle.hc_rw_expand.specs.Contexts.{Context, Engine}
 use Rattle.hc_rw_expand.specs.Lookups.{Looks, expanded}
 use Rattle.hc_rw_expand.specs.Queries.{split}
 use Rattle.hc_rw_expand.specs.Values.{filling_in}
@@ -103,21 +105,54 @@ abbrev pub own_unless : Bool → Option (List ℕ) → Option (List ℕ)
 own_unless true path = None
 own_unless false path = path
 
--- R on a text that is no URL: the server's own name is put before a path.
-unfoldable pub path_sent : Context → Flags → Bool → RwState → Step Outcome Rewritten
-path_sent context flags followed state =
-    if begins_with_slash state.text
-    then sent flags followed (location_of context flags (origin context.caller) state)
-    else ends (outcome.Outside RelativeRedirect)
+-- A redirect is put behind RewriteBase; without one it is outside.
+abbrev pub base_front : Option (List ℕ) → Result (List ℕ) Reason
+base_front None = Err RelativeRedirect
+base_front (Some base) = Ok (with_slash base)
+
+-- Without RewriteBase a text in a directory that does not come from the document root is outside.
+abbrev pub dir_front : Engine → Result (List ℕ) Reason
+dir_front engine = if engine.aliased && not (is_some engine.base) then Err RelativeUnderAlias else Ok (with_slash engine.dir)
+
+-- What a relative text is put behind, by whether R is there. In a server it stays, and a redirect is outside.
+abbrev pub front_of : Option Engine → Bool → Result (List ℕ) Reason
+front_of None true = Err RelativeRedirect
+front_of None false = Ok []
+front_of (Some engine) true = base_front engine.base
+front_of (Some engine) false = dir_front engine
+
+abbrev pub front_before : Option Engine → Bool → List ℕ → Result (List ℕ) Reason
+front_before engine redirected text = if begins_with_slash text then Ok [] else front_of engine redirected
+
+abbrev pub with_front : List ℕ → RwState → RwState
+with_front front state = record state { text = front ++ state.text }
+
+-- In a directory the text is a file name.
+abbrev pub path_of : Context → Option Engine → List ℕ → List ℕ
+path_of context None text = text
+path_of context (Some engine) text = url_path context.root engine text
+
+abbrev pub with_path : Context → RwState → RwState
+with_path context state = record state { text = path_of context context.engine state.text }
+
+-- With R the server's own name is put before the path.
+abbrev pub path_location : Context → Flags → RwState → List ℕ
+path_location context flags state = location_of context flags (origin context.caller) (with_path context state)
 
 unfoldable pub path_placed : Context → Flags → Bool → RwState → Step Outcome Rewritten
-path_placed context flags followed state = if redirects flags then path_sent context flags followed state else left state
+path_placed context flags followed state =
+    if redirects flags then sent flags followed (path_location context flags state) else left state
+
+unfoldable pub front_placed : Context → Flags → Bool → RwState → Result (List ℕ) Reason → Step Outcome Rewritten
+front_placed context flags followed state (Err reason) = ends (outcome.Outside reason)
+front_placed context flags followed state (Ok front) = path_placed context flags followed (with_front front state)
 
 unfoldable pub text_placed : Context → Flags → Bool → RwState → Step Outcome Rewritten
 text_placed context flags followed state =
     if is_url state.text
     then url_placed context flags followed state (own_unless (redirects flags) (own_path context.caller state.text))
-    else (if has_scheme state.text then ends (outcome.Outside Scheme) else path_placed context flags followed state)
+    else (if has_scheme state.text then ends (outcome.Outside Scheme)
+    else front_placed context flags followed state (front_before context.engine (redirects flags) state.text))
 
 unfoldable pub unless_long : Context → Flags → Bool → RwState → Step Outcome Rewritten
 unless_long context flags followed state =

@@ -2,7 +2,7 @@
 //! mod_rewrite Technical Details", "Ruleset Processing").
 ghost use Rattle.std.specs.Prelude.{◌≡◌, IfOk, option_map};
 ghost use Rattle.hc_match.specs.Settings.{captured};
-ghost use Rattle.hc_rw_eval.specs.Attempts.{groups_of, matched, not_matched, pattern_held};
+ghost use Rattle.hc_rw_eval.specs.Attempts.{found_in, groups_of, matched, not_matched, pattern_held};
 ghost use Rattle.hc_rw_eval.specs.Conditions.{matched_of, searched};
 ghost use Rattle.hc_rw_eval.specs.Frames.{context_at, looks_at, shown_at};
 ghost use Rattle.hc_rw_eval.specs.Turns.{looked, with_groups};
@@ -11,6 +11,7 @@ ghost use Rattle.hc_steps.specs.Run.{run};
 ghost use Rattle.hc_steps.specs.Shown.{shown_by};
 
 use crate::conditions::{Tested, conds_tried, counted};
+use crate::directories::{with_info, within};
 use crate::frame::{Frame, Stop};
 use crate::substitution::applied;
 use crate::told::tell_rule;
@@ -59,35 +60,57 @@ impl Clone for Rewritten {
 fn groups_of(
     alloc: Global,
     negated: bool,
-    text: &Text,
+    text: &[u8],
     found: Option<Captures>,
 ) -> Result<Option<Matched>, NoMemory>
     ensures { IfOk result (λ groups. groups
         ≡ groups_of negated (matched_of text.now (option_map captured found))) }
 {
     match found {
-        Some(captures) if !negated => { Ok(Some(Matched::new(alloc, text.clone()?, &captures)?)) },
+        Some(captures) if !negated => {
+            Ok(Some(Matched::new(alloc, Text::copy_of(alloc, text)?, &captures)?))
+        },
         _ => Ok(None),
     }
 }
 
-/// Looks for the pattern of a rule in the text that is rewritten. Nothing is made where it fails.
+// Looks for the pattern of a rule in a text. Nothing is made where it fails.
 #[tactic(auto, unfolding(crate::specs::Turns::looked), using(hc_steps::proofs::Going::telling))]
-pub(crate) fn looked_for(
-    world: &World,
-    log: &mut Log,
-    rule: &Rule,
-    text: &Text,
-) -> Result<Looked, Stop>
+fn looked_for(world: &World, log: &mut Log, rule: &Rule, text: &[u8]) -> Result<Looked, Stop>
     ensures { Ran result log.old log.new
         (run (looked rule.now (searched text.now rule.now.pat)) (shown_by world.now.files)) }
 {
-    let found = first_match(log.allocator(), rule.pat.as_pat(), text.as_bytes())?;
+    let found = first_match(log.allocator(), rule.pat.as_pat(), text)?;
     if !counted(rule.negated, found.is_some()) {
         tell_rule(log, rule, false)?;
         return Ok(Looked::Failed);
     }
     Ok(Looked::Held(groups_of(log.allocator(), rule.negated, text, found)?))
+}
+
+/// Looks for the pattern of a rule: in a server in the text that is rewritten, in a directory in that and the path
+/// information, less the directory.
+#[tactic(auto, using(hc_steps::proofs::Going::ran_no_memory))]
+pub(crate) fn looked_in<P: Lookups>(
+    frame: &Frame<'_, P>,
+    log: &mut Log,
+    rule: &Rule,
+    state: &RwState,
+) -> Result<Looked, Stop>
+    ensures { Ran result log.old log.new
+        (run (looked rule.now (found_in (context_at frame.now) rule.now state.now))
+        (shown_at frame.now)) }
+{
+    let text = state.text.as_bytes();
+    let Some(engine) = &frame.context.engine else {
+        return looked_for(frame.world, log, rule, text);
+    };
+    let (dir, info) = (engine.dir.as_bytes(), state.info.as_bytes());
+    if info.is_empty() {
+        return looked_for(frame.world, log, rule, within(dir, text));
+    }
+    let text = with_info(log.allocator(), text, info)?;
+    looked_for(frame.world, log, rule, within(dir, &text))
 }
 
 /// The groups are set, and no condition has set any for this rule.

@@ -4,8 +4,10 @@
 
 mod attempt;
 mod conditions;
+mod directories;
 mod files;
 mod frame;
+pub mod laws;
 mod locations;
 mod placement;
 mod round;
@@ -15,4 +17,5 @@ mod told;
 mod variables;
 
 pub use attempt::Rewritten;
+pub use directories::url_path;
 pub use run::{Finished, run_rules};

@@ -1,16 +1,18 @@
 //! Where a text that a substitution left leads: to a path of the server's own, or elsewhere (Apache manual,
-//! mod_rewrite, RewriteRule, "Substitution"; "RewriteRule Flags", R).
+//! mod_rewrite: RewriteRule, "Substitution"; RewriteBase; "RewriteRule Flags", R).
 ghost use Rattle.std.specs.Prelude.{◌≡◌, IfOk, [], option_map};
 ghost use Rattle.hc_rw_eval.specs.Frames.{context_at, shown_at};
 ghost use Rattle.hc_rw_eval.specs.Locations.{own_path};
-ghost use Rattle.hc_rw_expand.specs.Contexts.{context_of};
-ghost use Rattle.hc_rw_eval.specs.Substitutions.{left, location_of, own_unless, path_placed, path_sent, redirects};
-ghost use Rattle.hc_rw_eval.specs.Substitutions.{sent, status_sent, stops, text_placed, unless_long, url_placed};
+ghost use Rattle.hc_rw_eval.specs.Substitutions.{base_front, dir_front, front_before, front_of, front_placed, left};
+ghost use Rattle.hc_rw_eval.specs.Substitutions.{location_of, own_unless, path_location, path_placed, redirects, sent, status_sent};
+ghost use Rattle.hc_rw_eval.specs.Substitutions.{stops, text_placed, unless_long, url_placed, with_front, with_path};
+ghost use Rattle.hc_rw_expand.specs.Contexts.{context_of, engine_of};
 ghost use Rattle.hc_steps.specs.Ran.{Ran};
 ghost use Rattle.hc_steps.specs.Run.{run};
 ghost use Rattle.hc_template.specs.Variables.{origin};
 
 use crate::attempt::Rewritten;
+use crate::directories::{url_path, with_slash};
 use crate::frame::{Frame, Stop};
 use crate::locations::{has_scheme, location, own_path};
 use crate::substitution::{FOUND, is_long};
@@ -18,7 +20,7 @@ use crate::told::tell_text;
 use hc_base::paths::begins_with_slash;
 use hc_base::{Fault, NoMemory, Text};
 use hc_model::{Caller, Flags, Lookups, Outcome, Reason};
-use hc_rw_expand::{RwContext, RwState};
+use hc_rw_expand::{Engine, RwContext, RwState};
 use hc_steps::Log;
 use hc_target::is_url;
 use hc_template::push_origin;
@@ -141,24 +143,95 @@ fn origin(alloc: Global, caller: &Caller) -> Result<Vec<u8>, NoMemory>
     Ok(front)
 }
 
-// R on a text that is no URL: the server's own name is put before a path.
-#[tactic(auto, unfolding(crate::specs::Substitutions::path_sent), using(hc_steps::proofs::Going::telling))]
-fn path_sent<P: Lookups>(
-    frame: &Frame<'_, P>,
-    log: &mut Log,
-    flags: &Flags,
-    followed: bool,
-    state: RwState,
-) -> Result<Rewritten, Stop>
-    ensures { Ran result log.old log.new
-        (run (path_sent (context_at frame.now) flags.now followed state) (shown_at frame.now)) }
+// A redirect is put behind RewriteBase; without one it is outside.
+fn base_front(alloc: Global, base: Option<&Text>) -> Result<Result<Text, Reason>, NoMemory>
+    ensures { IfOk result (λ front. front ≡ base_front (option_map (λ base. base.now) base.entry)) }
 {
-    if !begins_with_slash(state.text.as_bytes()) {
-        return Err(Fault::Refused(Outcome::Outside(Reason::RelativeRedirect)));
+    match base {
+        Some(base) => Ok(Ok(Text::from(with_slash(alloc, base.as_bytes())?))),
+        None => Ok(Err(Reason::RelativeRedirect)),
     }
-    let front = origin(log.allocator(), frame.context.caller)?;
-    let location = location_of(frame.context, flags, front, &state)?;
-    sent(frame, log, flags, followed, location)
+}
+
+// Without RewriteBase a text in a directory that does not come from the document root is outside.
+fn dir_front(alloc: Global, engine: &Engine<'_>) -> Result<Result<Text, Reason>, NoMemory>
+    ensures { IfOk result (λ front. front ≡ dir_front (engine_of engine.now)) }
+{
+    if engine.aliased && engine.base.is_none() {
+        return Ok(Err(Reason::RelativeUnderAlias));
+    }
+    Ok(Ok(Text::from(with_slash(alloc, engine.dir.as_bytes())?)))
+}
+
+// What a relative text is put behind, by whether R is there.
+fn front_of(
+    alloc: Global,
+    engine: &Option<Engine<'_>>,
+    redirected: bool,
+) -> Result<Result<Text, Reason>, NoMemory>
+    ensures { IfOk result (λ front. front ≡ front_of (option_map engine_of engine.now) redirected) }
+{
+    match engine {
+        Some(engine) if redirected => base_front(alloc, engine.base),
+        Some(engine) => dir_front(alloc, engine),
+        None if redirected => Ok(Err(Reason::RelativeRedirect)),
+        None => Ok(Ok(Text::new(alloc))),
+    }
+}
+
+fn front_before(
+    alloc: Global,
+    engine: &Option<Engine<'_>>,
+    redirected: bool,
+    text: &[u8],
+) -> Result<Result<Text, Reason>, NoMemory>
+    ensures { IfOk result (λ front.
+        front ≡ front_before (option_map engine_of engine.now) redirected text.now) }
+{
+    if begins_with_slash(text) {
+        return Ok(Ok(Text::new(alloc)));
+    }
+    front_of(alloc, engine, redirected)
+}
+
+fn with_front(front: Text, state: RwState) -> Result<RwState, NoMemory>
+    ensures { IfOk result (λ left. left ≡ with_front front state) }
+{
+    if front.as_bytes().is_empty() {
+        return Ok(state);
+    }
+    let mut text = front.into_vec();
+    text.extend_from_slice(state.text.as_bytes())?;
+    Ok(RwState {
+        text: Text::from(text),
+        ..state
+    })
+}
+
+// In a directory the text is a file name.
+fn with_path(alloc: Global, context: &RwContext<'_>, state: RwState) -> Result<RwState, NoMemory>
+    ensures { IfOk result (λ left. left ≡ with_path (context_of context.now) state) }
+{
+    let Some(engine) = &context.engine else {
+        return Ok(state);
+    };
+    let text = url_path(alloc, context.root, engine, state.text.as_bytes())?;
+    Ok(RwState { text, ..state })
+}
+
+// The server's own name and the path.
+fn path_location(
+    alloc: Global,
+    context: &RwContext<'_>,
+    flags: &Flags,
+    state: RwState,
+) -> Result<Text, NoMemory>
+    ensures { IfOk result (λ location.
+        location ≡ path_location (context_of context.now) flags.now state) }
+{
+    let front = origin(alloc, context.caller)?;
+    let state = with_path(alloc, context, state)?;
+    location_of(context, flags, front, &state)
 }
 
 #[tactic(auto, unfolding(crate::specs::Substitutions::path_placed), using(hc_steps::proofs::Going::telling))]
@@ -172,10 +245,28 @@ fn path_placed<P: Lookups>(
     ensures { Ran result log.old log.new
         (run (path_placed (context_at frame.now) flags.now followed state) (shown_at frame.now)) }
 {
-    if redirects(flags) {
-        path_sent(frame, log, flags, followed, state)
-    } else {
-        left(frame, log, state)
+    if !redirects(flags) {
+        return left(frame, log, state);
+    }
+    let location = path_location(log.allocator(), frame.context, flags, state)?;
+    sent(frame, log, flags, followed, location)
+}
+
+#[tactic(auto, unfolding(crate::specs::Substitutions::front_placed), using(hc_steps::proofs::Going::telling))]
+fn front_placed<P: Lookups>(
+    frame: &Frame<'_, P>,
+    log: &mut Log,
+    flags: &Flags,
+    followed: bool,
+    state: RwState,
+    front: Result<Text, Reason>,
+) -> Result<Rewritten, Stop>
+    ensures { Ran result log.old log.new
+        (run (front_placed (context_at frame.now) flags.now followed state front) (shown_at frame.now)) }
+{
+    match front {
+        Ok(front) => path_placed(frame, log, flags, followed, with_front(front, state)?),
+        Err(reason) => Err(Fault::Refused(Outcome::Outside(reason))),
     }
 }
 
@@ -203,7 +294,13 @@ fn text_placed<P: Lookups>(
     if has_scheme(state.text.as_bytes()) {
         return Err(Fault::Refused(Outcome::Outside(Reason::Scheme)));
     }
-    path_placed(frame, log, flags, followed, state)
+    let front = front_before(
+        log.allocator(),
+        &frame.context.engine,
+        redirects(flags),
+        state.text.as_bytes(),
+    )?;
+    front_placed(frame, log, flags, followed, state, front)
 }
 
 /// Where the text of a state leads, unless it or the query is too long.

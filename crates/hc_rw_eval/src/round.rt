@@ -7,7 +7,7 @@ ghost use Rattle.hc_rw_eval.specs.Turns.{rule_held, turned, turned_match};
 ghost use Rattle.hc_steps.specs.Ran.{Ran};
 ghost use Rattle.hc_steps.specs.Run.{run};
 
-use crate::attempt::{Attempt, Looked, Rewritten, looked_for, pattern_held, with_groups};
+use crate::attempt::{Attempt, Looked, Rewritten, looked_in, pattern_held, with_groups};
 use crate::frame::{Frame, Stop};
 use crate::run::{Finished, Round};
 use hc_base::Fault;
@@ -168,7 +168,7 @@ pub(crate) fn from_place<P: Lookups>(
     let mut left = left;
     let mut rest = rules;
     while let Some((rule, behind)) = rest.split_first() {
-        let looked = looked_for(frame.world, log, rule, &left.state.text)?;
+        let looked = looked_in(frame, log, rule, &left.state)?;
         let Looked::Held(groups) = looked else {
             rest = beyond(behind, skipped_chain(rule, behind));
             continue;

@@ -9,7 +9,7 @@ mod lookups;
 mod query;
 mod state;
 
-pub use context::RwContext;
+pub use context::{Engine, RwContext};
 pub use filling::StateFilling;
 pub use groups::Matched;
 pub use lookups::{expand, expanded};

@@ -3,3 +3,4 @@ pub mod Answered
 pub mod Looks
 pub mod Passes
 pub mod Told
+pub mod Trees

@@ -3,6 +3,8 @@ pub mod Files
 pub mod Naming
 pub mod ServerRules
 pub mod Inherited
+pub mod DirectoryRules
+pub mod Needs
 pub mod Passing
 pub mod Request
 pub mod Answers

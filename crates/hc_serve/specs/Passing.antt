@@ -1,10 +1,13 @@
--- The steps of a pass, in their order. Those that are not built yet leave what they are given.
+-- The steps of a pass, in their order.
 -- Apache manual: "Mapping URLs to Filesystem Locations"; core, DocumentRoot, AcceptPathInfo; mod_alias.
 -- What is outside is our own choice.
 use Rattle.std.specs.Prelude.{ℕ, List, [], ◌∷◌, Bool, true, false, if◌then◌else◌, Option, Some, None}
+use Rattle.std.specs.Str.{bytes_eq}
 use Rattle.hc_alias.specs.Mapping.{away, map_url}
 use Rattle.hc_alias.specs.declared.mapping.Away.{Away}
 use Rattle.hc_base.specs.Paths.{has_dots, merge_slashes}
+use Rattle.hc_base.specs.declared.fault.Fault.{Fault}
+use Rattle.hc_base.specs.declared.fault.Fault.TheVariants.{NoMemory, Refused}
 use Rattle.hc_authz.specs.Values.{value}
 use Rattle.hc_authz.specs.declared.tree.Tri.{Tri}
 use Rattle.hc_authz.specs.declared.tree.Tri.TheVariants as tri
@@ -13,6 +16,11 @@ use Rattle.hc_model.specs.declared.event.Authorized.{Authorized}
 use Rattle.hc_model.specs.declared.event.Authorized.TheVariants.{Denied, Granted, Neutral, Unasked}
 use Rattle.hc_model.specs.declared.request.Caller.{Caller}
 use Rattle.hc_htaccess.specs.Pairs.{is_for}
+use Rattle.hc_include.specs.Ending.{ending}
+use Rattle.hc_rw_expand.specs.declared.state.RwState.{RwState}
+use Rattle.hc_serve.specs.DirectoryRules.{query_left, restarted, rewritten_there}
+use Rattle.hc_serve.specs.declared.stage.Ended.{Ended}
+use Rattle.hc_serve.specs.declared.stage.Restarted.{Restarted}
 use Rattle.hc_htaccess.specs.Reading.{found_there}
 use Rattle.hc_merge.specs.Overriding.{Files_at, htaccess_of, no_files, wanted_by}
 use Rattle.hc_merge.specs.Settings.{effective}
@@ -127,23 +135,19 @@ lets_in Denied = false
 lets_in Neutral = false
 lets_in Unasked = true
 
-unfoldable pub admitted_by : Here → Authorized → Step Outcome Here
-admitted_by here value = say (event.Auth value) (if lets_in value then leaves here else ends (Status FORBIDDEN))
+unfoldable pub admitted_by : Authorized → Step Outcome (Unit {0})
+admitted_by value = say (event.Auth value) (if lets_in value then leaves tt else ends (Status FORBIDDEN))
 
-unfoldable pub admitted : Site → Here → Step Outcome Here
-admitted site here = admitted_by here (authorized site.caller here.force.require)
+unfoldable pub admitted : Site → Here → Step Outcome (Unit {0})
+admitted site here = admitted_by (authorized site.caller here.force.require)
 
--- 6. The rules of the directory.
-abbrev pub rewritten_there : Site → Here → Step Outcome Here
-rewritten_there site here = leaves here
+-- 7. The redirects of the sections, on the URL path, with the query that the rules of the directory leave.
+unfoldable pub sent_by : Option Away → Step Outcome (Unit {0})
+sent_by None = leaves tt
+sent_by (Some away) = say (event.Redirect away.from) (ends away.outcome)
 
--- 7. The redirects of the sections, on the URL path.
-unfoldable pub sent_by : Here → Option Away → Step Outcome Here
-sent_by here None = leaves here
-sent_by here (Some away) = say (event.Redirect away.from) (ends away.outcome)
-
-unfoldable pub sent_there : Site → Here → Step Outcome Here
-sent_there site here = sent_by here (away here.force.redirects here.named.pass.path here.named.pass.query site.caller)
+unfoldable pub sent_there : Site → Here → Option RwState → Step Outcome (Unit {0})
+sent_there site here left = sent_by (away here.force.redirects here.named.pass.path (query_left here left) site.caller)
 
 -- 8. What stands there, unless another pass follows.
 abbrev pub outcome_at : Kind → List ℕ → List ℕ → Outcome
@@ -151,24 +155,47 @@ outcome_at kind.Absent name info = NotFound
 outcome_at kind.Dir name info = Directory name
 outcome_at kind.File name info = File name info
 
-unfoldable pub answered : Here → Step Outcome Pass
-answered here = ends (outcome_at here.walk.kind here.walk.name here.walk.info)
+unfoldable pub answered_by : Site → Here → RwState → Step Outcome Pass
+answered_by site here state =
+    if bytes_eq state.text here.walk.name then ends (outcome_at here.walk.kind here.walk.name state.info)
+    else restarted site here state
 
--- The steps behind the walk.
-unfoldable pub passed_there : Site → Walked → Step Outcome Pass
-passed_there site there = do
-  here ← in_force site there
-  here ← admitted site here
-  here ← rewritten_there site here
-  here ← sent_there site here
-  answered here
+unfoldable pub answered : Site → Here → Option RwState → Step Outcome Pass
+answered site here None = ends (outcome_at here.walk.kind here.walk.name here.walk.info)
+answered site here (Some state) = answered_by site here state
 
--- A pass ends the request, or leaves the pass that follows it.
-unfoldable pub passed : Site → Pass → Step Outcome Pass
-passed site pass = do
+-- Up to what is in force.
+unfoldable pub reached : Site → Pass → Step Outcome Here
+reached site pass = do
   pass ← begun pass
   placed ← rewritten site pass
   named ← name_of site placed
   named ← merged named
   there ← walked named
-  passed_there site there
+  in_force site there
+
+-- Behind the rules of the directory (step 6).
+unfoldable pub finished_there : Site → Here → Option RwState → Step Outcome Pass
+finished_there site here left = sent_there site here left >>= λ _. answered site here left
+
+-- The steps behind what is in force.
+unfoldable pub passed_there : Site → Here → Step Outcome Pass
+passed_there site here = admitted site here >>= λ _. rewritten_there site here >>= finished_there site here
+
+-- A pass ends the request, or leaves the pass that follows it; with it stays the tree of Require lines that was in force.
+abbrev pub with_tree : Option ReqTree → Outcome → Ended
+with_tree require outcome = record { outcome = outcome; require = require }
+
+abbrev pub stopped : Option ReqTree → Fault Outcome → Fault Ended
+stopped require (Refused outcome) = Refused (with_tree require outcome)
+stopped require NoMemory = NoMemory
+
+abbrev pub followed_by : Option ReqTree → Pass → Restarted
+followed_by require pass = record { pass = pass; require = require }
+
+unfoldable pub passed_from : Site → Here → Step Ended Restarted
+passed_from site here =
+    ending (with_tree here.force.require) (passed_there site here) >>= λ pass. leaves (followed_by here.force.require pass)
+
+unfoldable pub passed : Site → Pass → Step Ended Restarted
+passed site pass = ending (with_tree None) (reached site pass) >>= passed_from site

@@ -1,7 +1,7 @@
 -- What a request receives: the server that answers is chosen, the target is read, and passes follow.
 -- Apache manual: "Mapping URLs to Filesystem Locations"; core, LimitInternalRecursion. What is outside
 -- is our own choice.
-use Rattle.std.specs.Prelude.{◌≡◌, ℕ, zero, suc, List, [], ◌++◌, length, take, false}
+use Rattle.std.specs.Prelude.{◌≡◌, ℕ, zero, suc, List, [], ◌++◌, length, take, false, Option, None}
 use Rattle.hc_vhost.specs.Choice.{chosen}
 use Rattle.hc_vhost.specs.Servers.{server_at}
 use Rattle.hc_model.specs.World.{World}
@@ -17,12 +17,20 @@ use Rattle.hc_model.specs.declared.request.Request.{Request}
 use Rattle.hc_target.specs.Targets.{read}
 use Rattle.hc_target.specs.declared.target.TargetRead.{TargetRead}
 use Rattle.hc_target.specs.declared.target.TargetRead.TheVariants as target
-use Rattle.hc_serve.specs.Passing.{passed}
+use Rattle.hc_base.specs.declared.place.Place.{Place}
+use Rattle.hc_include.specs.Ending.{ending}
+use Rattle.hc_model.specs.declared.authorization.ReqTree.{ReqTree}
+use Rattle.hc_serve.specs.Needs.{needs_of}
+use Rattle.hc_serve.specs.Passing.{followed_by, passed, with_tree}
+use Rattle.hc_serve.specs.ServerRules.{pass_at}
 use Rattle.hc_serve.specs.Site.{Site, most_passes, site_at}
 use Rattle.hc_serve.specs.declared.answer.Answer.{Answer}
 use Rattle.hc_serve.specs.declared.answer.WholeRun.{WholeRun}
 use Rattle.hc_serve.specs.declared.answer.TheConstants.{LONGEST_TRAIL}
+use Rattle.hc_serve.specs.declared.stage.Ended.{Ended}
+use Rattle.hc_serve.specs.declared.stage.Opened.{Opened}
 use Rattle.hc_serve.specs.declared.stage.Pass.{Pass}
+use Rattle.hc_serve.specs.declared.stage.Restarted.{Restarted}
 use Rattle.hc_serve.specs.declared.way.TheConstants.{BAD_REQUEST, NOT_FOUND}
 use Rattle.hc_steps.specs.Laws.{AgreeOn}
 use Rattle.hc_steps.specs.Order.{each_once}
@@ -47,31 +55,42 @@ unfoldable pub first_pass : TargetRead → Step Outcome Pass
 first_pass target.Bad400 = ends (Status BAD_REQUEST)
 first_pass target.Miss404 = ends (Status NOT_FOUND)
 first_pass target.PathByte = ends (Outside PathByte)
-first_pass (target.Path path query) =
-    leaves (record { number = 0; path = path; query = query; vars = []; end = false })
+first_pass (target.Path path query) = leaves (pass_at 0 path query [] false)
 
--- So many passes at most, one after another.
-unfoldable pub passes : ℕ → Site → Pass → Step Outcome Pass
-passes zero site pass = leaves pass
-passes (suc more) site pass = passed site pass >>= passes more site
-
-unfoldable pub passes_at : Site → Pass → Step Outcome Pass
-passes_at site pass = passes (most_passes site.config site.host) site pass
-
-unfoldable pub way : Config → Request → Step Outcome Pass
-way config request = do
+-- Before the passes.
+unfoldable pub opened : Config → Request → Step Outcome Opened
+opened config request = do
   host ← host_of config request
   pass ← first_pass (read request.target)
-  passes_at (site_at config host request) pass
+  leaves (record { host = host; pass = pass })
+
+-- So many passes at most, one after another.
+unfoldable pub passes : ℕ → Site → Restarted → Step Ended Restarted
+passes zero site left = leaves left
+passes (suc more) site left = passed site left.pass >>= passes more site
+
+unfoldable pub passes_at : Site → Pass → Step Ended Restarted
+passes_at site pass = passes (most_passes site.config site.host) site (followed_by None pass)
+
+unfoldable pub passes_of : Config → Request → Opened → Step Ended Restarted
+passes_of config request opened = passes_at (site_at config opened.host request) opened.pass
+
+unfoldable pub way : Config → Request → Step Ended Restarted
+way config request = ending (with_tree None) (opened config request) >>= passes_of config request
 
 -- ---- the run
 
 -- A pass that is left over is one too many.
-abbrev pub outcome_of : Way Outcome Pass → Outcome
-outcome_of (is_over outcome) = outcome
-outcome_of (goes_on pass) = Limit Redirects
+abbrev pub outcome_of : Way Ended Restarted → Outcome
+outcome_of (is_over ended) = ended.outcome
+outcome_of (goes_on left) = Limit Redirects
 
-abbrev pub whole_run : World → Config → Request → Run Outcome Pass
+-- The tree that was in force in the last pass.
+abbrev pub tree_of : Way Ended Restarted → Option ReqTree
+tree_of (is_over ended) = ended.require
+tree_of (goes_on left) = left.require
+
+abbrev pub whole_run : World → Config → Request → Run Ended Restarted
 whole_run world config request = run (way config request) (shown_by world)
 
 -- What a request receives.
@@ -91,11 +110,15 @@ pub record IsAnswer (world : World) (config : Config) (request : Request) (answe
   pub trail : answer.trail ≡ take LONGEST_TRAIL (whole_run world config request).events
   pub reads : answer.reads ≡ reads_of world config request
 
--- The outcome, all events and the reads. No Require is in force.
+-- The Require lines of the last pass.
+abbrev pub needed : World → Config → Request → List Place
+needed world config request = needs_of (tree_of (whole_run world config request).way)
+
+-- The outcome, all events, the Require lines of the last pass, and the reads.
 pub record IsWholeRun (world : World) (config : Config) (request : Request) (answer : WholeRun) : Type 0 where
   pub outcome : answer.outcome ≡ received world config request
   pub events : answer.events ≡ (whole_run world config request).events
-  pub needs : answer.needs ≡ []
+  pub needs : answer.needs ≡ needed world config request
   pub reads : answer.reads ≡ reads_of world config request
 
 -- ---- a law

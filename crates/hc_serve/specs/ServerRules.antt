@@ -1,13 +1,14 @@
 -- The rules of the server that answers, and what a pass goes on with behind them.
 -- Apache manual, mod_rewrite: RewriteEngine, RewriteOptions, RewriteMap; "Apache mod_rewrite Technical Details". That a text which names
 -- something that exists is a file name, and what is outside, is our own choice.
-use Rattle.std.specs.Prelude.{ℕ, List, [], ◌∷◌, ◌++◌, Bool, true, false, if◌then◌else◌, Option, Some, None}
+use Rattle.std.specs.Prelude.{ℕ, List, [], ◌∷◌, Bool, true, false, if◌then◌else◌, Option, Some, None}
 use Rattle.std.specs.List.{before_first}
 use Rattle.std.specs.Option.{unwrap_or}
 use Rattle.hc_alias.specs.Mapping.{root_of, under_root}
 use Rattle.hc_base.specs.Bytes.{slash}
 use Rattle.hc_base.specs.Paths.{begins_with_slash, has_dots, is_slash, merge_slashes}
 use Rattle.hc_map.specs.Maps.{file_of, value_of}
+use Rattle.hc_merge.specs.Rewriting.{with_earlier}
 use Rattle.hc_model.specs.declared.config.HostId.{HostId}
 use Rattle.hc_model.specs.declared.config.HostId.TheVariants.{Main, Nth}
 use Rattle.hc_model.specs.declared.config.Server.{Server}
@@ -15,6 +16,7 @@ use Rattle.hc_model.specs.declared.mapping.Map.{Map}
 use Rattle.hc_model.specs.declared.outcome.Outcome.{Outcome}
 use Rattle.hc_model.specs.declared.outcome.Outcome.TheVariants.{Outside, Status}
 use Rattle.hc_model.specs.declared.outcome.Reason.TheVariants.{DotSegment}
+use Rattle.hc_model.specs.declared.request.Header.{Header}
 use Rattle.hc_model.specs.declared.rewrite.Rule.{Rule}
 use Rattle.hc_model.specs.declared.section.Body.{out-Body}
 use Rattle.hc_model.specs.declared.section.Inherit.{Inherit}
@@ -42,15 +44,9 @@ abbrev pub inherited_by : HostId → Server → Inherit
 inherited_by Main server = No
 inherited_by (Nth place) server = (out-Body server.body).inherit
 
--- Of the main server's, what is inherited comes behind the server's own or before them.
-abbrev pub with_main : {A : Type 0} → Inherit → List A → List A → List A
-with_main No own main = own
-with_main After own main = own ++ main
-with_main Before own main = main ++ own
-
 abbrev pub rules_at : Site → List Rule
 rules_at site =
-    with_main (inherited_by site.host (server_at site.config site.host))
+    with_earlier (inherited_by site.host (server_at site.config site.host))
     (out-Body (server_at site.config site.host).body).rules (out-Body site.config.main.body).rules
 
 -- Inherited maps always come behind the server's own.
@@ -61,7 +57,7 @@ behind_own Before = After
 
 abbrev pub maps_at : Site → List Map
 maps_at site =
-    with_main (behind_own (inherited_by site.host (server_at site.config site.host)))
+    with_earlier (behind_own (inherited_by site.host (server_at site.config site.host)))
     (server_at site.config site.host).maps_by_name site.config.main.maps_by_name
 
 abbrev pub looks_of : List Map → Looks
@@ -73,12 +69,18 @@ engine_at site = unwrap_or (out-Body (server_at site.config site.host).body).eng
 
 -- ---- the run
 
+-- A pass as it begins.
+abbrev pub pass_at : ℕ → List ℕ → List ℕ → List Header → Bool → Pass
+pass_at number path query vars end =
+    record { number = number; path = path; query = query; first_query = query; vars = vars; end = end }
+
 abbrev pub context_at : Site → Pass → Context
 context_at site pass = record {
   caller = site.caller;
   path = pass.path;
   root = root_of (servers_of site.config site.host);
-  first_query = pass.query;
+  first_query = pass.first_query;
+  engine = None;
 }
 
 -- The URL path is rewritten.

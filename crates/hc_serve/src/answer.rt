@@ -5,16 +5,17 @@ ghost use Rattle.hc_model.specs.Overrides.{Kept};
 ghost use Rattle.hc_serve.specs.Answers.{IsServed, log_of};
 ghost use Rattle.hc_serve.specs.Request.{IsAnswer, IsWholeRun, way};
 
+use crate::needs::needs_of;
 use crate::way::way;
 use hc_base::{Fault, List, NoMemory, Place, Steps};
-use hc_model::{Config, Event, LimitKind, Outcome, Overrides, Read, Request};
+use hc_model::{Config, Event, LimitKind, Outcome, Overrides, Read, ReqTree, Request};
 use hc_steps::Log;
 use hc_world::World;
 use std::alloc::Global;
 use std::sync::ledger::Ledger;
 
 /// How many events a trail has at most.
-const LONGEST_TRAIL: usize = 200;
+pub const LONGEST_TRAIL: usize = 200;
 
 /// What a request receives, and how that came.
 #[derive(Drop)]
@@ -96,7 +97,7 @@ pub fn evaluate<O: Overrides, L: Ledger>(
     })
 }
 
-/// The same, with all steps, and the Require lines of the last pass: none, since none is read yet.
+/// The same, with all steps, and the Require lines that were in force in the last pass.
 pub fn whole_run<O: Overrides, L: Ledger>(
     alloc: Global,
     config: &Config,
@@ -118,7 +119,7 @@ pub fn whole_run<O: Overrides, L: Ledger>(
     Ok(WholeRun {
         outcome: served.outcome,
         events: told.events,
-        needs: List::new(alloc),
+        needs: needs_of(alloc, &served.require)?,
         reads: told.reads,
     })
 }
@@ -127,6 +128,7 @@ pub fn whole_run<O: Overrides, L: Ledger>(
 #[derive(Drop)]
 struct Served {
     outcome: Outcome,
+    require: Option<ReqTree>,
     log: Log,
 }
 
@@ -146,11 +148,16 @@ fn serve<O: Overrides>(
 {
     let mut log = log_of(alloc, cap, config.reads.as_slice())?;
     match way(config, world, &mut log, over, request) {
-        Ok(_) => Ok(Served {
+        Ok(left) => Ok(Served {
             outcome: Outcome::Limit(LimitKind::Redirects),
+            require: left.require,
             log,
         }),
-        Err(Fault::Refused(outcome)) => Ok(Served { outcome, log }),
+        Err(Fault::Refused(ended)) => Ok(Served {
+            outcome: ended.outcome,
+            require: ended.require,
+            log,
+        }),
         Err(Fault::NoMemory) => Err(NoMemory),
     }
 }

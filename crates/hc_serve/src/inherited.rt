@@ -1,7 +1,8 @@
 //! What of mod_rewrite is in force at the server that answers (Apache manual, mod_rewrite, RewriteOptions).
 ghost use Rattle.std.specs.Prelude.{◌≡◌, ◌++◌, IfOk};
 ghost use Rattle.hc_serve.specs.Inherited.{list_of};
-ghost use Rattle.hc_serve.specs.ServerRules.{behind_own, engine_at, inherited_by, maps_at, rules_at, with_main};
+ghost use Rattle.hc_merge.specs.Rewriting.{with_earlier};
+ghost use Rattle.hc_serve.specs.ServerRules.{behind_own, engine_at, inherited_by, maps_at, rules_at};
 ghost use Rattle.hc_serve.specs.Site.{site_of};
 
 use crate::site::Asked;
@@ -42,7 +43,7 @@ pub(crate) fn rules_at<'c>(asked: &Asked<'c>) -> Result<Inherited<'c, Rule>, NoM
     ensures { IfOk result (λ rules. list_of rules ≡ rules_at (site_of asked.now)) }
 {
     let server = server_at(asked.config, asked.host);
-    with_main(
+    with_earlier(
         inherited_by(asked.host, server),
         &server.body.rules,
         &asked.config.main.body.rules,
@@ -54,7 +55,7 @@ pub(crate) fn maps_at<'c>(asked: &Asked<'c>) -> Result<Inherited<'c, Map>, NoMem
     ensures { IfOk result (λ maps. list_of maps ≡ maps_at (site_of asked.now)) }
 {
     let server = server_at(asked.config, asked.host);
-    with_main(
+    with_earlier(
         behind_own(inherited_by(asked.host, server)),
         &server.maps_by_name,
         &asked.config.main.maps_by_name,
@@ -81,13 +82,13 @@ fn behind_own(inherit: Inherit) -> Inherit
     }
 }
 
-fn with_main<'l, T: Clone + Drop>(
+fn with_earlier<'l, T: Clone + Drop>(
     inherit: Inherit,
     own: &'l List<T>,
     main: &List<T>,
 ) -> Result<Inherited<'l, T>, NoMemory>
     requires { (x y : T) → T.is_clone x y → y ≡ x }
-    ensures { IfOk result (λ list. list_of list ≡ with_main inherit own.now main.now) }
+    ensures { IfOk result (λ list. list_of list ≡ with_earlier inherit own.now main.now) }
 {
     match inherit {
         Inherit::No => Ok(Inherited::Own(own.as_slice())),

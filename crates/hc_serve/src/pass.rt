@@ -1,9 +1,11 @@
-ghost use Rattle.std.specs.Prelude.{◌≡◌};
+ghost use Rattle.std.specs.Prelude.{◌≡◌, IfOk};
 ghost use Rattle.hc_vhost.specs.Servers.{IsHostOf};
 ghost use Rattle.hc_htaccess.specs.Reading.{reading_in};
 ghost use Rattle.hc_model.specs.Overrides.{Kept};
-ghost use Rattle.hc_serve.specs.Passing.{admitted, admitted_by, answered, begun, mapped_at, merged, name_of, outcome_at};
-ghost use Rattle.hc_serve.specs.Passing.{passed, passed_there, seen_there, sent_by, sent_there, walked, without_dots};
+ghost use Rattle.hc_serve.specs.DirectoryRules.{query_left};
+ghost use Rattle.hc_serve.specs.Passing.{admitted, admitted_by, answered, answered_by, begun, finished_there, mapped_at};
+ghost use Rattle.hc_serve.specs.Passing.{merged, name_of, outcome_at, passed, passed_from, passed_there, reached};
+ghost use Rattle.hc_serve.specs.Passing.{seen_there, sent_by, sent_there, stopped, walked, without_dots};
 ghost use Rattle.hc_serve.specs.Site.{site_of};
 ghost use Rattle.hc_steps.specs.Ran.{Ran};
 ghost use Rattle.hc_steps.specs.Run.{run};
@@ -11,30 +13,87 @@ ghost use Rattle.hc_steps.specs.Shown.{shown_by};
 ghost use Rattle.hc_steps.specs.Walking.{walk};
 
 use crate::admission::{FORBIDDEN, authorized, lets_in};
+use crate::directory_rules::rewritten_there;
 use crate::force::in_force;
 use crate::naming::named;
+use crate::restart::restarted;
 use crate::server_rules::rewritten;
 use crate::site::Asked;
-use crate::stage::{Here, Named, Pass, Placed, Stop, Walked};
+use crate::stage::{Ended, Here, Named, Pass, Placed, Restarted, Stop, Walked};
 use hc_alias::{Away, directory_redirect, map_url};
 use hc_base::paths::{has_dots, merge_slashes};
-use hc_base::{Fault, copy_option};
-use hc_model::{Authorized, Event, Kind, Outcome, Overrides, Reason, Walk};
+use hc_base::{Fault, NoMemory, Text, copy_option};
+use hc_model::{Authorized, Effective, Event, Kind, Outcome, Overrides, Reason, ReqTree, Walk};
+use hc_rw_expand::RwState;
 use hc_steps::Log;
 use hc_world::{World, follow};
 
 /// A pass: it ends the request, or leaves the pass that follows it.
-#[tactic(auto, unfolding(crate::specs::Passing::passed), using(hc_steps::proofs::Going::going))]
+#[tactic(auto, unfolding(crate::specs::Passing::passed), using(crate::proofs::Trees::treed))]
 pub(crate) fn passed<O: Overrides>(
     asked: &Asked<'_>,
     log: &mut Log,
     over: &mut O,
     pass: Pass,
-) -> Result<Pass, Stop>
+) -> Result<Restarted, Fault<Ended>>
     requires host { IsHostOf asked.now.config.now asked.now.host }
     requires over { O.reading over.old ≡ reading_in asked.now.world.now.files asked.now.config.now }
     ensures step { Ran result log.old log.new
         (run (passed (site_of asked.now) pass) (shown_by asked.now.world.now.files)) }
+    ensures reading { O.reading over.new ≡ O.reading over.old }
+    ensures kept { Kept (O.loaded over.old) (O.loaded over.new) }
+{
+    match reached(asked, log, over, pass) {
+        Ok(here) => passed_from(asked, log, here),
+        Err(fault) => Err(stopped(None, fault)),
+    }
+}
+
+// What ends a pass, with the tree that was in force.
+pub(crate) fn stopped(require: Option<ReqTree>, fault: Stop) -> Fault<Ended>
+    ensures { result ≡ stopped require fault }
+{
+    match fault {
+        Fault::Refused(outcome) => Fault::Refused(Ended { outcome, require }),
+        Fault::NoMemory => Fault::NoMemory,
+    }
+}
+
+#[tactic(auto, unfolding(crate::specs::Passing::passed_from), using(crate::proofs::Trees::treed))]
+fn passed_from(asked: &Asked<'_>, log: &mut Log, here: Here) -> Result<Restarted, Fault<Ended>>
+    requires { IsHostOf asked.now.config.now asked.now.host }
+    ensures { Ran result log.old log.new
+        (run (passed_from (site_of asked.now) here) (shown_by asked.now.world.now.files)) }
+{
+    match passed_there(asked, log, &here) {
+        Ok(pass) => Ok(Restarted {
+            pass,
+            require: tree_of(here),
+        }),
+        Err(fault) => Err(stopped(tree_of(here), fault)),
+    }
+}
+
+fn tree_of(here: Here) -> Option<ReqTree>
+    ensures { result ≡ here.force.require }
+{
+    let Here { force, .. } = here;
+    let Effective { require, .. } = force;
+    require
+}
+
+// Up to what is in force.
+#[tactic(auto, unfolding(crate::specs::Passing::reached), using(hc_steps::proofs::Going::going))]
+fn reached<O: Overrides>(
+    asked: &Asked<'_>,
+    log: &mut Log,
+    over: &mut O,
+    pass: Pass,
+) -> Result<Here, Stop>
+    requires host { IsHostOf asked.now.config.now asked.now.host }
+    requires over { O.reading over.old ≡ reading_in asked.now.world.now.files asked.now.config.now }
+    ensures step { Ran result log.old log.new
+        (run (reached (site_of asked.now) pass) (shown_by asked.now.world.now.files)) }
     ensures reading { O.reading over.new ≡ O.reading over.old }
     ensures kept { Kept (O.loaded over.old) (O.loaded over.new) }
 {
@@ -43,28 +102,34 @@ pub(crate) fn passed<O: Overrides>(
     let named = name_of(asked, log, placed)?;
     let named = merged(asked.world, log, named)?;
     let there = walked(asked.world, log, named)?;
-    passed_there(asked, log, over, there)
+    in_force(asked, log, over, there)
 }
 
-// The steps behind the walk.
+// The steps behind what is in force.
 #[tactic(auto, unfolding(crate::specs::Passing::passed_there), using(hc_steps::proofs::Going::going))]
-fn passed_there<O: Overrides>(
+fn passed_there(asked: &Asked<'_>, log: &mut Log, here: &Here) -> Result<Pass, Stop>
+    requires { IsHostOf asked.now.config.now asked.now.host }
+    ensures { Ran result log.old log.new
+        (run (passed_there (site_of asked.now) here.now) (shown_by asked.now.world.now.files)) }
+{
+    admitted(asked, log, here)?;
+    let left = rewritten_there(asked, log, here)?;
+    finished_there(asked, log, here, left)
+}
+
+#[tactic(auto, unfolding(crate::specs::Passing::finished_there), using(hc_steps::proofs::Going::going))]
+fn finished_there(
     asked: &Asked<'_>,
     log: &mut Log,
-    over: &mut O,
-    there: Walked,
+    here: &Here,
+    left: Option<RwState>,
 ) -> Result<Pass, Stop>
-    requires host { IsHostOf asked.now.config.now asked.now.host }
-    requires over { O.reading over.old ≡ reading_in asked.now.world.now.files asked.now.config.now }
-    ensures step { Ran result log.old log.new
-        (run (passed_there (site_of asked.now) there) (shown_by asked.now.world.now.files)) }
-    ensures reading { O.reading over.new ≡ O.reading over.old }
-    ensures kept { Kept (O.loaded over.old) (O.loaded over.new) }
+    requires { IsHostOf asked.now.config.now asked.now.host }
+    ensures { Ran result log.old log.new
+        (run (finished_there (site_of asked.now) here.now left) (shown_by asked.now.world.now.files)) }
 {
-    let here = in_force(asked, log, over, there)?;
-    let here = admitted(asked, log, here)?;
-    let here = sent_there(asked, log, here)?;
-    answered(asked.world, log, here)
+    sent_there(asked, log, here, &left)?;
+    answered(asked, log, here, left)
 }
 
 #[tactic(auto, unfolding(crate::specs::Passing::begun), using(hc_steps::proofs::Going::telling))]
@@ -154,72 +219,111 @@ fn seen_there(world: &World, log: &mut Log, named: Named, walk: Walk) -> Result<
 }
 
 // Who may pass.
-fn admitted(asked: &Asked<'_>, log: &mut Log, here: Here) -> Result<Here, Stop>
+fn admitted(asked: &Asked<'_>, log: &mut Log, here: &Here) -> Result<(), Stop>
     ensures { Ran result log.old log.new
-        (run (admitted (site_of asked.now) here) (shown_by asked.now.world.now.files)) }
+        (run (admitted (site_of asked.now) here.now) (shown_by asked.now.world.now.files)) }
 {
     let value = authorized(asked.caller, &here.force.require);
-    admitted_by(asked.world, log, here, value)
+    admitted_by(asked.world, log, value)
 }
 
 #[tactic(auto, unfolding(crate::specs::Passing::admitted_by), using(hc_steps::proofs::Going::telling))]
-fn admitted_by(world: &World, log: &mut Log, here: Here, value: Authorized) -> Result<Here, Stop>
-    ensures { Ran result log.old log.new (run (admitted_by here value) (shown_by world.now.files)) }
+fn admitted_by(world: &World, log: &mut Log, value: Authorized) -> Result<(), Stop>
+    ensures { Ran result log.old log.new (run (admitted_by value) (shown_by world.now.files)) }
 {
     log.say(Event::Auth { value })?;
     if lets_in(value) {
-        Ok(here)
+        Ok(())
     } else {
         Err(Fault::Refused(Outcome::Status(FORBIDDEN)))
     }
 }
 
-// The redirects of the sections, on the URL path.
+fn query_left<'h>(here: &'h Here, left: &'h Option<RwState>) -> &'h Text
+    ensures { result.now ≡ query_left here.now left.now }
+{
+    match left {
+        Some(state) => &state.query,
+        None => &here.named.pass.query,
+    }
+}
+
+// The redirects of the sections, on the URL path, with the query that the rules of the directory leave.
 #[tactic(auto, using(hc_steps::proofs::Going::ran_no_memory))]
-fn sent_there(asked: &Asked<'_>, log: &mut Log, here: Here) -> Result<Here, Stop>
+fn sent_there(
+    asked: &Asked<'_>,
+    log: &mut Log,
+    here: &Here,
+    left: &Option<RwState>,
+) -> Result<(), Stop>
     ensures { Ran result log.old log.new
-        (run (sent_there (site_of asked.now) here) (shown_by asked.now.world.now.files)) }
+        (run (sent_there (site_of asked.now) here.now left.now) (shown_by asked.now.world.now.files)) }
 {
     let away = directory_redirect(
         log.allocator(),
         here.force.redirects.as_slice(),
         here.named.pass.path.as_bytes(),
-        here.named.pass.query.as_bytes(),
+        query_left(here, left).as_bytes(),
         asked.caller,
     )?;
-    sent_by(asked.world, log, here, away)
+    sent_by(asked.world, log, away)
 }
 
 #[tactic(auto, unfolding(crate::specs::Passing::sent_by), using(hc_steps::proofs::Going::telling))]
-fn sent_by(world: &World, log: &mut Log, here: Here, away: Option<Away>) -> Result<Here, Stop>
-    ensures { Ran result log.old log.new (run (sent_by here away) (shown_by world.now.files)) }
+fn sent_by(world: &World, log: &mut Log, away: Option<Away>) -> Result<(), Stop>
+    ensures { Ran result log.old log.new (run (sent_by away) (shown_by world.now.files)) }
 {
     match away {
         Some(away) => match log.say(Event::Redirect { spot: away.from }) {
             Ok(()) => Err(Fault::Refused(away.outcome)),
             Err(_) => Err(Fault::NoMemory),
         },
-        None => Ok(here),
+        None => Ok(()),
     }
 }
 
-// What stands there.
+// What stands there, unless another pass follows.
 #[tactic(auto, unfolding(crate::specs::Passing::answered), using(hc_steps::proofs::Going::telling))]
-fn answered(world: &World, log: &mut Log, here: Here) -> Result<Pass, Stop>
-    ensures { Ran result log.old log.new (run (answered here) (shown_by world.now.files)) }
+fn answered(
+    asked: &Asked<'_>,
+    log: &mut Log,
+    here: &Here,
+    left: Option<RwState>,
+) -> Result<Pass, Stop>
+    requires { IsHostOf asked.now.config.now asked.now.host }
+    ensures { Ran result log.old log.new
+        (run (answered (site_of asked.now) here.now left) (shown_by asked.now.world.now.files)) }
 {
-    Err(Fault::Refused(outcome_at(here.walk)))
+    match left {
+        Some(state) => answered_by(asked, log, here, state),
+        None => Err(Fault::Refused(outcome_at(&here.walk, &here.walk.info)?)),
+    }
 }
 
-fn outcome_at(walk: Walk) -> Outcome
-    ensures { result ≡ outcome_at walk.kind walk.name walk.info }
+#[tactic(auto, unfolding(crate::specs::Passing::answered_by), using(hc_steps::proofs::Going::telling))]
+fn answered_by(asked: &Asked<'_>, log: &mut Log, here: &Here, state: RwState) -> Result<Pass, Stop>
+    requires { IsHostOf asked.now.config.now asked.now.host }
+    ensures { Ran result log.old log.new
+        (run (answered_by (site_of asked.now) here.now state) (shown_by asked.now.world.now.files)) }
+{
+    if state.text.as_bytes() == here.walk.name.as_bytes() {
+        Err(Fault::Refused(outcome_at(&here.walk, &state.info)?))
+    } else {
+        restarted(asked, log, here, state)
+    }
+}
+
+fn outcome_at(walk: &Walk, info: &Text) -> Result<Outcome, NoMemory>
+    ensures { IfOk result (λ outcome. outcome ≡ outcome_at walk.now.kind walk.now.name info.now) }
 {
     match walk.kind {
-        Kind::Absent => Outcome::NotFound,
-        Kind::Dir => Outcome::Directory { path: walk.name },
-        Kind::File => Outcome::File {
-            path: walk.name,
-            info: walk.info,
-        },
+        Kind::Absent => Ok(Outcome::NotFound),
+        Kind::Dir => Ok(Outcome::Directory {
+            path: walk.name.clone()?,
+        }),
+        Kind::File => Ok(Outcome::File {
+            path: walk.name.clone()?,
+            info: info.clone()?,
+        }),
     }
 }

@@ -71,7 +71,7 @@ fn state_at(alloc: Global, pass: &mut Pass) -> Result<RwState, NoMemory>
     })
 }
 
-// The rules over the maps that are in force.
+// The rules of the server.
 #[tactic(auto, using(hc_steps::proofs::Going::ran_no_memory))]
 fn run_at(asked: &Asked<'_>, log: &mut Log, pass: &Pass, state: RwState) -> Result<Finished, Stop>
     requires { IsHostOf asked.now.config.now asked.now.host }
@@ -80,19 +80,28 @@ fn run_at(asked: &Asked<'_>, log: &mut Log, pass: &Pass, state: RwState) -> Resu
         (rules_at (site_of asked.now)) state) (shown_by asked.now.world.now.files)) }
 {
     let rules = rules_at(asked)?;
-    let maps = maps_at(asked)?;
     let context = context_at(asked, pass);
-    run_with(
-        asked.world,
-        log,
-        &context,
-        maps.as_slice(),
-        rules.as_slice(),
-        state,
-    )
+    run_over(asked, log, &context, rules.as_slice(), state)
 }
 
-// The rules over these maps in a world.
+/// Rules over the maps that are in force.
+#[tactic(auto, using(hc_steps::proofs::Going::ran_no_memory))]
+pub(crate) fn run_over(
+    asked: &Asked<'_>,
+    log: &mut Log,
+    context: &RwContext<'_>,
+    rules: &[Rule],
+    state: RwState,
+) -> Result<Finished, Stop>
+    ensures { Ran result log.old log.new
+        (run (run_rules (context_of context.now) (looks_of (maps_at (site_of asked.now))) rules.now state)
+        (shown_by asked.now.world.now.files)) }
+{
+    let maps = maps_at(asked)?;
+    run_with(asked.world, log, context, maps.as_slice(), rules, state)
+}
+
+// Rules over these maps in a world.
 fn run_with(
     world: &World,
     log: &mut Log,
@@ -120,7 +129,8 @@ fn context_at<'p>(asked: &Asked<'p>, pass: &'p Pass) -> RwContext<'p>
         caller: asked.caller,
         path: &pass.path,
         root: root_of(asked.config, asked.host),
-        first_query: &pass.query,
+        first_query: &pass.first_query,
+        engine: None,
     }
 }
 

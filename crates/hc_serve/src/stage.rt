@@ -1,5 +1,8 @@
-use hc_base::{Fault, List, Text};
-use hc_model::{Effective, Header, Outcome, Spot, Walk};
+ghost use Rattle.std.specs.Prelude.{◌≡◌, IfOk};
+ghost use Rattle.hc_serve.specs.ServerRules.{pass_at};
+
+use hc_base::{Fault, List, NoMemory, Text};
+use hc_model::{Effective, Header, HostId, Outcome, ReqTree, Spot, Walk};
 
 /// Why a step does not go on: the request is answered, or memory was refused.
 pub(crate) type Stop = Fault<Outcome>;
@@ -12,9 +15,40 @@ pub(crate) struct Pass {
     /// The URL path.
     pub path: Text,
     pub query: Text,
+    /// The query at the start of the pass.
+    pub first_query: Text,
     pub vars: List<Header>,
     /// END was met.
     pub end: bool,
+}
+
+impl Pass {
+    /// A pass as it begins.
+    pub(crate) fn at(
+        number: u32,
+        path: Text,
+        query: Text,
+        vars: List<Header>,
+        end: bool,
+    ) -> Result<Pass, NoMemory>
+        ensures { IfOk result (λ pass. pass ≡ pass_at number path query vars end) }
+    {
+        Ok(Pass {
+            number,
+            path,
+            first_query: query.clone()?,
+            query,
+            vars,
+            end,
+        })
+    }
+}
+
+/// The server that answers, and the first pass.
+#[derive(Drop)]
+pub(crate) struct Opened {
+    pub host: HostId,
+    pub pass: Pass,
 }
 
 /// A pass that has a file name.
@@ -49,4 +83,18 @@ pub(crate) struct Here {
     pub named: Named,
     pub walk: Walk,
     pub force: Effective,
+}
+
+/// How a pass ends a request, and the tree of Require lines that was in force.
+#[derive(Drop)]
+pub(crate) struct Ended {
+    pub outcome: Outcome,
+    pub require: Option<ReqTree>,
+}
+
+/// A pass that follows another one, and the tree of Require lines that was in force in that one.
+#[derive(Drop)]
+pub(crate) struct Restarted {
+    pub pass: Pass,
+    pub require: Option<ReqTree>,
 }

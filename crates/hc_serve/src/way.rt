@@ -3,16 +3,16 @@ ghost use Rattle.hc_vhost.specs.Servers.{IsHostOf};
 ghost use Rattle.hc_base.specs.Paths.{begins_with_slash};
 ghost use Rattle.hc_htaccess.specs.Reading.{reading_in};
 ghost use Rattle.hc_model.specs.Overrides.{Kept};
-ghost use Rattle.hc_serve.specs.Request.{first_pass, host_of, host_told, passes, passes_at, way};
+ghost use Rattle.hc_serve.specs.Request.{first_pass, host_of, host_told, opened, passes, passes_at, passes_of, way};
 ghost use Rattle.hc_serve.specs.Site.{site_of};
 ghost use Rattle.hc_steps.specs.Ran.{Ran};
 ghost use Rattle.hc_steps.specs.Run.{run};
 ghost use Rattle.hc_steps.specs.Shown.{shown_by};
 ghost use Rattle.hc_target.specs.Targets.{read};
 
-use crate::pass::passed;
+use crate::pass::{passed, stopped};
 use crate::site::{Asked, caller_at, most_passes};
-use crate::stage::{Pass, Stop};
+use crate::stage::{Ended, Opened, Pass, Restarted, Stop};
 use hc_base::{Fault, List};
 use hc_model::{Config, Event, HostId, Outcome, Overrides, Reason, Request};
 use hc_steps::Log;
@@ -25,22 +25,56 @@ pub(crate) const BAD_REQUEST: u16 = 400;
 const NOT_FOUND: u16 = 404;
 
 /// The way of a request: it ends, or leaves a pass that is one too many.
-#[tactic(auto, unfolding(crate::specs::Request::way), using(crate::proofs::Passes::stepping))]
+#[tactic(auto, unfolding(crate::specs::Request::way), using(crate::proofs::Trees::treed))]
 pub(crate) fn way<O: Overrides>(
     config: &Config,
     world: &World,
     log: &mut Log,
     over: &mut O,
     request: &Request,
-) -> Result<Pass, Stop>
+) -> Result<Restarted, Fault<Ended>>
     requires slash { begins_with_slash request.now.target ≡ true }
     requires over { O.reading over.old ≡ reading_in world.now.files config.now }
     ensures step { Ran result log.old log.new (run (way config.now request.now) (shown_by world.now.files)) }
     ensures reading { O.reading over.new ≡ O.reading over.old }
     ensures kept { Kept (O.loaded over.old) (O.loaded over.new) }
 {
+    match opened(config, world, log, request) {
+        Ok(opened) => passes_of(config, world, log, over, request, opened),
+        Err(fault) => Err(stopped(None, fault)),
+    }
+}
+
+// Before the passes.
+#[tactic(auto, unfolding(crate::specs::Request::opened), using(hc_steps::proofs::Going::going))]
+fn opened(config: &Config, world: &World, log: &mut Log, request: &Request) -> Result<Opened, Stop>
+    requires { begins_with_slash request.now.target ≡ true }
+    ensures step { Ran result log.old log.new
+        (run (opened config.now request.now) (shown_by world.now.files)) }
+    ensures host { IfOk result (λ opened. IsHostOf config.now opened.host) }
+{
     let host = host_of(config, world, log, request)?;
     let pass = first_pass(world, log, request)?;
+    Ok(Opened { host, pass })
+}
+
+#[tactic(auto, unfolding(crate::specs::Request::passes_of), using(hc_steps::proofs::Going::ran_no_memory))]
+fn passes_of<O: Overrides>(
+    config: &Config,
+    world: &World,
+    log: &mut Log,
+    over: &mut O,
+    request: &Request,
+    opened: Opened,
+) -> Result<Restarted, Fault<Ended>>
+    requires host { IsHostOf config.now opened.host }
+    requires over { O.reading over.old ≡ reading_in world.now.files config.now }
+    ensures step { Ran result log.old log.new
+        (run (passes_of config.now request.now opened) (shown_by world.now.files)) }
+    ensures reading { O.reading over.new ≡ O.reading over.old }
+    ensures kept { Kept (O.loaded over.old) (O.loaded over.new) }
+{
+    let Opened { host, pass } = opened;
     let caller = caller_at(log.allocator(), config, host, request)?;
     let asked = Asked {
         world,
@@ -89,13 +123,10 @@ fn first_pass(world: &World, log: &mut Log, request: &Request) -> Result<Pass, S
         TargetRead::Bad400 => Err(Fault::Refused(Outcome::Status(BAD_REQUEST))),
         TargetRead::Miss404 => Err(Fault::Refused(Outcome::Status(NOT_FOUND))),
         TargetRead::PathByte => Err(Fault::Refused(Outcome::Outside(Reason::PathByte))),
-        TargetRead::Path { path, query } => Ok(Pass {
-            number: 0,
-            path,
-            query,
-            vars: List::new(log.allocator()),
-            end: false,
-        }),
+        TargetRead::Path { path, query } => {
+            let vars = List::new(log.allocator());
+            Ok(Pass::at(0, path, query, vars, false)?)
+        }
     }
 }
 
@@ -105,7 +136,7 @@ fn passes_at<O: Overrides>(
     log: &mut Log,
     over: &mut O,
     pass: Pass,
-) -> Result<Pass, Stop>
+) -> Result<Restarted, Fault<Ended>>
     requires host { IsHostOf asked.now.config.now asked.now.host }
     requires over { O.reading over.old ≡ reading_in asked.now.world.now.files asked.now.config.now }
     ensures step { Ran result log.old log.new
@@ -113,12 +144,16 @@ fn passes_at<O: Overrides>(
     ensures reading { O.reading over.new ≡ O.reading over.old }
     ensures kept { Kept (O.loaded over.old) (O.loaded over.new) }
 {
+    let first = Restarted {
+        pass,
+        require: None,
+    };
     passes(
         asked,
         log,
         over,
         most_passes(asked.config, asked.host),
-        pass,
+        first,
     )
 }
 
@@ -129,18 +164,18 @@ fn passes<O: Overrides>(
     log: &mut Log,
     over: &mut O,
     most: u64,
-    pass: Pass,
-) -> Result<Pass, Stop>
+    first: Restarted,
+) -> Result<Restarted, Fault<Ended>>
     requires host { IsHostOf asked.now.config.now asked.now.host }
     requires over { O.reading over.old ≡ reading_in asked.now.world.now.files asked.now.config.now }
     ensures step { Ran result log.old log.new
-        (run (passes most (site_of asked.now) pass) (shown_by asked.now.world.now.files)) }
+        (run (passes most (site_of asked.now) first) (shown_by asked.now.world.now.files)) }
     ensures reading { O.reading over.new ≡ O.reading over.old }
     ensures kept { Kept (O.loaded over.old) (O.loaded over.new) }
 {
-    let mut pass = pass;
+    let mut left = first;
     for _turn in 0..most {
-        pass = passed(asked, log, over, pass)?;
+        left = passed(asked, log, over, left.pass)?;
     }
-    Ok(pass)
+    Ok(left)
 }

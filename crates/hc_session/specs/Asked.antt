@@ -1,6 +1,7 @@
--- The request that an `ask` stands for: what each of its fields gives, one after another. Our own choice.
-use Rattle.std.specs.Prelude.{ℕ, List, [], Result, Ok, codes}
+-- What an `ask` stands for: what each of its fields gives, one after another. Our own choice.
+use Rattle.std.specs.Prelude.{ℕ, List, [], Bool, false, Result, Ok, codes}
 use Rattle.serde_json.specs.Data.{Data}
+use Rattle.serde_json.specs.Find.{as_bool}
 use Rattle.hc_addr.specs.declared.addr.Addr.{Addr}
 use Rattle.hc_addr.specs.declared.addr.Addr.TheVariants.{V4}
 use Rattle.hc_model.specs.declared.request.Header.{Header}
@@ -10,6 +11,11 @@ use Rattle.hc_model.specs.declared.request.Scheme.TheVariants.{Http, Https}
 use Rattle.hc_session.specs.Fields.{optional, wanted, ◌>>=◌}
 use Rattle.hc_session.specs.Forms.{addr_from, headers_from, is_host, is_method, is_target, port_from, scheme_from, text_where}
 use Rattle.hc_session.specs.declared.asked.TheConstants.{CLIENT, HTTP_PORT, HTTPS_PORT, SERVER}
+
+-- A request, and whether how its outcome came is asked too.
+pub record Question : Type 0 where
+  pub request : Request
+  pub trail : Bool
 
 abbrev pub target_in : Data → Result (List ℕ) (List ℕ)
 target_in d = wanted (codes "target") (text_where is_target) d
@@ -39,8 +45,11 @@ client_in d = optional (codes "client") (V4 CLIENT) addr_from d
 abbrev pub headers_in : Data → Result (List Header) (List ℕ)
 headers_in d = optional (codes "headers") [] headers_from d
 
--- The request, or the first field that is missing or ill-formed.
-abbrev pub asked_in : Data → Result Request (List ℕ)
+abbrev pub trail_in : Data → Result Bool (List ℕ)
+trail_in d = optional (codes "trail") false as_bool d
+
+-- The question, or the first field that is missing or ill-formed.
+abbrev pub asked_in : Data → Result Question (List ℕ)
 asked_in d =
     target_in d >>= λ target.
     method_in d >>= λ method.
@@ -50,13 +59,17 @@ asked_in d =
     host_in d >>= λ host.
     client_in d >>= λ client.
     headers_in d >>= λ headers.
+    trail_in d >>= λ trail.
     Ok (record {
-      method = method;
-      scheme = scheme;
-      server = server;
-      port = port;
-      host = host;
-      client = client;
-      headers = headers;
-      target = target;
+      request = record {
+        method = method;
+        scheme = scheme;
+        server = server;
+        port = port;
+        host = host;
+        client = client;
+        headers = headers;
+        target = target;
+      };
+      trail = trail;
     })

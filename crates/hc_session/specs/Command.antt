@@ -3,8 +3,7 @@ use Rattle.std.specs.Prelude.{ℕ, List, [], ◌∷◌, if◌then◌else◌, Opt
 use Rattle.std.specs.Str.{bytes_eq, is_utf8}
 use Rattle.serde_json.specs.Data.{Data}
 use Rattle.serde_json.specs.Read.{read}
-use Rattle.hc_model.specs.declared.request.Request.{Request}
-use Rattle.hc_session.specs.Asked.{asked_in}
+use Rattle.hc_session.specs.Asked.{Question, asked_in}
 use Rattle.hc_session.specs.Fields.{required, unknown_field, ◌>>=◌}
 use Rattle.hc_world.specs.declared.world.ListKind.{ListKind}
 use Rattle.hc_world.specs.declared.world.ListKind.TheVariants.{File, Dir}
@@ -13,7 +12,7 @@ pub data Command : Type 0 where
   put : List ℕ → List ℕ → Command
   list : List ℕ → ListKind → Command
   check : Command
-  ask : Request → Command
+  ask : Question → Command
 
 -- The JSON value that a line is, if it is UTF-8 and JSON.
 abbrev pub json_of : List ℕ → Option Data
@@ -38,7 +37,7 @@ abbrev pub list_in : Data → Result Command (List ℕ)
 list_in d = required (codes "path") d >>= λ path. required (codes "kind") d >>= λ name. list_kind name >>= λ kind. Ok (list path kind)
 
 abbrev pub ask_in : Data → Result Command (List ℕ)
-ask_in d = asked_in d >>= λ request. Ok (ask request)
+ask_in d = asked_in d >>= λ question. Ok (ask question)
 
 abbrev pub put_fields : List (List ℕ)
 put_fields = codes "do" ∷ codes "path" ∷ codes "text" ∷ []
@@ -52,7 +51,7 @@ check_fields = codes "do" ∷ []
 abbrev pub ask_fields : List (List ℕ)
 ask_fields =
     codes "do" ∷ codes "target" ∷ codes "method" ∷ codes "scheme" ∷ codes "server" ∷ codes "port" ∷ codes "host"
-    ∷ codes "client" ∷ codes "headers" ∷ []
+    ∷ codes "client" ∷ codes "headers" ∷ codes "trail" ∷ []
 
 abbrev pub command_named : List ℕ → Data → Result Command (List ℕ)
 command_named name d =

@@ -8,6 +8,7 @@ use Rattle.std.specs.BTreeMap.{BTreeMap}
 use Rattle.hc_base.specs.Paths.{begins_with_slash}
 use Rattle.hc_model.specs.declared.request.Header.{Header}
 use Rattle.hc_model.specs.declared.request.Request.{Request}
+use Rattle.hc_session.specs.Asked.{Question}
 use Rattle.hc_session.specs.Command as spec
 use Rattle.hc_session.specs.Forms.{headers_of}
 use Rattle.hc_session.specs.declared.asked.Asked.{Asked}
@@ -31,11 +32,14 @@ request_view asked = record {
   target = asked.target.now;
 }
 
+abbrev pub question_view : Asked → Question
+question_view asked = record { request = request_view asked; trail = asked.trail }
+
 abbrev pub command_view : Command → spec.Command
 command_view (Put path bytes) = spec.put path.now bytes.now
 command_view (ListPath path kind) = spec.list path.now kind
 command_view Check = spec.check
-command_view (Ask asked) = spec.ask (request_view asked)
+command_view (Ask asked) = spec.ask (question_view asked)
 
 -- The target of an `ask` begins with a slash.
 abbrev pub IsAskable : Command → Type 0
@@ -50,8 +54,8 @@ abbrev pub read_view : Result Command BadField → Result spec.Command (List ℕ
 read_view (Ok command) = Ok (command_view command)
 read_view (Err bad) = Err bad.0.now
 
-abbrev pub asked_view : Result Asked BadField → Result Request (List ℕ)
-asked_view (Ok asked) = Ok (request_view asked)
+abbrev pub asked_view : Result Asked BadField → Result Question (List ℕ)
+asked_view (Ok asked) = Ok (question_view asked)
 asked_view (Err bad) = Err bad.0.now
 
 abbrev pub field_view : Result (Bor (List ℕ)) BadField → Result (List ℕ) (List ℕ)

@@ -8,4 +8,6 @@ pub mod Reply
 pub mod ReplyView
 pub mod Sending
 pub mod Session
+pub mod Shown
 pub mod Status
+pub mod Trail

@@ -1,10 +1,8 @@
 -- The replies to a script's lines: their JSON values and their bytes. Our own choice.
-use Rattle.std.specs.Prelude.{ℕ, ◌+◌, ◌/◌, ◌%◌, ◌-◌, ◌==◌, nat_le, nat_lt, codes}
-use Rattle.std.specs.Prelude.{List, [], ◌∷◌, ◌++◌, ◌&&◌, true, if◌then◌else◌}
-use Rattle.std.specs.List.{flat_map}
+use Rattle.std.specs.Prelude.{ℕ, List, [], ◌∷◌, ◌++◌, true, codes}
 use Rattle.serde_json.specs.Data.{Data, boolean, number, unsigned, string, object, no_members, member}
 use Rattle.serde_json.specs.Written.{compact_text}
-use Rattle.hc_base.specs.Bytes.{backslash, digit_zero, letter_a, letter_x, lf, space, tilde}
+use Rattle.hc_base.specs.Bytes.{lf}
 use Rattle.hc_base.specs.Codes.{name_of_code}
 use Rattle.hc_base.specs.declared.place.Refusal.{Refusal}
 use Rattle.hc_model.specs.declared.outcome.Outcome.{Outcome}
@@ -13,6 +11,8 @@ use Rattle.hc_model.specs.declared.outcome.LimitKind.{LimitKind}
 use Rattle.hc_model.specs.declared.outcome.LimitKind.TheVariants.{Rounds, Redirects}
 use Rattle.hc_model.specs.declared.outcome.Reason.{Reason}
 use Rattle.hc_model.specs.declared.outcome.Reason.TheVariants.{PathByte, LongText, DotSegment, RelativeRedirect, RelativeUnderAlias, Scheme, NoRoot}
+use Rattle.hc_session.specs.Shown.{shown}
+use Rattle.hc_session.specs.Trail.{Trailed, reads_data, trail_data}
 
 pub data Reply : Type 0 where
   done_put : Reply
@@ -20,23 +20,10 @@ pub data Reply : Type 0 where
   -- a configuration, with how many virtual hosts it has
   configured : ℕ → Reply
   outcome : Outcome → Reply
+  -- an outcome, and how it came
+  trailed : Trailed → Reply
   refused : Refusal → Reply
   no_memory : Reply
-
-abbrev pub hex_digit : ℕ → ℕ
-hex_digit n = if nat_lt n 10 then digit_zero + n else letter_a + (n - 10)
-
--- 0x20 to 0x7E as it is but for the backslash, which is doubled; every other byte as a backslash,
--- `x` and two lower-case hexadecimal digits.
-abbrev pub shown_byte : ℕ → List ℕ
-shown_byte b =
-    if b == backslash then backslash ∷ backslash ∷ []
-    else (if nat_le space b && nat_le b tilde then b ∷ []
-    else backslash ∷ letter_x ∷ hex_digit (b / 16) ∷ hex_digit (b % 16) ∷ [])
-
--- A text of bytes as it is printed.
-abbrev pub shown : List ℕ → List ℕ
-shown bytes = flat_map shown_byte bytes
 
 -- An object with one member.
 abbrev pub only : List ℕ → Data → Data
@@ -81,11 +68,20 @@ outcome_data (Limit kind) = only (codes "limit") (string (limit_name kind))
 outcome_data (HtRefused refusal) = only (codes "ht_refused") (refusal_data refusal)
 outcome_data (Outside reason) = only (codes "outside") (string (reason_name reason))
 
+abbrev pub trailed_data : Trailed → Data
+trailed_data answer =
+    object (
+    member (codes "events") (number (unsigned answer.events)) (
+    member (codes "outcome") (outcome_data answer.outcome) (
+    member (codes "reads") (reads_data answer.reads) (
+    member (codes "trail") (trail_data answer.trail) no_members))))
+
 abbrev pub reply_data : Reply → Data
 reply_data done_put = only (codes "done") (string (codes "put"))
 reply_data done_list = only (codes "done") (string (codes "list"))
 reply_data (configured hosts) = only (codes "config") (only (codes "hosts") (number (unsigned hosts)))
 reply_data (outcome o) = only (codes "outcome") (outcome_data o)
+reply_data (trailed answer) = trailed_data answer
 reply_data (refused r) = only (codes "refused") (refusal_data r)
 reply_data no_memory = only (codes "no_memory") (boolean true)
 

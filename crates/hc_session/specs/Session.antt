@@ -1,5 +1,5 @@
 -- The session: what each line of a script is answered, and the world that it leaves. Our own choice.
-use Rattle.std.specs.Prelude.{◌≡◌, ◌⊎◌, ◌+◌, ◌≤◌, ℕ, List, [], ◌∷◌, length, Result, Ok, Err, codes}
+use Rattle.std.specs.Prelude.{◌≡◌, ◌⊎◌, ◌+◌, ◌≤◌, ℕ, List, [], ◌∷◌, length, take, Bool, true, false, Result, Ok, Err, codes}
 use Rattle.hc_base.specs.declared.codes.TheConstants.{BAD_COMMAND}
 use Rattle.hc_base.specs.declared.place.Refusal.{Refusal}
 use Rattle.hc_model.specs.World.{World, put as put_in}
@@ -7,11 +7,15 @@ use Rattle.hc_config.specs.Configuration.{built}
 use Rattle.hc_include.specs.Flat.{flat_of}
 use Rattle.hc_world.specs.Edits.{listed}
 use Rattle.hc_model.specs.declared.request.Request.{Request}
-use Rattle.hc_serve.specs.Request.{received}
+use Rattle.hc_serve.specs.Request.{received, reads_of, whole_run}
+use Rattle.hc_serve.specs.declared.answer.Answer.{Answer}
+use Rattle.hc_serve.specs.declared.answer.TheConstants.{LONGEST_TRAIL}
 use Rattle.hc_model.specs.declared.config.Config.{Config}
+use Rattle.hc_session.specs.Asked.{Question}
 use Rattle.hc_session.specs.Command.{Command, put, list, check, ask, command_of}
 use Rattle.std.specs.declared.alloc.AllocError.{AllocError as NoMemory}
-use Rattle.hc_session.specs.Reply.{Reply, done_put, done_list, configured, outcome, refused, no_memory, reply_line}
+use Rattle.hc_session.specs.Reply.{Reply, done_put, done_list, configured, outcome, trailed, refused, no_memory, reply_line}
+use Rattle.hc_session.specs.Trail.{trailed_of}
 
 -- The path of the main file.
 abbrev pub main_file : List ℕ
@@ -42,15 +46,29 @@ abbrev pub check_reply : Result Config Refusal → Reply
 check_reply (Ok found) = configured (length found.hosts)
 check_reply (Err refusal) = refused refusal
 
-abbrev pub ask_reply : World → Request → Result Config Refusal → Reply
-ask_reply world request (Ok config) = outcome (received world config request)
-ask_reply world request (Err refusal) = refused refusal
+-- What a request receives, and how that came.
+abbrev pub answer_of : World → Config → Request → Answer
+answer_of world config request = record {
+  outcome = received world config request;
+  events = length (whole_run world config request).events;
+  trail = take LONGEST_TRAIL (whole_run world config request).events;
+  reads = reads_of world config request;
+}
+
+-- The outcome alone, or with its trail.
+abbrev pub answer_reply : Bool → World → Answer → Reply
+answer_reply false world answer = outcome answer.outcome
+answer_reply true world answer = trailed (trailed_of world answer)
+
+abbrev pub ask_reply : World → Question → Result Config Refusal → Reply
+ask_reply world question (Ok config) = answer_reply question.trail world (answer_of world config question.request)
+ask_reply world question (Err refusal) = refused refusal
 
 abbrev pub turn_of : World → Result Command (List ℕ) → Turn
 turn_of world (Ok (put path text)) = edit_turn done_put world (put_in world path text)
 turn_of world (Ok (list path kind)) = edit_turn done_list world (listed world path kind)
 turn_of world (Ok check) = record { reply = check_reply (configuration world); world = world }
-turn_of world (Ok (ask request)) = record { reply = ask_reply world request (configuration world); world = world }
+turn_of world (Ok (ask question)) = record { reply = ask_reply world question (configuration world); world = world }
 turn_of world (Err field) = record { reply = refused (bad_command field); world = world }
 
 -- The one reply to a line in a world, and the world after it.
@@ -65,7 +83,7 @@ evaluations_under (Err refusal) = 0
 
 -- Once for each request that is asked about under a configuration.
 abbrev pub evaluations_of : World → Result Command (List ℕ) → ℕ
-evaluations_of world (Ok (ask request)) = evaluations_under (configuration world)
+evaluations_of world (Ok (ask question)) = evaluations_under (configuration world)
 evaluations_of world (Ok (put path text)) = 0
 evaluations_of world (Ok (list path kind)) = 0
 evaluations_of world (Ok check) = 0

@@ -3,7 +3,7 @@ ghost use Rattle.serde_json.specs.View.{view};
 ghost use Rattle.hc_addr.specs.declared.addr.Addr.TheVariants.{V4};
 ghost use Rattle.hc_base.specs.Paths.{begins_with_slash};
 ghost use Rattle.hc_session.specs.Asked.{asked_in, headers_in, host_in, method_in, port_in, port_of, scheme_in};
-ghost use Rattle.hc_session.specs.Asked.{target_in};
+ghost use Rattle.hc_session.specs.Asked.{target_in, trail_in};
 ghost use Rattle.hc_session.specs.CommandView.{asked_view, field_view, headers_view, members_field_view};
 ghost use Rattle.hc_session.specs.CommandView.{request_view, value_view};
 ghost use Rattle.hc_session.specs.Fields.{optional};
@@ -40,11 +40,13 @@ pub struct Asked<'v> {
     pub client: Addr,
     /// Members that are headers, where the field is there.
     pub headers: Option<&'v Map<String, Value>>,
+    /// Whether how the outcome came is asked too.
+    pub trail: bool,
 }
 
-/// The request that a value asks about, or its first wrong field.
+/// What a value asks, or its first wrong field.
 pub(crate) fn read_asked(value: &Value) -> Result<Asked<'_>, BadField<'_>>
-    ensures request { asked_view result ≡ asked_in (view value.now) }
+    ensures asked { asked_view result ≡ asked_in (view value.now) }
     ensures slash { IfOk result (λ asked. begins_with_slash asked.target.now ≡ true) }
 {
     let target = target_in(value)?;
@@ -55,6 +57,7 @@ pub(crate) fn read_asked(value: &Value) -> Result<Asked<'_>, BadField<'_>>
     let host = host_in(value)?;
     let client = addr_in(value, "client", CLIENT)?;
     let headers = headers_in(value)?;
+    let trail = trail_in(value)?;
     Ok(Asked {
         target,
         method,
@@ -64,6 +67,7 @@ pub(crate) fn read_asked(value: &Value) -> Result<Asked<'_>, BadField<'_>>
         host,
         client,
         headers,
+        trail,
     })
 }
 
@@ -173,6 +177,15 @@ fn headers_in(value: &Value) -> Result<Option<&Map<String, Value>>, BadField<'_>
     match given.as_object() {
         Some(members) if are_headers(members) => Ok(Some(members)),
         _ => Err(BadField("headers")),
+    }
+}
+
+fn trail_in(value: &Value) -> Result<bool, BadField<'_>>
+    ensures { value_view result ≡ trail_in (view value.now) }
+{
+    match value.get("trail") {
+        Some(given) => given.as_bool().ok_or(BadField("trail")),
+        None => Ok(false),
     }
 }
 

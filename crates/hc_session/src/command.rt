@@ -120,6 +120,7 @@ fn unknown_ask_field(value: &Value) -> Option<&str>
         value,
         &[
             "do", "target", "method", "scheme", "server", "port", "host", "client", "headers",
+            "trail",
         ],
     )
 }

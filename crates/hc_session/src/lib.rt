@@ -14,6 +14,7 @@ mod reply;
 mod serve;
 mod session;
 mod status;
+mod trail;
 
 pub use conversation::serve_session;
 pub use session::{MAIN_FILE, Session};

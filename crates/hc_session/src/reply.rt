@@ -1,8 +1,11 @@
-ghost use Rattle.std.specs.Prelude.{◌≡◌, ◌<◌, ◌++◌, ◌∷◌, [], IfOk, OnOk, string_bytes};
+ghost use Rattle.std.specs.Prelude.{◌≡◌, ◌<◌, ◌++◌, ◌∷◌, [], IfOk, OnOk, false, string_bytes};
 ghost use Rattle.serde_json.specs.View.{view};
-ghost use Rattle.hc_session.specs.Reply.{hex_digit, limit_name, outcome_data, reason_name, refusal_data};
-ghost use Rattle.hc_session.specs.Reply.{reply_data, reply_line, shown, shown_byte};
+ghost use Rattle.serde_json.specs.Written.{compact_text, has_float};
+ghost use Rattle.hc_base.specs.Bytes.{lf};
+ghost use Rattle.hc_session.specs.Reply.{limit_name, outcome_data, reason_name, refusal_data};
+ghost use Rattle.hc_session.specs.Reply.{reply_data, reply_line};
 ghost use Rattle.hc_session.specs.ReplyView.{reply_view};
+ghost use Rattle.hc_session.specs.Shown.{hex_digit, shown, shown_byte};
 
 use hc_base::codes::name_of_code;
 use hc_base::{NoMemory, Refusal, Text};
@@ -10,7 +13,7 @@ use hc_model::{LimitKind, Outcome, Reason};
 use serde_json::{Value, json};
 use std::alloc::Global;
 
-/// The answer to a line.
+/// The answer to a line. One with its trail is printed by `print_trailed`.
 #[derive(Drop)]
 pub enum Reply {
     /// A put was done.
@@ -29,7 +32,15 @@ pub enum Reply {
 pub fn print_reply(alloc: Global, reply: &Reply) -> Result<Text, NoMemory>
     ensures { IfOk result (λ line. line ≡ reply_line (reply_view reply.now)) }
 {
-    let mut line = reply_value(alloc, reply)?.to_vec(alloc)?;
+    print_value(alloc, &reply_value(alloc, reply)?)
+}
+
+/// The line of a value without floats: compact JSON, and LF.
+pub(crate) fn print_value(alloc: Global, value: &Value) -> Result<Text, NoMemory>
+    ensures { has_float (view value.now) ≡ false
+        → IfOk result (λ line. line ≡ compact_text (view value.now) ++ lf ∷ []) }
+{
+    let mut line = value.to_vec(alloc)?;
     line.push(b'\n')?;
     Ok(Text::from(line))
 }
@@ -52,7 +63,8 @@ fn reply_value(alloc: Global, reply: &Reply) -> Result<Value, NoMemory>
     }
 }
 
-fn outcome_value(alloc: Global, outcome: &Outcome) -> Result<Value, NoMemory>
+/// What a request receives.
+pub(crate) fn outcome_value(alloc: Global, outcome: &Outcome) -> Result<Value, NoMemory>
     ensures { IfOk result (λ value. view value ≡ outcome_data outcome.now) }
 {
     match outcome {
@@ -131,8 +143,8 @@ fn refusal_value(alloc: Global, refusal: &Refusal) -> Result<Value, NoMemory>
     })
 }
 
-// A text of bytes as it is printed.
-fn shown(alloc: Global, bytes: &[u8]) -> Result<String, NoMemory>
+/// A text of bytes as it is printed.
+pub(crate) fn shown(alloc: Global, bytes: &[u8]) -> Result<String, NoMemory>
     ensures { IfOk result (λ text. string_bytes text ≡ shown bytes.now) }
 {
     let mut text = String::new(alloc);

@@ -4,12 +4,11 @@ ghost use Rattle.serde_json.specs.View.{view};
 ghost use Rattle.hc_model.specs.World.{new_world, put as put_in};
 ghost use Rattle.hc_base.specs.Gives.{Gives};
 ghost use Rattle.hc_base.specs.Paths.{begins_with_slash};
-ghost use Rattle.hc_serve.specs.Request.{received};
 ghost use Rattle.hc_session.specs.Command.{command_of_json};
-ghost use Rattle.hc_session.specs.CommandView.{IsAskable, read_view, request_view};
+ghost use Rattle.hc_session.specs.CommandView.{IsAskable, question_view, read_view, request_view};
 ghost use Rattle.hc_session.specs.Reply.{done_list, done_put, refused, reply_line};
-ghost use Rattle.hc_session.specs.ReplyView.{reply_view};
-ghost use Rattle.hc_session.specs.Session.{Counts, Turned, TurnedInto, ask_reply, bad_command, bad_edit};
+ghost use Rattle.hc_session.specs.Session.{Counts, Turned, TurnedInto, answer_of, answer_reply, ask_reply};
+ghost use Rattle.hc_session.specs.Session.{bad_command, bad_edit};
 ghost use Rattle.hc_session.specs.Session.{check_reply, configuration, edit_turn, evaluations, evaluations_under};
 ghost use Rattle.hc_world.specs.Edits.{listed};
 
@@ -17,13 +16,14 @@ use crate::asked::Asked;
 use crate::command::{Command, parse, read_command};
 use crate::fields::BadField;
 use crate::reply::{Reply, print_reply};
+use crate::trail::print_trailed;
 use hc_base::codes::BAD_COMMAND;
 use hc_base::{Fault, NoMemory, Place, Refusal, Steps, Text};
 use hc_config::{BuildFault, build};
 use hc_htaccess::PlainOverrides;
 use hc_include::flatten;
-use hc_model::{Config, Outcome};
-use hc_serve::evaluate;
+use hc_model::Config;
+use hc_serve::{Answer, evaluate};
 use hc_world::{ListKind, World};
 use serde_json::Value;
 use std::alloc::Global;
@@ -134,48 +134,59 @@ impl Session {
     ) -> Result<Text, NoMemory>
         requires { begins_with_slash asked.now.target.now ≡ true }
         ensures line { IfOk result
-            (λ line. line ≡ reply_line (ask_reply self.now (request_view asked.now) (configuration self.now))) }
-        ensures evals { Counts result (evaluations_under (configuration self.now)) evals.old evals.new }
-    {
-        let reply = self.ask_reply(asked, evals, bytes)?;
-        print_reply(self.alloc, &reply)
-    }
-
-    fn ask_reply<E: Ledger, L: Ledger>(
-        &self,
-        asked: &Asked<'_>,
-        evals: &mut Steps<E>,
-        bytes: &mut Steps<L>,
-    ) -> Result<Reply, NoMemory>
-        requires { begins_with_slash asked.now.target.now ≡ true }
-        ensures reply { IfOk result
-            (λ reply. reply_view reply ≡ ask_reply self.now (request_view asked.now) (configuration self.now)) }
+            (λ line. line ≡ reply_line (ask_reply self.now (question_view asked.now) (configuration self.now))) }
         ensures evals { Counts result (evaluations_under (configuration self.now)) evals.old evals.new }
     {
         match self.config(bytes) {
-            Ok(config) => Ok(Reply::Outcome(self.outcome(&config, asked, evals, bytes)?)),
-            Err(Fault::Refused(refusal)) => Ok(Reply::Refused(refusal)),
+            Ok(config) => self.ask_under(&config, asked, evals, bytes),
+            Err(Fault::Refused(refusal)) => print_reply(self.alloc, &Reply::Refused(refusal)),
             Err(Fault::NoMemory) => Err(NoMemory),
         }
     }
 
-    // What a request receives. The `.htaccess` files of its walk are read anew.
-    fn outcome<E: Ledger, L: Ledger>(
+    fn ask_under<E: Ledger, L: Ledger>(
         &self,
         config: &Config,
         asked: &Asked<'_>,
         evals: &mut Steps<E>,
         bytes: &mut Steps<L>,
-    ) -> Result<Outcome, NoMemory>
+    ) -> Result<Text, NoMemory>
         requires { begins_with_slash asked.now.target.now ≡ true }
-        ensures outcome { IfOk result
-            (λ outcome. outcome ≡ received self.now config.now (request_view asked.now)) }
+        ensures line { IfOk result (λ line. line ≡ reply_line
+            (answer_reply asked.now.trail self.now (answer_of self.now config.now (request_view asked.now)))) }
+        ensures evals { Counts result 1 evals.old evals.new }
+    {
+        let answer = self.answer(config, asked, evals, bytes)?;
+        self.print_answer(asked.trail, answer)
+    }
+
+    // What a request receives, and how that came. The `.htaccess` files of its walk are read anew.
+    fn answer<E: Ledger, L: Ledger>(
+        &self,
+        config: &Config,
+        asked: &Asked<'_>,
+        evals: &mut Steps<E>,
+        bytes: &mut Steps<L>,
+    ) -> Result<Answer, NoMemory>
+        requires { begins_with_slash asked.now.target.now ≡ true }
+        ensures answer { IfOk result
+            (λ answer. answer ≡ answer_of self.now config.now (request_view asked.now)) }
         ensures evals { Counts result 1 evals.old evals.new }
     {
         let request = asked.to_request(self.alloc)?;
         let mut over = PlainOverrides::new(self.alloc, config, &self.world, bytes);
-        let world = &self.world;
-        Ok(evaluate(self.alloc, config, world, &mut over, &request, evals)?.outcome)
+        evaluate(self.alloc, config, &self.world, &mut over, &request, evals)
+    }
+
+    // The outcome alone, or with its trail.
+    fn print_answer(&self, trail: bool, answer: Answer) -> Result<Text, NoMemory>
+        ensures { IfOk result (λ line. line ≡ reply_line (answer_reply trail self.now answer)) }
+    {
+        if trail {
+            print_trailed(self.alloc, &self.world, &answer)
+        } else {
+            print_reply(self.alloc, &Reply::Outcome(answer.outcome))
+        }
     }
 
     // The configuration, read anew.

@@ -1,16 +1,16 @@
-//! What `evaluate` and `whole_run` answer: the outcome, the steps to it, and what was looked at.
+//! What `evaluate` and `whole_run` answer beside the outcome: how many steps there were, which of them are kept, and
+//! the Require lines of the last pass.
 
 ghost use Rattle.std.specs.Prelude.{◌≡◌, ◌<◌, true};
 ghost use Rattle.hc_base.specs.Paths.{begins_with_slash};
 
 use crate::configs::{config_of, world_of};
-use crate::told::{answer_text, whole_text};
 use hc_addr::Addr;
 use hc_base::paths::begins_with_slash;
-use hc_base::{List, NoMemory, Steps, Text};
+use hc_base::{List, NoMemory, Place, Steps, Text};
 use hc_htaccess::PlainOverrides;
 use hc_model::{Config, Header, Request, Scheme};
-use hc_serve::{evaluate, whole_run};
+use hc_serve::{Answer, WholeRun, evaluate, whole_run};
 use hc_world::World;
 use std::alloc::Global;
 use std::marker::Brand;
@@ -20,6 +20,9 @@ use std::test::Fail;
 
 // 192.0.2.1
 const SERVER: u32 = 0xC000_0201;
+
+// How many steps a trail has at most.
+const LONGEST_TRAIL: usize = 200;
 
 fn headers(alloc: Global) -> Result<List<Header>, NoMemory> {
     let mut headers = List::new(alloc);
@@ -43,7 +46,14 @@ pub fn request(alloc: Global, host: &str, target: &str) -> Result<Request, NoMem
     })
 }
 
-// What `evaluate` answers, of which a copy is shown.
+/// What both calls answer.
+#[derive(Drop)]
+struct Answers {
+    answer: Answer,
+    whole: WholeRun,
+}
+
+// Copies of what the calls answer.
 fn answered<E: Ledger, B: Ledger>(
     for_evals: Blank,
     for_bytes: Blank,
@@ -51,7 +61,7 @@ fn answered<E: Ledger, B: Ledger>(
     config: &Config,
     world: &World,
     request: &Request,
-) -> Result<Vec<u8>, NoMemory>
+) -> Result<Answers, NoMemory>
     requires target { begins_with_slash request.now.target ≡ true }
     requires evals_name { for_evals.name ≡ E.name }
     requires evals_parts { for_evals.parts ≡ E.parts }
@@ -63,211 +73,122 @@ fn answered<E: Ledger, B: Ledger>(
     let mut evals = Steps::<E>::new(for_evals);
     let mut bytes = Steps::<B>::new(for_bytes);
     let mut over = PlainOverrides::new(alloc, config, world, &mut bytes);
-    let answer = evaluate(alloc, config, world, &mut over, request, &mut evals)?;
-    answer_text(alloc, &answer.clone()?)
+    let answer = evaluate(alloc, config, world, &mut over, request, &mut evals)?.clone()?;
+    let whole = whole_run(alloc, config, world, &mut over, request, &mut evals)?.clone()?;
+    Ok(Answers { answer, whole })
 }
 
-// What `whole_run` answers, of which a copy is shown.
-fn whole_answered<E: Ledger, B: Ledger>(
-    for_evals: Blank,
-    for_bytes: Blank,
-    alloc: Global,
-    config: &Config,
-    world: &World,
-    request: &Request,
-) -> Result<Vec<u8>, NoMemory>
-    requires target { begins_with_slash request.now.target ≡ true }
-    requires evals_name { for_evals.name ≡ E.name }
-    requires evals_parts { for_evals.parts ≡ E.parts }
-    requires evals_whole { 0 < for_evals.parts }
-    requires bytes_name { for_bytes.name ≡ B.name }
-    requires bytes_parts { for_bytes.parts ≡ B.parts }
-    requires bytes_whole { 0 < for_bytes.parts }
-{
-    let mut evals = Steps::<E>::new(for_evals);
-    let mut bytes = Steps::<B>::new(for_bytes);
-    let mut over = PlainOverrides::new(alloc, config, world, &mut bytes);
-    let whole = whole_run(alloc, config, world, &mut over, request, &mut evals)?;
-    whole_text(alloc, &whole.clone()?)
+// The lines of places, each with a blank behind it.
+fn lines_text(alloc: Global, places: &[Place]) -> Result<String, NoMemory> {
+    let mut text = String::new(alloc);
+    for place in places {
+        let line = format!(in alloc; "{} ", place.line)?;
+        text.push_str(&line)?;
+    }
+    Ok(text)
 }
 
-// What is answered is this text; the whole run has the same events, since no trail here is cut.
-fn check_answer(
+// There are so many steps, of which a trail keeps the first, and these lines were asked.
+fn check_answers(
     rt: &impl Abort,
     alloc: Global,
-    config: &Config,
-    world: &World,
-    request: &Request,
-    wanted: &str,
+    answers: &Answers,
+    events: usize,
+    needs: &str,
+    label: &str,
 ) -> Result<(), Fail> {
+    let Answers { answer, whole } = answers;
+    assert!(rt; answer.events == events as u64, "{label}");
+    assert!(rt;
+        answer.trail.as_slice().len() == events.min(LONGEST_TRAIL),
+        "{label}"
+    );
+    assert!(rt; whole.events.as_slice().len() == events, "{label}");
+    let lines = lines_text(alloc, whole.needs.as_slice())?;
+    assert!(rt; lines.as_bytes() == needs.as_bytes(), "{label}");
+    Ok(())
+}
+
+fn answers_in(
+    rt: &impl Abort,
+    alloc: Global,
+    world: &World,
+    target: &str,
+) -> Result<Answers, Fail> {
+    let request = request(alloc, "localhost", target)?;
     if !begins_with_slash(request.target.as_bytes()) {
         panic!(rt; "a target without a slash");
     }
-    let answer = answered::<Brand, Brand>(
+    let Ok(config) = config_of(alloc, world) else {
+        panic!(rt; "no configuration");
+    };
+    Ok(answered::<Brand, Brand>(
         Blank::new(1),
         Blank::new(1),
         alloc,
-        config,
+        &config,
         world,
-        request,
-    )?;
-    assert!(rt; answer.as_slice() == wanted.as_bytes());
-    let whole = whole_answered::<Brand, Brand>(
-        Blank::new(1),
-        Blank::new(1),
-        alloc,
-        config,
-        world,
-        request,
-    )?;
-    assert!(rt; whole.as_slice() == wanted.as_bytes());
-    Ok(())
+        &request,
+    )?)
 }
 
-// A main file, the Host name and the target of a request, and what is answered.
-static ROWS: &[(&str, &str, &str, &str)] = &[
+// A main file, a target, how many steps there are, and the lines that were asked in the last pass.
+static ROWS: &[(&str, &str, usize, &str)] = &[
+    ("DocumentRoot /srv\n", "/f", 5, ""),
+    // 100 rounds of one rule, and 99 further ones told
     (
-        "DocumentRoot /srv\n",
-        "localhost",
+        "DocumentRoot /srv\nRewriteEngine On\nRewriteRule ^ - [N=100]\n",
         "/f",
-        "file /srv/f  \n5 \nhost :0 \npass 0 /f  \nmap /srv/f \nwalk /srv/f  file \nauth none \n\
-text /etc/httpd/conf/httpd.conf \nkind /srv \nkind /srv/f \n",
-    ),
-    (
-        "DocumentRoot /srv\nRedirect /e /f\n",
-        "a?b",
-        "/e/x?q=1",
-        "302 http://a?b/f/x?q=1 \n3 \nhost :0 \npass 0 /e/x q=1 \n\
-redirect /etc/httpd/conf/httpd.conf:2 18 32 \ntext /etc/httpd/conf/httpd.conf \n",
-    ),
-    (
-        "DocumentRoot /srv\nRedirect /e /f?k\n",
+        201,
         "",
-        "/e?q=1",
-        "302 http://192.0.2.1/f?k \n3 \nhost :0 \npass 0 /e q=1 \n\
-redirect /etc/httpd/conf/httpd.conf:2 18 34 \ntext /etc/httpd/conf/httpd.conf \n",
     ),
+    // the lines of the tree that is merged, in their order
     (
-        "DocumentRoot /srv\nAlias /a /srv//f//\n",
-        "localhost",
-        "/a/g",
-        "file /srv/f /g \n5 \nhost :0 \npass 0 /a/g  \n\
-alias /etc/httpd/conf/httpd.conf:2 18 36 \nmap /srv/f/g \nwalk /srv/f /g file \nauth none \n\
-text /etc/httpd/conf/httpd.conf \nkind /srv \nkind /srv/f \n",
-    ),
-    (
-        "DocumentRoot /srv\nAlias /d /x/../y\n",
-        "localhost",
-        "/d",
-        "outside \n2 \nhost :0 \npass 0 /d  \ntext /etc/httpd/conf/httpd.conf \n",
-    ),
-    (
-        "DocumentRoot /srv\n",
-        "localhost",
-        "/a%2fb",
-        "404 \n1 \nhost :0 \ntext /etc/httpd/conf/httpd.conf \n",
-    ),
-    (
-        "DocumentRoot /srv\n<Directory \"/\">\nAllowOverride None\n</Directory>\n<Directory \"/srv\">\n\
-AllowOverride FileInfo\n</Directory>\n",
-        "localhost",
-        "/p/q",
-        "302 http://two.example/p/q \n9 \nhost :0 \npass 0 /p/q  \nmap /srv/p/q \nwalk /srv/p /q absent \n\
-section /etc/httpd/conf/httpd.conf:2 18 33 \nsection /etc/httpd/conf/httpd.conf:5 66 84 \n\
-section /srv/.htaccess:0 0 0 \nauth none \nredirect /srv/.htaccess:1 0 36 \n\
-text /etc/httpd/conf/httpd.conf \nkind /srv \ntext /srv/.htaccess \nkind /srv/p \n",
-    ),
-    (
-        "DocumentRoot /srv\n<Location /f>\nRequire local\n</Location>\n",
-        "localhost",
+        "DocumentRoot /srv\n<Directory />\nRequire ip 10\n</Directory>\n<Directory /srv>\nAuthMerging Or\n\
+<RequireAll>\nRequire all granted\n<RequireNone>\nRequire method POST\n</RequireNone>\n</RequireAll>\n</Directory>\n",
         "/f",
-        "file /srv/f  \n6 \nhost :0 \npass 0 /f  \nmap /srv/f \nwalk /srv/f  file \n\
-section /etc/httpd/conf/httpd.conf:2 18 31 \nauth granted \ntext /etc/httpd/conf/httpd.conf \nkind /srv \n\
-kind /srv/f \n",
+        7,
+        "3 8 10 ",
     ),
+    // those of a request that is refused
     (
-        "DocumentRoot /srv\n<Location /f>\nRequire all denied\n</Location>\n",
-        "localhost",
+        "DocumentRoot /srv\n<Directory />\nRequire all denied\n</Directory>\n",
         "/f",
-        "403 \n6 \nhost :0 \npass 0 /f  \nmap /srv/f \nwalk /srv/f  file \n\
-section /etc/httpd/conf/httpd.conf:2 18 31 \nauth denied \ntext /etc/httpd/conf/httpd.conf \nkind /srv \n\
-kind /srv/f \n",
+        6,
+        "3 ",
+    ),
+    // those of the last pass, and not of the first one; none where the last pass ends before they are asked
+    (
+        "DocumentRoot /srv\n<Directory /srv>\nRequire all granted\nRewriteEngine On\nRewriteRule ^a$ d/a\n\
+</Directory>\n<Location /d>\nRequire local\nRequire method GET\n</Location>\n",
+        "/a",
+        16,
+        "8 9 ",
     ),
     (
-        "DocumentRoot /srv\n",
-        "localhost",
-        "/",
-        "directory /srv/  \n5 \nhost :0 \npass 0 /  \nmap /srv/ \nwalk /srv/  dir \nauth none \n\
-text /etc/httpd/conf/httpd.conf \nkind /srv \n",
+        "DocumentRoot /srv\nRedirect /d /e\n<Directory /srv>\nRequire all granted\nRewriteEngine On\n\
+RewriteRule ^a$ d/a\n</Directory>\n",
+        "/a",
+        11,
+        "",
+    ),
+    // a pass that is too many
+    (
+        "DocumentRoot /srv\nLimitInternalRecursion 1\n<Directory /srv>\nRequire all granted\nRewriteEngine On\n\
+RewriteRule ^ /x\n</Directory>\n",
+        "/a",
+        17,
+        "4 ",
     ),
 ];
 
-fn check_in(
-    rt: &impl Abort,
-    alloc: Global,
-    world: &World,
-    request: &Request,
-    wanted: &str,
-) -> Result<(), Fail> {
-    match config_of(alloc, world) {
-        Ok(config) => check_answer(rt, alloc, &config, world, request, wanted),
-        Err(_) => panic!(rt; "no configuration"),
-    }
-}
-
-/// What is answered to a request under a main file.
-pub fn check_under(
-    rt: &impl Abort,
-    alloc: Global,
-    main: &str,
-    host: &str,
-    target: &str,
-    wanted: &str,
-) -> Result<(), Fail> {
-    let request = request(alloc, host, target)?;
-    let world = world_of(alloc, main)?;
-    check_in(rt, alloc, &world, &request, wanted)
-}
-
 #[test]
-fn answers_are_told(rt: HostRuntime) -> Result<(), Fail> {
-    for &(main, host, target, wanted) in ROWS {
-        check_under(&rt, rt.alloc(), main, host, target, wanted)?;
-    }
-    Ok(())
-}
-
-// What a redirect leads to where the server has this name.
-fn check_name(rt: &impl Abort, alloc: Global, name: &str, wanted: &str) -> Result<(), Fail> {
-    let name = Text::copy_of(alloc, name.as_bytes())?;
-    let request = request(alloc, "", "/e")?;
-    let world = world_of(alloc, "DocumentRoot /srv\nRedirect /e /f\n")?;
-    match config_of(alloc, &world) {
-        Ok(mut config) => {
-            config.main.name = Some(name);
-            check_answer(rt, alloc, &config, &world, &request, wanted)
-        }
-        Err(_) => panic!(rt; "no configuration"),
-    }
-}
-
-// An empty ServerName counts as none: the server's address stands for it.
-#[test]
-fn an_empty_server_name_is_none(rt: HostRuntime) -> Result<(), Fail> {
-    static NAMES: &[(&str, &str)] = &[
-        (
-            "",
-            "302 http://192.0.2.1/f \n3 \nhost :0 \npass 0 /e  \n\
-redirect /etc/httpd/conf/httpd.conf:2 18 32 \ntext /etc/httpd/conf/httpd.conf \n",
-        ),
-        (
-            "s.example",
-            "302 http://s.example/f \n3 \nhost :0 \npass 0 /e  \n\
-redirect /etc/httpd/conf/httpd.conf:2 18 32 \ntext /etc/httpd/conf/httpd.conf \n",
-        ),
-    ];
-    for &(name, wanted) in NAMES {
-        check_name(&rt, rt.alloc(), name, wanted)?;
+fn answers_are_counted(rt: HostRuntime) -> Result<(), Fail> {
+    let alloc = rt.alloc();
+    for &(main, target, events, needs) in ROWS {
+        let world = world_of(alloc, main)?;
+        let answers = answers_in(&rt, alloc, &world, target)?;
+        check_answers(&rt, alloc, &answers, events, needs, main)?;
     }
     Ok(())
 }

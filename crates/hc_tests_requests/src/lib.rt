@@ -9,14 +9,8 @@ mod configs;
 #[cfg(test)]
 mod htaccess;
 #[cfg(test)]
-mod merging;
-#[cfg(test)]
 mod model;
 #[cfg(test)]
 mod overrides;
 #[cfg(test)]
-mod rules;
-#[cfg(test)]
 mod target;
-#[cfg(test)]
-mod told;

@@ -136,7 +136,7 @@ static FIELDS: &str = r##"main DocumentRoot /srv\nRedirect /o /n\n
   "status":302}}}
 "##;
 
-static WRONG_FIELDS: &str = r##"wrong trail "target":"/","trail":false
+static WRONG_FIELDS: &str = r##"wrong trails "target":"/","trails":false
 wrong a "z":0,"target":"","a":0
 wrong target "headers":[],"client":"","host":"_","port":"","server":"","scheme":"","method":"","target":""
 wrong target "method":""
@@ -146,7 +146,10 @@ wrong server "headers":[],"client":"","host":"_","port":"","server":"","target":
 wrong port "headers":[],"client":"","host":"_","port":"","target":"/"
 wrong host "headers":[],"client":"","host":"_","target":"/"
 wrong client "headers":[],"client":"","target":"/"
-wrong headers "headers":[],"target":"/"
+wrong headers "trail":0,"headers":[],"target":"/"
+wrong trail "trail":0,"target":"/"
+wrong trail "target":"/","trail":"true"
+wrong trail "target":"/","trail":null
 wrong method "target":"/","method":"get"
 wrong method "target":"/","method":"A1"
 wrong method "target":"/","method":7

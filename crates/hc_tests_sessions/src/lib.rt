@@ -11,6 +11,8 @@ mod conditions;
 #[cfg(test)]
 mod dialogue;
 #[cfg(test)]
+mod directory_rules;
+#[cfg(test)]
 mod folder_files;
 #[cfg(test)]
 mod hosts;
@@ -32,3 +34,5 @@ mod sections;
 mod serve;
 #[cfg(test)]
 mod session;
+#[cfg(test)]
+mod trails;

@@ -12,6 +12,8 @@ static READ: &[&str] = &[
     r"RewriteRule a http://x/\n<VirtualHost *:80>\nRewriteRule ^ -\n</VirtualHost>\n<Directory /srv>\n</Directory>\n",
     r"RewriteRule a HTTPS://x/ [END]\nRewriteRule a ${m:%{HTTP:x}\\}|$1\\|%2|} [L,R]\nRewriteRule a b\n",
     r"RewriteCond a =b\nRewriteCond a !=\nRewriteCond a !-f\nRewriteCond expression x\nRewriteRule a b%{none$%$x%y\n",
+    r"<Directory /a>\nRewriteBase /a\nRewriteOptions Inherit\nRewriteCond a b\nRewriteRule a b [R]\n</Directory>\n
+  <Directory /b>\nRewriteRule a b\n</Directory>\n",
 ];
 
 #[test]
@@ -157,7 +159,24 @@ static REFUSED: &[(&str, u8, u32, u32)] = &[
         2,
         0,
     ),
-    (r"<Directory /a>\nRewriteCond a b\n</Directory>\n", 1, 2, 0),
+    (
+        r"<Directory /a>\nRewriteRule a b [P]\n</Directory>\n",
+        18,
+        2,
+        0,
+    ),
+    (
+        r"<Directory /a>\nRewriteRule a b [R]\nRewriteRule a b\n</Directory>\n",
+        33,
+        2,
+        0,
+    ),
+    (
+        r"<Directory /a>\n<Files f>\nRewriteRule a b\n</Files>\n</Directory>\n",
+        34,
+        3,
+        0,
+    ),
     (
         r"<Directory /a>\nRewriteMap m int:tolower\n</Directory>\n",
         2,

@@ -4,9 +4,9 @@ use Rattle.hc_serve.proofs.answer.serve.Goals as goal
 
 pub returns-in-Ok-clause-served : goal.returns-in-Ok-clause-served
 returns-in-Ok-clause-served g c =
-    served_left _ _ _ _ _ _ _ _ (c.in_ok-log.ensures ∙ ap (log_of c.args.cap) c.as_slice.ensures) c.in-Ok.ensures.step refl refl
+    served_left _ _ _ _ _ _ _ _ (c.in_ok-log.ensures ∙ ap (log_of c.args.cap) c.as_slice.ensures) c.in-Ok.ensures.step refl refl refl
 
 pub returns-in-Err-Refused-clause-served : goal.returns-in-Err-Refused-clause-served
 returns-in-Err-Refused-clause-served g c =
     served_ended _ _ _ _ _ _ _ _ (c.in_ok-log.ensures ∙ ap (log_of c.args.cap) c.as_slice.ensures)
-    (rw c.in-Err-Refused.field-0-is at c.in-Err-Refused.ensures.step) refl refl
+    (rw c.in-Err-Refused.field-0-is at c.in-Err-Refused.ensures.step) refl refl refl

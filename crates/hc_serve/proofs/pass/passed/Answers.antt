@@ -1,42 +1,7 @@
-use Rattle.hc_serve.proofs.Common.{refl, passed, ran_then, ran_off}
+use Rattle.hc_serve.proofs.Common.{passed}
+use Rattle.hc_serve.proofs.Trees.{treed_on}
 use Rattle.hc_serve.proofs.pass.passed.Goals as goal
-use Rattle.hc_steps.specs.Step.{◌>>=◌}
 
-pub returns-in_err-placed-clause-step : goal.returns-in_err-placed-clause-step
-unfolding passed ◌>>=◌
-returns-in_err-placed-clause-step g c =
-    ran_then _ _ _ _ _ _ _ _ c.in_ok-pass.ensures
-    (ran_off _ _ _ _ _ _ _ _ c.from_residual-in_err-placed.ensures.1 c.in_err-placed.ensures refl)
-
-pub returns-in_err-named-clause-step : goal.returns-in_err-named-clause-step
-unfolding passed ◌>>=◌
-returns-in_err-named-clause-step g c =
-    ran_then _ _ _ _ _ _ _ _ c.in_ok-pass.ensures
-    (ran_then _ _ _ _ _ _ _ _ c.in_ok-placed.ensures
-    (ran_off _ _ _ _ _ _ _ _ c.from_residual-in_err-named.ensures.1 c.in_err-named.ensures refl))
-
-pub returns-in_err-named-2-clause-step : goal.returns-in_err-named-2-clause-step
-unfolding passed ◌>>=◌
-returns-in_err-named-2-clause-step g c =
-    ran_then _ _ _ _ _ _ _ _ c.in_ok-pass.ensures
-    (ran_then _ _ _ _ _ _ _ _ c.in_ok-placed.ensures
-    (ran_then _ _ _ _ _ _ _ _ c.in_ok-named.ensures
-    (ran_off _ _ _ _ _ _ _ _ c.from_residual-in_err-named-2.ensures.1 c.in_err-named-2.ensures refl)))
-
-pub returns-in_err-there-clause-step : goal.returns-in_err-there-clause-step
-unfolding passed ◌>>=◌
-returns-in_err-there-clause-step g c =
-    ran_then _ _ _ _ _ _ _ _ c.in_ok-pass.ensures
-    (ran_then _ _ _ _ _ _ _ _ c.in_ok-placed.ensures
-    (ran_then _ _ _ _ _ _ _ _ c.in_ok-named.ensures
-    (ran_then _ _ _ _ _ _ _ _ c.in_ok-named-2.ensures
-    (ran_off _ _ _ _ _ _ _ _ c.from_residual-in_err-there.ensures.1 c.in_err-there.ensures refl))))
-
-pub returns-clause-step : goal.returns-clause-step
-unfolding passed ◌>>=◌
-returns-clause-step g c =
-    ran_then _ _ _ _ _ _ _ _ c.in_ok-pass.ensures
-    (ran_then _ _ _ _ _ _ _ _ c.in_ok-placed.ensures
-    (ran_then _ _ _ _ _ _ _ _ c.in_ok-named.ensures
-    (ran_then _ _ _ _ _ _ _ _ c.in_ok-named-2.ensures
-    (ran_then _ _ _ _ _ _ _ _ c.in_ok-there.ensures c.passed_there.ensures.step))))
+pub returns-in-Ok-clause-step : goal.returns-in-Ok-clause-step
+unfolding passed
+returns-in-Ok-clause-step g c = treed_on _ _ _ _ _ _ _ _ _ c.in-Ok.ensures.step c.passed_from.ensures

@@ -7,7 +7,7 @@ use Rattle.hc_serve.proofs.way.passes.Given as goal
 
 abbrev pub invariant-loop-turn : goal.invariant-loop-turn
 invariant-loop-turn g l =
-    Leads l.fn.log (run (passes l.most (site_of l.asked) l.fn.pass) (shown_by l.asked.world.now.files))
-    l.log (left l.most l._turn (site_of l.asked) (shown_by l.asked.world.now.files) l.pass)
+    Leads l.fn.log (run (passes l.most (site_of l.asked) l.fn.first) (shown_by l.asked.world.now.files))
+    l.log (left l.most l._turn (site_of l.asked) (shown_by l.asked.world.now.files) l.left)
     × (g.O.Overrides.reading l.over ≡ g.O.Overrides.reading l.initial.over)
     × Kept (g.O.Overrides.loaded l.initial.over) (g.O.Overrides.loaded l.over)

@@ -1,8 +1,7 @@
-use Rattle.hc_serve.proofs.Common.{way, ran_then}
+use Rattle.hc_serve.proofs.Trees.{treed_on}
+use Rattle.hc_serve.specs.Request.{way}
 use Rattle.hc_serve.proofs.way.way.Goals as goal
 
-pub returns-clause-step : goal.returns-clause-step
+pub returns-in-Ok-clause-step : goal.returns-in-Ok-clause-step
 unfolding way
-returns-clause-step g c =
-    ran_then _ _ _ _ _ _ _ _ c.in_ok-host.ensures.step
-    (ran_then _ _ _ _ _ _ _ _ c.in_ok-pass.ensures (rw c.in_ok-caller.ensures at c.passes_at.ensures.step))
+returns-in-Ok-clause-step g c = treed_on _ _ _ _ _ _ _ _ _ c.in-Ok.ensures.step c.passes_of.ensures.step

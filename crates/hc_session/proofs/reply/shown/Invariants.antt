@@ -1,5 +1,5 @@
 use Rattle.std.proofs.Common.{◌≡◌, string_bytes, take}
-use Rattle.hc_session.specs.Reply.{shown}
+use Rattle.hc_session.specs.Shown.{shown}
 use Rattle.hc_session.proofs.reply.shown.Given as goal
 
 abbrev pub invariant-loop-byte : goal.invariant-loop-byte

@@ -1,0 +1,65 @@
+-- A round through a list of rules in a world, as a relation: what the first rule that is left does, and what follows it.
+-- Apache manual, "Apache mod_rewrite Technical Details", "Ruleset Processing"; "RewriteRule Flags": C, S, N, L, END, PT. The bound of
+-- rounds, and that N at its bound ends the request, are our own choice.
+use Rattle.std.specs.Prelude.{◌≡◌, ℕ, zero, suc, ◌<◌, ◌≤◌, List, [], ◌∷◌, true, false}
+use Rattle.hc_model.specs.declared.outcome.LimitKind.TheVariants.{Rounds}
+use Rattle.hc_model.specs.declared.outcome.Outcome.{Outcome}
+use Rattle.hc_model.specs.declared.outcome.Outcome.TheVariants.{Limit}
+use Rattle.hc_model.specs.declared.rewrite.Rule.{Rule}
+use Rattle.hc_rw_eval.specs.Attempts.{attempt, attempted}
+use Rattle.hc_rw_eval.specs.Lists.{from_place, is_followed, over, skipped_chain, stops_run, with_end}
+use Rattle.hc_rw_eval.specs.declared.attempt.Attempt.{Attempt}
+use Rattle.hc_rw_eval.specs.declared.attempt.Rewritten.{Rewritten}
+use Rattle.hc_rw_eval.specs.declared.run.Round.{Round}
+use Rattle.hc_rw_eval.specs.declared.run.Round.TheVariants.{Again}
+use Rattle.hc_rw_expand.specs.Contexts.{Context}
+use Rattle.hc_rw_expand.specs.Lookups.{Looks}
+use Rattle.hc_steps.specs.Run.{Run, behind, goes_on, is_over, run}
+use Rattle.hc_steps.specs.Step.{Shown, ends, leaves}
+
+module _ (context : Context) (looks : Looks) (shown : Shown) where
+  -- The attempt of a rule, with these behind it.
+  abbrev pub tried : Rule → List Rule → Rewritten → Run Outcome Attempt
+  tried rule rest left = run (attempt context looks rule (is_followed rest) left) shown
+
+  -- What is left of a list, so many rules of it skipped, comes to this from a state.
+  pub data Comes (round : ℕ) : List Rule → ℕ → Rewritten → Run Outcome Round → Type 0 where
+    no_rule : {skipped : ℕ} {left : Rewritten} → Comes round [] skipped left (run (leaves (over false left)) shown)
+    skipped_rule : {rule : Rule} {rest : List Rule} {skipped : ℕ} {left : Rewritten} {further : Run Outcome Round}
+        → Comes round rest skipped left further → Comes round (rule ∷ rest) (suc skipped) left further
+    answered : {rule : Rule} {rest : List Rule} {left : Rewritten} {end : Outcome} → (tried rule rest left).way ≡ is_over end
+        → Comes round (rule ∷ rest) zero left (behind (tried rule rest left) (run (ends end) shown))
+    -- C skips the rules of its chain.
+    unmatched : {rule : Rule} {rest : List Rule} {left next : Rewritten} {further : Run Outcome Round}
+        → (tried rule rest left).way ≡ goes_on (attempted false next) → Comes round rest (skipped_chain rule rest) next further
+        → Comes round (rule ∷ rest) zero left (behind (tried rule rest left) further)
+    -- L, END or PT.
+    stopped : {rule : Rule} {rest : List Rule} {left next : Rewritten}
+        → (tried rule rest left).way ≡ goes_on (attempted true next) → stops_run rule.flags ≡ true
+        → Comes round (rule ∷ rest) zero left
+        (behind (tried rule rest left) (run (leaves (over rule.flags.pass (with_end rule.flags.end next))) shown))
+    -- N before its bound begins the list again, and at its bound ends the request.
+    again : {rule : Rule} {rest : List Rule} {left next : Rewritten}
+        → (tried rule rest left).way ≡ goes_on (attempted true next) → stops_run rule.flags ≡ false
+        → rule.flags.next ≡ true → round < rule.flags.rounds
+        → Comes round (rule ∷ rest) zero left (behind (tried rule rest left) (run (leaves (Again next)) shown))
+    at_bound : {rule : Rule} {rest : List Rule} {left next : Rewritten}
+        → (tried rule rest left).way ≡ goes_on (attempted true next) → stops_run rule.flags ≡ false
+        → rule.flags.next ≡ true → rule.flags.rounds ≤ round
+        → Comes round (rule ∷ rest) zero left (behind (tried rule rest left) (run (ends (Limit Rounds)) shown))
+    -- S skips so many.
+    onward : {rule : Rule} {rest : List Rule} {left next : Rewritten} {further : Run Outcome Round}
+        → (tried rule rest left).way ≡ goes_on (attempted true next) → stops_run rule.flags ≡ false
+        → rule.flags.next ≡ false → Comes round rest rule.flags.skip next further
+        → Comes round (rule ∷ rest) zero left (behind (tried rule rest left) further)
+
+-- A round from a place is one that the rules come to.
+abbrev pub RunIsRelated : Type 0
+RunIsRelated = (context : Context) (looks : Looks) (shown : Shown) (round : ℕ) (rules : List Rule) (skipped : ℕ) (left : Rewritten)
+    → Comes context looks shown round rules skipped left (run (from_place context looks round skipped rules left) shown)
+
+-- Rules come to one run.
+abbrev pub OneRun : Type 0
+OneRun = (context : Context) (looks : Looks) (shown : Shown) (round : ℕ) (rules : List Rule) (skipped : ℕ) (left : Rewritten)
+    (one other : Run Outcome Round) → Comes context looks shown round rules skipped left one
+    → Comes context looks shown round rules skipped left other → one ≡ other

@@ -1,0 +1,14 @@
+//! What holds of all rounds through lists of rules, as the contracts of functions that do nothing.
+ghost use Rattle.hc_rw_eval.specs.Relation.{OneRun, RunIsRelated};
+
+/// A round through a list is one that its rules come to, each by what it does.
+#[tactic(auto, using(crate::proofs::Relating::related))]
+pub fn run_is_related()
+    ensures { RunIsRelated }
+{}
+
+/// Rules come to one run.
+#[tactic(auto, using(crate::proofs::Relating::one_run))]
+pub fn one_run()
+    ensures { OneRun }
+{}
