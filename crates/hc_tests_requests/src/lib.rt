@@ -7,8 +7,6 @@ mod answers;
 #[cfg(test)]
 mod configs;
 #[cfg(test)]
-mod htaccess;
-#[cfg(test)]
 mod model;
 #[cfg(test)]
 mod overrides;

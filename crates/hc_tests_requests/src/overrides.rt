@@ -1,14 +1,10 @@
-//! What AllowOverride allows, and where the `.htaccess` of a directory stands among its sections.
+//! What AllowOverride allows, and which `.htaccess` files are read.
 
-use crate::answers::request;
-use crate::configs::{MAIN_FILE, config_of, world_of};
-use crate::htaccess::{load_each, one_file};
+use crate::configs::{config_of, world_of};
 use hc_addr::Addr;
 use hc_base::{List, NoMemory, Text};
-use hc_merge::{Wanted, allowed, effective, wanted_by};
-use hc_model::{
-    Allowed, AtFault, Caller, Config, Effective, Event, HostId, Kind, Piece, Redirect, View, Walk,
-};
+use hc_merge::{Wanted, allowed, wanted_by};
+use hc_model::{Allowed, Config, Kind, Walk};
 use hc_vhost::choose;
 use std::alloc::Global;
 use std::process::Abort;
@@ -125,30 +121,6 @@ fn a_file_is_wanted_where_something_is_allowed(rt: HostRuntime) -> Result<(), Fa
     }
 }
 
-const ORDERED: &str =
-    "DocumentRoot /srv\n<Directory />\nAllowOverride All\n</Directory>\n<Directory /srv>\n\
-Redirect /b /main\n</Directory>\n<Directory /srv/d>\nAllowOverride None\n</Directory>\n\
-<Directory /srv/d/e>\nAllowOverride FileInfo\n</Directory>\n<Location />\n</Location>\n\
-<Directory /source>\nRedirect /a /own\n<Files f>\n</Files>\n<Files g>\n</Files>\n</Directory>\n";
-
-// Where the `.htaccess` stands, and the sections in force with the redirects, for `/srv/d/e/f`.
-static IN_FORCE: &[(&str, &str)] = &[
-    ("/x", "main:2 main:5 main:8 main:11 main:14 /main "),
-    (
-        "/",
-        "main:2 /.htaccess:0 main:5 main:8 main:11 main:18 main:14 /main /own ",
-    ),
-    (
-        "/srv",
-        "main:2 main:5 /srv/.htaccess:0 main:8 main:11 main:18 main:14 /own /main ",
-    ),
-    ("/srv/d", "main:2 main:5 main:8 main:11 main:14 /main "),
-    (
-        "/srv/d/e",
-        "main:2 main:5 main:8 main:11 /srv/d/e/.htaccess:0 main:18 main:14 /own /main ",
-    ),
-];
-
 fn texts_of(alloc: Global, words: &[&str]) -> Result<List<Text>, NoMemory> {
     let mut texts = List::new(alloc);
     for word in words {
@@ -164,89 +136,4 @@ fn walk_of(alloc: Global, dirs: &[&str], name: &str) -> Result<Walk, NoMemory> {
         kind: Kind::File,
         dirs: texts_of(alloc, dirs)?,
     })
-}
-
-fn view_of(alloc: Global, name: &str) -> Result<View, NoMemory> {
-    Ok(View {
-        path: Text::copy_of(alloc, b"/d/e/f")?,
-        query: Text::new(alloc),
-        name: Text::copy_of(alloc, name.as_bytes())?,
-        caller: Caller {
-            name: Text::copy_of(alloc, b"h")?,
-            request: request(alloc, "h", "/d/e/f")?,
-        },
-    })
-}
-
-// The name of a file, of which the main file's is short.
-fn short(file: &[u8]) -> &[u8] {
-    if file == MAIN_FILE.as_bytes() {
-        b"main".as_slice()
-    } else {
-        file
-    }
-}
-
-fn show_section(shown: &mut Vec<u8>, alloc: Global, event: &Event) -> Result<(), NoMemory> {
-    let Event::Section { spot } = event else {
-        return Ok(());
-    };
-    shown.extend_from_slice(short(spot.place.file.as_bytes()))?;
-    let line = spot.place.line;
-    shown.extend_from_slice(format!(in alloc; ":{line} ")?.as_bytes())?;
-    Ok(())
-}
-
-fn show_redirect(shown: &mut Vec<u8>, redirect: &Redirect) -> Result<(), NoMemory> {
-    for piece in redirect.to.as_slice() {
-        if let Piece::Bytes(bytes) = piece {
-            shown.extend_from_slice(bytes.as_bytes())?;
-        }
-    }
-    shown.push(b' ')?;
-    Ok(())
-}
-
-fn show(alloc: Global, force: &Effective) -> Result<Vec<u8>, NoMemory> {
-    let mut shown = Vec::new(alloc);
-    for event in force.sections.as_slice() {
-        show_section(&mut shown, alloc, event)?;
-    }
-    for redirect in force.redirects.as_slice() {
-        show_redirect(&mut shown, redirect)?;
-    }
-    Ok(shown)
-}
-
-// What is in force, where the last Directory section is the text of the `.htaccess` of a directory.
-fn shown_with(alloc: Global, config: &Config, dir: &str) -> Result<Vec<u8>, AtFault> {
-    let Some(source) = config.main.sections.as_slice().last() else {
-        return Ok(Vec::new(alloc));
-    };
-    let mut over = one_file(alloc, dir, &source.body)?;
-    let walk = walk_of(alloc, &["/", "/srv", "/srv/d", "/srv/d/e"], "/srv/d/e/f")?;
-    let view = view_of(alloc, "/srv/d/e/f")?;
-    let wanted = wanted_by(alloc, config, HostId::Main, &walk)?;
-    load_each(&mut over, &wanted)?;
-    let force = effective(alloc, config, HostId::Main, &walk, &view, &over)?;
-    Ok(show(alloc, &force)?)
-}
-
-fn check_in_force(rt: &impl Abort, alloc: Global, config: &Config) -> Result<(), NoMemory> {
-    for &(dir, wanted) in IN_FORCE {
-        match shown_with(alloc, config, dir) {
-            Ok(shown) => assert!(rt; shown.as_slice() == wanted.as_bytes()),
-            Err(_) => panic!(rt; "a file is refused"),
-        }
-    }
-    Ok(())
-}
-
-#[test]
-fn a_file_stands_behind_the_sections_of_its_directory(rt: HostRuntime) -> Result<(), Fail> {
-    let world = world_of(rt.alloc(), ORDERED)?;
-    match config_of(rt.alloc(), &world) {
-        Ok(config) => Ok(check_in_force(&rt, rt.alloc(), &config)?),
-        Err(_) => panic!(&rt; "no configuration"),
-    }
 }

@@ -59,6 +59,27 @@ file /srv/f
   ["section","/home/a/.htaccess",0,""],["auth","none"],
   ["redirect","/home/a/.htaccess",1,"Redirect 302 /p http://two.example/p"]]}
 "##,
+    // a `.htaccess` at each place of a walk, and a section inside one
+    r##"main DocumentRoot /srv\n<Directory />\nAllowOverride All\n</Directory>\n<Directory /srv>\n</Directory>\n
+  <Directory /srv/d>\nAllowOverride None\n</Directory>\n<Directory /srv/d/e>\nAllowOverride FileInfo\n</Directory>\n
+  <Location />\n</Location>\n
+/.htaccess Redirect /x /y\n
+/srv/.htaccess <Files f>\nRequire all granted\n</Files>\n<Files g>\n</Files>\n
+/srv/d/.htaccess No such line\n
+/srv/d/e/.htaccess Redirect /e /f\n
+file /srv/d/e/f
+{"do":"ask","target":"/d/e/f","trail":true}
+{"events":14,"outcome":{"file":{"info":"","path":"/srv/d/e/f"}},
+  "reads":[["text","/.htaccess"],["text","/etc/httpd/conf/httpd.conf"],["kind","/srv"],["text","/srv/.htaccess"],
+  ["kind","/srv/d"],["kind","/srv/d/e"],["text","/srv/d/e/.htaccess"],["kind","/srv/d/e/f"]],
+  "trail":[["host","",0],["pass",0,"/d/e/f",""],["map","",0,"/srv/d/e/f",""],["walk","/srv/d/e/f","","file"],
+  ["section","/etc/httpd/conf/httpd.conf",2,"<Directory />"],["section","/.htaccess",0,""],
+  ["section","/etc/httpd/conf/httpd.conf",5,"<Directory /srv>"],["section","/srv/.htaccess",0,""],
+  ["section","/etc/httpd/conf/httpd.conf",7,"<Directory /srv/d>"],
+  ["section","/etc/httpd/conf/httpd.conf",10,"<Directory /srv/d/e>"],["section","/srv/d/e/.htaccess",0,""],
+  ["section","/srv/.htaccess",1,"<Files f>"],["section","/etc/httpd/conf/httpd.conf",13,"<Location />"],
+  ["auth","granted"]]}
+"##,
     // the first one that is refused ends what is looked at
     r##"main DocumentRoot /srv\n<Directory />\nAllowOverride All\n</Directory>\n
 /.htaccess No such line\n
