@@ -5,6 +5,8 @@
 #[cfg(test)]
 mod base;
 #[cfg(test)]
+mod edits;
+#[cfg(test)]
 mod flat;
 #[cfg(test)]
 mod htaccess;

@@ -2,7 +2,7 @@
 use Rattle.hc_world.proofs.Common.{◌≡◌, ℕ, Bool, true, false, ◌&&◌, List, [], ◌∷◌, map, Vec, sym, ap, ◌∙◌, subst, T, Global, Less, from_sorted, entries-from_sorted, get-from_entries, get-from_sorted, keys, AllByRecursion, keys_of, is_lt, nat_cmp, slice_cmp, nat_list_cmp_total, Entry, entry_of, world_of}
 use Rattle.std.specs.FinMap.Entries.{below_all, is_sorted}
 use Rattle.std.specs.List.Sorted.{IsStrictlySortedBy}
-use Rattle.hc_world.proofs.Lookups.{same_world}
+use Rattle.hc_world.proofs.Lookups.{same_answers}
 
 abbrev pub Entries : Type 0
 Entries = List (Vec ℕ Global × Entry)
@@ -27,5 +27,5 @@ pub keys-world_of : (entries : Entries) → Ascend entries → keys (world_of en
 keys-world_of entries s =
     let rises = sorted entries s in
     let same : world_of entries ≡ from_sorted (map entry_of entries) =
-    same_world _ _ (λ q. get-from_entries nat_list_cmp_total (map entry_of entries) q ∙ sym (get-from_sorted (slice_cmp nat_cmp) (map entry_of entries) q rises)) in
+    same_answers _ _ (λ q. get-from_entries nat_list_cmp_total (map entry_of entries) q ∙ sym (get-from_sorted (slice_cmp nat_cmp) (map entry_of entries) q rises)) in
     ap keys same ∙ ap (map (λ e. e.0)) (entries-from_sorted (slice_cmp nat_cmp) (map entry_of entries) rises)

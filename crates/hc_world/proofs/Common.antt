@@ -4,7 +4,7 @@ pub use Rattle.std.proofs.lemmas.Bool.{false≢true, true≢false, and_parts, eq
 pub use Rattle.std.proofs.lemmas.Cmp.{nat_list_cmp_total, eq_by_cmp_equiv, alike_right, nat_cmp_total, ranked, tied_itself}
 pub use Rattle.std.proofs.lemmas.List.{drop-append-le, drop_more, length-take-le, take-append-drop, take_more, take_all, drop_all}
 pub use Rattle.std.specs.Cmp.Lexicographic.{slice_cmp, slice_partial_cmp, bytes_decides, lists_agrees}
-pub use Rattle.std.specs.FinMap.{from_sorted, entries-from_sorted, get-from_entries, get-from_sorted, keys, get, insert, remove, get-remove, get-empty, empty}
+pub use Rattle.std.specs.FinMap.{from_sorted, entries-from_sorted, get-from_entries, get-from_sorted, keys, get, insert, remove, get-empty, empty}
 pub use Rattle.std.specs.List.{AllByRecursion, starts_with, list_all, list_any, onto_first, slice_split, cons_option, filter, filter_map}
 pub use Rattle.std.specs.Map.{keys_of, lookup}
 pub use Rattle.std.specs.Option.{option_map, option_copied}

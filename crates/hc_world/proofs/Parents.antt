@@ -1,6 +1,7 @@
 -- The paths above a path.
-use Rattle.hc_world.proofs.Common.{◌≡◌, ℕ, ◌+◌, ◌<◌, ◌≤◌, ◌==◌, nat_le, leb→le, le-leb, subst, T, ◌&&◌, ◌||◌, Bool, true, false, cond, List, [], ◌∷◌, ◌++◌, length, take, drop, refl, sym, ap, ◌∙◌, arith, append_assoc, append-nil, length-append, ⊎_elim, list_all, list_any, onto_first, slice_split, and_parts, eqb-true, or_cases, or_left, or_right, lt-leb, false≢true, begins_with_slash, is_slash, root, fronts, is_component, is_path, parents}
+use Rattle.hc_world.proofs.Common.{◌≡◌, ℕ, ◌+◌, ◌<◌, ◌≤◌, ◌==◌, nat_le, leb→le, le-leb, subst, T, ◌&&◌, ◌||◌, Bool, true, false, cond, List, [], ◌∷◌, ◌++◌, length, take, drop, refl, sym, ap, ◌∙◌, arith, append_assoc, append-nil, length-append, ⊎_elim, list_all, list_any, onto_first, slice_split, and_parts, eqb-true, or_cases, or_left, or_right, lt-leb, false≢true, Contains, nat_list_cmp_total, eq_by_cmp_equiv, begins_with_slash, is_slash, root, fronts, is_component, is_path, parents}
 use Rattle.std.proofs.lemmas.List.Folds.{list_all-append}
+use Rattle.std.proofs.lemmas.Map.Views.{list_any-from_Contains}
 use Rattle.std.proofs.lemmas.List.Splits.{length-slice_split, slice_split-cons_no, slice_split-cons_yes}
 use Rattle.hc_world.proofs.Lookups.{same_path, same_path-true}
 
@@ -8,14 +9,17 @@ use Rattle.hc_world.proofs.Lookups.{same_path, same_path-true}
 abbrev pub is_among : List (List ℕ) → List ℕ → Bool
 is_among paths q = list_any (same_path q) paths
 
+pub is_among-from_Contains : (paths : List (List ℕ)) (q : List ℕ) → Contains paths q → is_among paths q ≡ true
+is_among-from_Contains paths q h = list_any-from_Contains (eq_by_cmp_equiv nat_list_cmp_total) q paths h
+
 -- A front is what stands before a slash.
-abbrev IsCut : List ℕ → List ℕ → List ℕ → Type 0
+abbrev pub IsCut : List ℕ → List ℕ → List ℕ → Type 0
 IsCut seen rest q = (mid : List ℕ) × (more : List ℕ) × (q ≡ seen ++ mid) × (rest ≡ mid ++ 47 ∷ more)
 
 cut_later : (seen : List ℕ) (b : ℕ) (bs q : List ℕ) → IsCut (seen ++ b ∷ []) bs q → IsCut seen (b ∷ bs) q
 cut_later seen b bs q c = (b ∷ c.0, c.1, c.2 ∙ append_assoc seen (b ∷ []) c.0, ap (λ s. b ∷ s) c.3)
 
-fronts_cut : (seen rest q : List ℕ) → is_among (fronts seen rest) q ≡ true → IsCut seen rest q
+pub fronts_cut : (seen rest q : List ℕ) → is_among (fronts seen rest) q ≡ true → IsCut seen rest q
 fronts_cut seen [] q h = absurd (false≢true h)
 fronts_cut seen (b ∷ bs) q h =
     elim (is_slash b) as (λ s. is_slash b ≡ s → is_among (cond s (seen ∷ fronts (seen ++ b ∷ []) bs) (fronts (seen ++ b ∷ []) bs)) q ≡ true → IsCut seen (b ∷ bs) q) [
@@ -80,7 +84,7 @@ onto_append : (b : ℕ) (parts more : List (List ℕ)) → 0 < length parts → 
 onto_append b [] more some = absurd (omega (arith, some))
 onto_append b (part ∷ parts) more some = refl
 
-split_at_slash : (mid more : List ℕ) → slice_split is_slash (mid ++ 47 ∷ more) ≡ slice_split is_slash mid ++ slice_split is_slash more
+pub split_at_slash : (mid more : List ℕ) → slice_split is_slash (mid ++ 47 ∷ more) ≡ slice_split is_slash mid ++ slice_split is_slash more
 split_at_slash [] more = refl
 split_at_slash (b ∷ bs) more =
     elim (is_slash b) as (λ s. is_slash b ≡ s → slice_split is_slash (b ∷ bs ++ 47 ∷ more) ≡ slice_split is_slash (b ∷ bs) ++ slice_split is_slash more) [
@@ -94,6 +98,13 @@ components_of_front : (mid more : List ℕ) → list_all is_component (slice_spl
 components_of_front mid more h =
     (and_parts _ _ (sym (list_all-append is_component (slice_split is_slash mid) (slice_split is_slash more)) ∙ ap (list_all is_component) (sym (split_at_slash mid more)) ∙ h)).0
 
+pub components : (x y : ℕ) (rest : List ℕ) → is_path (x ∷ y ∷ rest) ≡ true → (x ≡ 47) × (list_all is_component (slice_split is_slash (y ∷ rest)) ≡ true)
+components x y rest is =
+    let ends = and_parts (begins_with_slash (x ∷ y ∷ rest) && nat_le (length (x ∷ y ∷ rest)) 4096) _ is in (
+      eqb-true x 47 (and_parts (begins_with_slash (x ∷ y ∷ rest)) _ ends.0).0,
+      ⊎_elim (λ one. absurd (omega (arith, eqb-true (length (x ∷ y ∷ rest)) 1 one))) (λ all. all) (or_cases (length (x ∷ y ∷ rest) == 1) _ ends.1),
+    )
+
 pub parent_is_path : (path q : List ℕ) → is_path path ≡ true → is_among (parents path) q ≡ true → is_path q ≡ true
 parent_is_path [] q is h = absurd (false≢true h)
 parent_is_path (x ∷ []) q is h = absurd (false≢true h)
@@ -106,8 +117,7 @@ parent_is_path (x ∷ y ∷ rest) q is h =
     (λ e.
     let c = fronts_cut (x ∷ []) (y ∷ rest) q e in
     let short : length q ≤ 4096 = omega (arith, parent_shorter (x ∷ y ∷ rest) q h, leb→le (length (x ∷ y ∷ rest)) 4096 (subst T (sym front.1) tt)) in
-    let all : list_all is_component (slice_split is_slash (y ∷ rest)) ≡ true =
-    ⊎_elim (λ one. absurd (omega (arith, eqb-true (length (x ∷ y ∷ rest)) 1 one))) (λ all. all) (or_cases (length (x ∷ y ∷ rest) == 1) _ ends.1) in
+    let all = (components x y rest is).1 in
     let inner : list_all is_component (slice_split is_slash c.0) ≡ true = components_of_front c.0 c.1 (sym (ap (λ t. list_all is_component (slice_split is_slash t)) c.3) ∙ all) in
     let fits : nat_le (length (x ∷ c.0)) 4096 ≡ true = le-leb (length (x ∷ c.0)) 4096 (omega (arith, ap length c.2)) in
     ap is_path c.2 ∙ ap (λ b. (b && nat_le (length (x ∷ c.0)) 4096) && ((length (x ∷ c.0) == 1) || list_all is_component (slice_split is_slash c.0))) front.0

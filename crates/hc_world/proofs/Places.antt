@@ -69,7 +69,7 @@ GoesOn-behind front path place is =
     subst (λ p. GoesOn front path (Some p)) (sym is)
     (before_longer path 0, λ key h k. absurd (none_between path key h k))
 
-any_slash : (front rest : List ℕ) → list_any is_slash (front ++ 47 ∷ rest) ≡ true
+pub any_slash : (front rest : List ℕ) → list_any is_slash (front ++ 47 ∷ rest) ≡ true
 any_slash [] rest = refl
 any_slash (x ∷ xs) rest = ap (λ b. is_slash x || b) (any_slash xs rest) ∙ or-true (is_slash x)
 

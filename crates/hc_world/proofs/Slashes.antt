@@ -39,7 +39,7 @@ passed_some : {A : Type 0} (f : List ℕ → List ℕ → A) → PassesOver f �
 passed_some f over path from slash is =
     passed_to f over path from slash is.from_on (omega arith) is.first ∙ ap (f (take slash path)) (drop_more path slash 0 is.within ∙ ap (λ b. b ∷ drop (slash + 1) path) is.is_slash)
 
-take_slash : (path : List ℕ) (from slash : ℕ) → IsNextSlash path from slash → take slash path ++ 47 ∷ [] ≡ take (slash + 1) path
+pub take_slash : (path : List ℕ) (from slash : ℕ) → IsNextSlash path from slash → take slash path ++ 47 ∷ [] ≡ take (slash + 1) path
 take_slash path from slash is = sym (take_more path slash 0 is.within ∙ ap (λ b. take slash path ++ b ∷ []) is.is_slash)
 
 -- ---- fronts

@@ -1,18 +1,18 @@
 -- EditsFiles of a world.
-use Rattle.hc_world.proofs.Common.{◌≡◌, ℕ, ◌+◌, ◌<◌, Bool, true, false, not, ◌&&◌, ◌||◌, cond, eqb, List, [], ◌∷◌, length, take, Option, Some, None, Result, Ok, Err, IsSome, Contains, refl, sym, ap, ◌∙◌, subst, arith, rules, ⊎_elim, list_any, nat_cmp, slice_cmp, get, insert, remove, get-remove, get-empty, empty, cases_Bool, false≢true, true≢false, and_parts, eqb-true, cond-true, cond-false, cond_both, false_from_ne_true, nat_list_cmp_total, eq_by_cmp_equiv, Node, dir, file, text, is_dir, is_file, kind_of, Absent, Dir, File, World, IsWorld, root, parents, with_dirs, with_node, new_world, is_path, is_under_file, list_dir, put_file, EditsFiles, IsEdit, add_in, IsNextSlash, fronts_from}
+use Rattle.hc_world.proofs.Common.{◌≡◌, ℕ, ◌+◌, ◌<◌, Bool, true, false, not, ◌&&◌, ◌||◌, cond, eqb, List, [], ◌∷◌, length, take, Option, Some, None, Result, Ok, Err, IsSome, Contains, refl, sym, ap, ◌∙◌, subst, arith, rules, ⊎_elim, list_any, nat_cmp, slice_cmp, get, insert, remove, get-empty, empty, cases_Bool, false≢true, and_parts, eqb-true, cond-true, cond-false, cond_both, false_from_ne_true, Node, dir, file, text, is_dir, is_file, kind_of, text_of, Absent, Dir, File, World, IsWorld, root, parents, with_dirs, with_node, new_world, is_path, is_under_file, list_dir, put_file, EditsFiles, IsEdit, add_in, IsNextSlash, fronts_from}
 use Rattle.std.specs.Bool.{⊤}
-use Rattle.std.proofs.Math.Bool.{or-false}
+use Rattle.std.proofs.Math.Bool.{or-false, or-true}
 use Rattle.std.specs.Result.{is_err}
 use Rattle.std.proofs.lemmas.Map.Lookups.{exact_bytes}
 use Rattle.std.proofs.lemmas.List.Elements.{All-contains_itself, All-weaker}
 use Rattle.std.proofs.lemmas.List.Folds.{list_any_none}
-use Rattle.std.proofs.lemmas.Map.Views.{Contains-from_any, list_any-from_Contains, tells_apart}
+use Rattle.std.proofs.lemmas.Map.Views.{Contains-from_any, tells_apart}
 use Rattle.hc_base.specs.declared.codes.TheConstants.{IS_DIRECTORY, PATH_FORM, UNDER_FILE}
 use Rattle.hc_base.specs.declared.fault.Fault.{Fault}
 use Rattle.hc_base.specs.declared.fault.Fault.TheVariants.{NoMemory, Refused}
-use Rattle.hc_world.proofs.Lookups.{same_path, same_path-true, same_world, get_inserted}
+use Rattle.hc_world.proofs.Lookups.{same_path, same_path-true, same_answers, get_inserted, get_removed}
 use Rattle.hc_world.proofs.Slashes.{fronts_from-some}
-use Rattle.hc_world.proofs.Parents.{is_among, parent_is_path, parents-long, parent_shorter, parents_of_parent}
+use Rattle.hc_world.proofs.Parents.{is_among, is_among-from_Contains, parent_is_path, parents-long, parent_shorter, parents_of_parent}
 
 -- ---- what stands at a path
 
@@ -38,7 +38,7 @@ file_from_kind (Some (text bytes)) h = refl
 
 -- What is there already, put again, changes nothing.
 insert_same : (w : World) (path : List ℕ) (node : Node) → get w path ≡ Some node → insert w path node ≡ w
-insert_same w path node h = same_world _ _ (λ q.
+insert_same w path node h = same_answers _ _ (λ q.
     get_inserted w path node q ∙ elim (same_path q path) as (λ b. same_path q path ≡ b → cond b (Some node) (get w q) ≡ get w q) [
       | true ↦ λ e. sym h ∙ ap (get w) (sym (same_path-true q path e))
       | false ↦ λ e. refl
@@ -46,8 +46,8 @@ insert_same w path node h = same_world _ _ (λ q.
 
 -- What was absent, put and removed, changes nothing.
 pub remove_inserted : (w : World) (path : List ℕ) (node : Node) → get w path ≡ None → remove (insert w path node) path ≡ w
-remove_inserted w path node h = same_world _ _ (λ q.
-    get-remove nat_list_cmp_total (insert w path node) path q ∙ ap (cond (same_path q path) None) (get_inserted w path node q)
+remove_inserted w path node h = same_answers _ _ (λ q.
+    get_removed (insert w path node) path q ∙ ap (cond (same_path q path) None) (get_inserted w path node q)
     ∙ elim (same_path q path) as (λ b. same_path q path ≡ b → cond b None (cond b (Some node) (get w q)) ≡ get w q) [
       | true ↦ λ e. sym h ∙ ap (get w) (sym (same_path-true q path e))
       | false ↦ λ e. refl
@@ -99,22 +99,24 @@ Edits_undone (Ok _) old changed left new edit h undo e = absurd (false≢true h)
 Edits_undone (Err (Refused code)) old changed left new edit h undo e = (e.0, undo e.1)
 Edits_undone (Err NoMemory) old changed left new edit h undo e = undo e
 
--- An edit that is made does not speak of the world before it.
-pub Edits_made : (result : Result ⊤ (Fault ℕ)) (old changed new : World) (edit : Result World ℕ) → is_err result ≡ false → EditsFiles result changed new edit → EditsFiles result old new edit
-Edits_made (Ok _) old changed new edit h e = e
-Edits_made (Err fault) old changed new edit h e = absurd (true≢false h)
-
 -- ---- an edit as a whole
-
-is_among-from_Contains : (paths : List (List ℕ)) (q : List ℕ) → Contains paths q → is_among paths q ≡ true
-is_among-from_Contains paths q h = list_any-from_Contains (eq_by_cmp_equiv nat_list_cmp_total) q paths h
 
 no_file_above : (w : World) (paths : List (List ℕ)) → ((above : List ℕ) → Contains paths above → get w above ≡ Some dir) → list_any (λ a. is_file (get w a)) paths ≡ false
 no_file_above w paths h = list_any_none (λ a. is_file (get w a)) paths (All-weaker (Contains paths) (λ a. is_file (get w a) ≡ false) (λ a c. ap is_file (h a c)) paths (All-contains_itself paths))
 
-is_some_dir : (o : Option Node) → is_dir o ≡ true → IsSome o
+pub is_some_dir : (o : Option Node) → is_dir o ≡ true → IsSome o
 is_some_dir None h = absurd (false≢true h)
 is_some_dir (Some node) h = search rules
+
+pub is_some_file : (o : Option Node) → is_file o ≡ true → IsSome o
+is_some_file None h = absurd (false≢true h)
+is_some_file (Some node) h = search rules
+
+pub file_no_dir : (o : Option Node) → is_file o ≡ true → is_dir o ≡ false
+file_no_dir None h = refl
+file_no_dir (Some dir) h = absurd (false≢true h)
+file_no_dir (Some file) h = refl
+file_no_dir (Some (text bytes)) h = refl
 
 put_formed : (w : World) (path : List ℕ) (node : Node) → is_path path ≡ true → put_file w path node ≡ cond (is_under_file w path) (Err UNDER_FILE) (cond (is_dir (get w path)) (Err IS_DIRECTORY) (Ok (insert (with_dirs w (parents path)) path node)))
 put_formed w path node h = ap (λ b. cond (not b) (Err PATH_FORM) (cond (is_under_file w path) (Err UNDER_FILE) (cond (is_dir (get w path)) (Err IS_DIRECTORY) (Ok (insert (with_dirs w (parents path)) path node))))) h
@@ -210,6 +212,36 @@ IsEdit-from_Edits (Ok _) w new path node is formed h e =
 IsEdit-from_Edits (Err (Refused code)) w new path node is formed h e = IsEdit_same path w new is e.1
 IsEdit-from_Edits (Err NoMemory) w new path node is formed h e = IsEdit_same path w new is e
 
+-- The directories above what is there stand already.
+with_dirs_same : (w : World) (path : List ℕ) → IsWorld w → IsSome (get w path) → with_dirs w (parents path) ≡ w
+with_dirs_same w path is there = same_answers _ _ (λ q.
+    get-with_dirs w (parents path) q ∙ elim (is_among (parents path) q) as (λ a. is_among (parents path) q ≡ a → cond a (Some dir) (get w q) ≡ get w q) [
+      | true ↦ λ a. sym (is.parents_are_dirs path q there (Contains-from_any (tells_apart exact_bytes) q (parents path) a))
+      | false ↦ λ _. refl
+    ] refl)
+
+with_node_same : (w : World) (path : List ℕ) → IsWorld w → get w path ≡ Some dir → with_node w path dir ≡ w
+with_node_same w path is h = ap (λ v. insert v path dir) (with_dirs_same w path is (is_some_dir _ (ap is_dir h))) ∙ insert_same w path dir h
+
+-- A file is put in a file's place.
+pub put-is_file : (w : World) (path : List ℕ) (node : Node) → IsWorld w → is_path path ≡ true → is_file (get w path) ≡ true → put_file w path node ≡ Ok (insert w path node)
+put-is_file w path node is formed h =
+    let there = is_some_file _ h in
+    put-parents w path node formed (file_no_dir _ h)
+    ∙ ap (λ b. cond b (Err UNDER_FILE) (Ok (insert (with_dirs w (parents path)) path node))) (no_file_above w (parents path) (λ a c. is.parents_are_dirs path a there c))
+    ∙ ap (λ v. Ok (insert v path node)) (with_dirs_same w path is there)
+
+-- A file is written over.
+pub IsEdit-written : (result : Result ⊤ (Fault ℕ)) (w new : World) (path : List ℕ) (node : Node) → IsWorld w → is_path path ≡ true → is_file (get w path) ≡ true → EditsFiles result w new (Ok (insert w path node)) → IsEdit path w new
+IsEdit-written result w new path node is formed h e =
+    IsEdit-from_Edits result w new path node is formed (file_no_dir _ h) (subst (EditsFiles result w new) (sym (put-is_file w path node is formed h)) e)
+
+pub file_from_text : (o : Option Node) (bytes : List ℕ) → Some bytes ≡ text_of o → is_file o ≡ true
+file_from_text None bytes h = cc
+file_from_text (Some dir) bytes h = cc
+file_from_text (Some file) bytes h = cc
+file_from_text (Some (text other)) bytes h = refl
+
 pub EditsFiles-from_add : (result : Result ⊤ (Fault ℕ)) (w new : World) (path : List ℕ) (node : Node) → IsWorld w → is_path path ≡ true → is_dir (get w path) ≡ false → EditsFiles result w new (add_in w (fronts_from path 1) path node) → EditsFiles result w new (put_file w path node)
 EditsFiles-from_add result w new path node is formed h e = subst (EditsFiles result w new) (sym (put-add_in w path node is formed h)) e
 
@@ -218,22 +250,15 @@ EditsFiles-from_add result w new path node is formed h e = subst (EditsFiles res
 list_dir_formed : (w : World) (path : List ℕ) → is_path path ≡ true → list_dir w path ≡ cond (is_under_file w path || is_file (get w path)) (Err UNDER_FILE) (Ok (with_node w path dir))
 list_dir_formed w path h = ap (λ b. cond (not b) (Err PATH_FORM) (cond (is_under_file w path || is_file (get w path)) (Err UNDER_FILE) (Ok (with_node w path dir)))) h
 
+pub list_dir-file : (w : World) (path : List ℕ) → is_path path ≡ true → is_file (get w path) ≡ true → list_dir w path ≡ Err UNDER_FILE
+list_dir-file w path formed h =
+    list_dir_formed w path formed ∙ ap (λ b. cond b (Err UNDER_FILE) (Ok (with_node w path dir))) (ap (λ b. is_under_file w path || b) h ∙ or-true (is_under_file w path))
+
 -- Where nothing is, it is an entry like any other.
 pub list_dir-absent : (w : World) (path : List ℕ) → is_path path ≡ true → get w path ≡ None → list_dir w path ≡ put_file w path dir
 list_dir-absent w path formed h =
     list_dir_formed w path formed ∙ ap (λ b. cond b (Err UNDER_FILE) (Ok (with_node w path dir))) (ap (λ b. is_under_file w path || b) (ap is_file h) ∙ or-false (is_under_file w path))
     ∙ sym (ap (λ b. cond (is_under_file w path) (Err UNDER_FILE) (cond b (Err IS_DIRECTORY) (Ok (with_node w path dir)))) (ap is_dir h)) ∙ sym (put_formed w path dir formed)
-
-with_node_same : (w : World) (path : List ℕ) → IsWorld w → get w path ≡ Some dir → with_node w path dir ≡ w
-with_node_same w path is h = same_world _ _ (λ q.
-    get-made w path dir q
-    ∙ elim (same_path q path) as (λ b. same_path q path ≡ b → cond b (Some dir) (cond (is_among (parents path) q) (Some dir) (get w q)) ≡ get w q) [
-      | true ↦ λ e. sym h ∙ ap (get w) (sym (same_path-true q path e))
-      | false ↦ λ e. elim (is_among (parents path) q) as (λ a. is_among (parents path) q ≡ a → cond a (Some dir) (get w q) ≡ get w q) [
-        | true ↦ λ a. sym (is.parents_are_dirs path q (is_some_dir _ (ap is_dir h)) (Contains-from_any (tells_apart exact_bytes) q (parents path) a))
-        | false ↦ λ _. refl
-      ] refl
-    ] refl)
 
 pub list_dir-dir : (w : World) (path : List ℕ) → IsWorld w → is_path path ≡ true → get w path ≡ Some dir → list_dir w path ≡ Ok w
 list_dir-dir w path is formed h =

@@ -1,5 +1,10 @@
+pub mod Changes
+pub mod Drops
 pub mod Edits
 pub mod Entries
+pub mod Lines
+pub mod Marks
 pub mod Places
+pub mod Rows
 pub mod Slashes
 pub mod Walks

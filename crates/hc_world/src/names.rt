@@ -61,8 +61,11 @@ fn front_of(alloc: Global, directory: &[u8]) -> Result<Vec<u8>, NoMemory>
     }
 }
 
-// The first path that is at this place or behind it.
-fn first_from<'e>(entries: &'e BTreeMap<Vec<u8>, Entry>, place: &Vec<u8>) -> Option<&'e [u8]>
+/// The first path that is at this place or behind it.
+pub(crate) fn first_from<'e>(
+    entries: &'e BTreeMap<Vec<u8>, Entry>,
+    place: &Vec<u8>,
+) -> Option<&'e [u8]>
     ensures none { IfNone result (keys_from place.now.items (world_of entries.now.entries) ≡ []) }
     ensures some { IfSome result (λ path. IsFirstFrom place.now.items path.now (world_of entries.now.entries)) }
 {
@@ -104,7 +107,7 @@ fn place_behind(alloc: Global, front: &[u8], path: &[u8]) -> Result<Option<Vec<u
     }
 }
 
-fn with_byte(alloc: Global, bytes: &[u8], byte: u8) -> Result<Vec<u8>, NoMemory>
+pub(crate) fn with_byte(alloc: Global, bytes: &[u8], byte: u8) -> Result<Vec<u8>, NoMemory>
     ensures { IfOk result (λ all. all.items ≡ bytes.now ++ byte ∷ []) }
 {
     let mut all = bytes.to_vec(alloc)?;

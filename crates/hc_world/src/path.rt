@@ -14,7 +14,7 @@ const LONGEST_PATH: usize = 4096;
 const LONGEST_COMPONENT: usize = 255;
 
 /// Whether these bytes may name a file: the root, or a slash before each component.
-pub(crate) fn is_path(path: &[u8]) -> bool
+pub fn is_path(path: &[u8]) -> bool
     ensures { result ≡ is_path path.now }
 {
     if path.first() != Some(&b'/') || path.len() > LONGEST_PATH {

@@ -1,16 +1,22 @@
-ghost use Rattle.std.specs.Prelude.{◌≡◌, ◌<◌, ◌-◌, ◌^◌, IfOk};
-ghost use Rattle.std.specs.FinMap.{get};
+ghost use Rattle.std.specs.Prelude.{◌≡◌, ◌<◌, ◌≤◌, ◌-◌, ◌^◌, IfOk};
+ghost use Rattle.std.specs.FinMap.{empty, get};
 ghost use Rattle.std.specs.Option.{option_map};
 ghost use Rattle.hc_model.specs.Node.{kind_of, text_of};
 ghost use Rattle.hc_model.specs.World.{IsWorld, names_in, new_world, put as put_in};
 ghost use Rattle.hc_model.specs.Walking.{walk as walk_in};
-ghost use Rattle.hc_world.specs.Edits.{Edits, IsEdit, listed};
+ghost use Rattle.hc_world.specs.Edits.{Edits, EditsFiles, IsEdit, changed_at, dropped, lines_edited, listed};
+ghost use Rattle.hc_world.specs.Entries.{world_of};
+ghost use Rattle.hc_world.specs.Marks.{FilesMarked};
+ghost use Rattle.hc_world.specs.Rows.{rows_of};
 
-use crate::entries::{Entry, kind_at, make_dir, put_file};
+use crate::changes::last_change;
+use crate::drop::drop_path;
+use crate::entries::{Entry, Files, kind_at, make_dir, put_file, text_at};
+use crate::lines::edit_lines;
 use crate::names::names;
 use crate::walk::follow;
 use hc_base::{Fault, List, NoMemory, Text};
-use hc_model::{Kind, Texts, Walk};
+use hc_model::{Kind, Read, Texts, Walk};
 use hc_steps::Log;
 use std::alloc::Global;
 use std::collections::BTreeMap;
@@ -23,8 +29,7 @@ pub type WorldFault = Fault<u8>;
 /// path is a directory.
 #[derive(Drop)]
 pub struct World {
-    alloc: Global,
-    entries: BTreeMap<Vec<u8>, Entry>,
+    files: Files,
     edits: u64,
 }
 
@@ -44,48 +49,53 @@ impl Model for World {
     ghost coded = { edited_code };
 
     ghost use Rattle.hc_world.specs.Entries.{world_of};
+    ghost use Rattle.hc_world.specs.Rows.{IsNoLater, rows_of, seen_rows};
 
-    ghost view = { λ w. record { files = world_of w.entries.entries; edits = w.edits } };
+    ghost view = { λ w. record {
+      files = world_of w.files.entries.entries;
+      edits = w.edits;
+      changes = seen_rows (rows_of w.files.changes.entries);
+    } };
 
-    ghost invariant = { λ w. model.IsWorld (world_of w.entries.entries) };
+    ghost invariant = { λ w.
+        model.IsWorld (world_of w.files.entries.entries)
+        × IsNoLater w.edits (rows_of w.files.changes.entries) };
 }
 
 impl World {
     /// The world that has the root alone.
     pub fn new(alloc: Global) -> Result<World, NoMemory>
-        ensures new { IfOk result (λ world. world ≡ record { files = new_world; edits = 0 }) }
+        ensures new { IfOk result (λ world. world ≡ record { files = new_world; edits = 0; changes = empty }) }
         ensures valid { IfOk result (λ world. IsWorld world.files) }
     {
         let mut entries = BTreeMap::new(alloc);
         entries.insert(b"/".to_vec(alloc)?, Entry::Dir)?;
-        Ok(World {
+        let files = Files {
             alloc,
             entries,
-            edits: 0,
-        })
+            changes: BTreeMap::new(alloc),
+        };
+        Ok(World { files, edits: 0 })
     }
 
     /// What stands at a path.
     pub fn kind(&self, path: &[u8]) -> Kind
         ensures { result ≡ kind_of (get self.now.files path.now) }
     {
-        kind_at(&self.entries, path)
+        kind_at(&self.files.entries, path)
     }
 
     /// The text of the file at a path.
     pub fn text(&self, path: &[u8]) -> Option<&str>
         ensures { option_map (λ text. text.now) result ≡ text_of (get self.now.files path.now) }
     {
-        match self.entries.get(path)? {
-            Entry::Dir => None,
-            Entry::File => None,
-            Entry::Text(text) => Some(text.as_str()),
-        }
+        text_at(&self.files.entries, path)
     }
 
     /// How many edits were accepted.
     pub fn edits(&self) -> u64
-        ensures { result ≡ self.now.edits }
+        ensures count { result ≡ self.now.edits }
+        ensures last { (read : Read) → changed_at self.now read ≤ result }
     {
         self.edits
     }
@@ -94,7 +104,7 @@ impl World {
     pub fn names(&self, directory: &[u8]) -> Result<List<Text>, NoMemory>
         ensures { IfOk result (λ names. names ≡ names_in self.now.files directory.now) }
     {
-        names(self.alloc, &self.entries, directory)
+        names(self.files.alloc, &self.files.entries, directory)
     }
 
     /// Makes or replaces the file at a path, with this text, and makes its missing parents.
@@ -105,10 +115,11 @@ impl World {
         ensures edit { Edits result self.old self.new (put_in self.old.files path.now text.now) }
         ensures kept { IsEdit path.now self.old.files self.new.files }
     {
-        let text = String::from_str(self.alloc, text)?;
-        match put_file(self.alloc, &mut self.entries, path, Entry::Text(text)) {
+        let text = String::from_str(self.files.alloc, text)?;
+        let number = self.edits + 1;
+        match put_file(&mut self.files, path, Entry::Text(text), number) {
             Ok(()) => {
-                self.edits += 1;
+                self.edits = number;
                 Ok(())
             }
             Err(fault) => Err(fault),
@@ -124,17 +135,69 @@ impl World {
         ensures edit { Edits result self.old self.new (listed self.old.files path.now kind) }
         ensures kept { IsEdit path.now self.old.files self.new.files }
     {
-        let made = match kind {
-            ListKind::File => put_file(self.alloc, &mut self.entries, path, Entry::File),
-            ListKind::Dir => make_dir(self.alloc, &mut self.entries, path),
-        };
-        match made {
+        let number = self.edits + 1;
+        match list(&mut self.files, path, kind, number) {
             Ok(()) => {
-                self.edits += 1;
+                self.edits = number;
                 Ok(())
             }
             Err(fault) => Err(fault),
         }
+    }
+
+    /// Takes a path and all below it away. Refusals, the first that holds: 41 the path's form, or the
+    /// root; 40 nothing is there.
+    pub fn drop_path(&mut self, path: &[u8]) -> Result<(), WorldFault>
+        requires { self.old.edits < 2 ^ 64 - 1 }
+        ensures edit { Edits result self.old self.new (dropped self.old.files path.now) }
+        ensures valid { IsWorld self.new.files }
+    {
+        let number = self.edits + 1;
+        match drop_path(&mut self.files, path, number) {
+            Ok(()) => {
+                self.edits = number;
+                Ok(())
+            }
+            Err(fault) => Err(fault),
+        }
+    }
+
+    /// Replaces the physical lines `from` to `to` of a file with a text, counted from 1, with their LFs, by a
+    /// text as it stands; where `to` is one less than `from`, it is put before that line. Refusals, the first
+    /// that holds: 41 the path's form, 40 there is no file with a text, 43 there are no such lines.
+    pub fn edit_lines(
+        &mut self,
+        path: &[u8],
+        from: u32,
+        to: u32,
+        text: &str,
+    ) -> Result<(), WorldFault>
+        requires { self.old.edits < 2 ^ 64 - 1 }
+        ensures edit { Edits result self.old self.new (lines_edited self.old.files path.now from to text.now) }
+        ensures kept { IsEdit path.now self.old.files self.new.files }
+    {
+        let number = self.edits + 1;
+        match edit_lines(
+            &mut self.files,
+            path,
+            from as usize,
+            to as usize,
+            text,
+            number,
+        ) {
+            Ok(()) => {
+                self.edits = number;
+                Ok(())
+            }
+            Err(fault) => Err(fault),
+        }
+    }
+
+    /// The number of the last edit that changed what a read shows; 0 where none did.
+    pub fn changed_at(&self, read: &Read) -> u64
+        ensures { result ≡ changed_at self.now read.now }
+    {
+        last_change(&self.files.changes, read)
     }
 
     /// Follows a name through the directories.
@@ -142,11 +205,26 @@ impl World {
     pub fn walk(&self, name: &[u8]) -> Result<Walk, NoMemory>
         ensures { IfOk result (λ w. w ≡ walk_in self.now.files name.now) }
     {
-        let mut log = Log::new(self.alloc, Some(0));
+        let mut log = Log::new(self.files.alloc, Some(0));
         match follow(self, &mut log, name) {
             Ok(walk) => Ok(walk),
             Err(_) => Err(NoMemory),
         }
+    }
+}
+
+fn list(files: &mut Files, path: &[u8], kind: ListKind, number: u64) -> Result<(), WorldFault>
+    requires { IsWorld (world_of files.old.entries.entries) }
+    ensures edit { EditsFiles result (world_of files.old.entries.entries) (world_of files.new.entries.entries)
+        (listed (world_of files.old.entries.entries) path.now kind) }
+    ensures kept { IsEdit path.now (world_of files.old.entries.entries) (world_of files.new.entries.entries) }
+    ensures marked { FilesMarked result number
+        (world_of files.old.entries.entries) (world_of files.new.entries.entries)
+        (rows_of files.old.changes.entries) (rows_of files.new.changes.entries) }
+{
+    match kind {
+        ListKind::File => put_file(files, path, Entry::File, number),
+        ListKind::Dir => make_dir(files, path, number),
     }
 }
 

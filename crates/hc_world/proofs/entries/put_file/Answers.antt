@@ -1,32 +1,20 @@
-use Rattle.hc_world.proofs.Common.{◌≡◌, true, false, Option, Some, None, refl, sym, ap, ◌∙◌, get, Dir, Node, dir, file, text, kind_of, is_dir, world_of, node_of}
-use denote.Enum.Bare.{sameb}
-use Rattle.hc_model.specs.contracts.walk.Kind.{the_type}
-use Rattle.hc_world.proofs.Worlds.{put-is_dir, IsEdit-from_Edits, EditsFiles-from_add}
+use Rattle.hc_world.proofs.Common.{refl, subst, sym, ap, is_dir, EditsFiles, world_of, node_of}
+use Rattle.hc_world.proofs.Worlds.{IsEdit-written, dir_from_kind, file_from_kind, put-is_dir, put-is_file}
 use Rattle.hc_world.proofs.entries.put_file.Goals as goal
 
--- the code's comparison with a directory is the model's test
-same_dir : (o : Option Node) → sameb the_type (kind_of o) Dir ≡ is_dir o
-same_dir None = refl
-same_dir (Some dir) = refl
-same_dir (Some file) = refl
-same_dir (Some (text bytes)) = refl
+pub returns-in-Dir-clause-edit : goal.returns-in-Dir-clause-edit
+returns-in-Dir-clause-edit c =
+    (put-is_dir _ c.args.path.now (node_of c.args.file) c.requires.world (sym c.if-not-is_path.ensures) (ap is_dir (dir_from_kind _ (sym c.in-Dir.ensures))), refl)
 
-pub returns-then-eq-clause-edit : goal.returns-then-eq-clause-edit
-returns-then-eq-clause-edit c =
-    let w = world_of c.args.entries.now.entries in
-    let path = c.args.path.now in
-    let is_dir_there : is_dir (get w path) ≡ true = sym (same_dir (get w path)) ∙ sym (ap (λ k. sameb the_type k Dir) c.kind_at.ensures) ∙ sym c.if-eq.ensures in
-    (put-is_dir w path (node_of c.args.file) c.requires (sym c.if-not-is_path.ensures) is_dir_there, refl)
+pub replace-requires-clause-there : goal.replace-requires-clause-there
+replace-requires-clause-there c = file_from_kind _ (sym c.in-File.ensures)
 
-no_dir : (c : goal.After-add) → is_dir (get (world_of c.args.entries.now.entries) c.args.path.now) ≡ false
-no_dir c =
-    let o = get (world_of c.args.entries.now.entries) c.args.path.now in
-    sym (same_dir o) ∙ sym (ap (λ k. sameb the_type k Dir) c.kind_at.ensures) ∙ sym c.if-eq.ensures
+pub returns-in-File-clause-edit : goal.returns-in-File-clause-edit
+returns-in-File-clause-edit c =
+    let world = world_of c.args.files.now.entries.entries in
+    subst (EditsFiles c.replace.result world (world_of c.replace.new.files.entries.entries))
+    (sym (put-is_file world c.args.path.now (node_of c.args.file) c.requires.world (sym c.if-not-is_path.ensures) (file_from_kind _ (sym c.in-File.ensures)))) c.replace.ensures.edit
 
-pub returns-clause-edit : goal.returns-clause-edit
-returns-clause-edit c =
-    EditsFiles-from_add c.add.result _ _ c.args.path.now (node_of c.args.file) c.requires (sym c.if-not-is_path.ensures) (no_dir c) c.add.ensures
-
-pub returns-clause-kept : goal.returns-clause-kept
-returns-clause-kept c =
-    IsEdit-from_Edits c.add.result _ _ c.args.path.now (node_of c.args.file) c.requires (sym c.if-not-is_path.ensures) (no_dir c) (returns-clause-edit c)
+pub returns-in-File-clause-kept : goal.returns-in-File-clause-kept
+returns-in-File-clause-kept c =
+    IsEdit-written c.replace.result _ _ c.args.path.now _ c.requires.world (sym c.if-not-is_path.ensures) (file_from_kind _ (sym c.in-File.ensures)) c.replace.ensures.edit
