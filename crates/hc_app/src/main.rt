@@ -4,6 +4,7 @@
 
 ghost use Rattle.std.specs.Prelude.{◌≡◌, ◌-◌, ◌<◌, ◌^◌};
 
+mod generate;
 mod run;
 
 use hc_base::{Sink, Source, StdSink, StdSource, Steps};

@@ -1,14 +1,19 @@
-ghost use Rattle.std.specs.Prelude.{◌≡◌, ◌≢◌, ◌↔◌, ◌⊎◌, ◌<◌, ◌^◌, ◌-◌, []};
+ghost use Rattle.std.specs.Prelude.{◌≡◌, ◌≢◌, ◌⊎◌, ◌<◌, ◌^◌, ◌-◌, ℕ, None, map, string_bytes};
 ghost use Rattle.hc_session.specs.Conversation.{Completes, Served};
+ghost use Rattle.hc_words.specs.Words.{words_of};
+ghost use Rattle.hc_app.specs.Run.{AsksFor, AsksToServe, Generated};
 
+use crate::generate::generate;
 use hc_base::{Sink, Source, Steps};
 use hc_session::{Status, serve_session};
+use hc_words::{WordsFault, read_words};
 use std::alloc::Global;
 use std::sync::ledger::Ledger;
 
-/// All that the program does: it answers each line of the source by a line to the sink, until the
-/// source ends. `evals` rises by one for each request that is evaluated, and `bytes` by the bytes of
-/// the configuration texts that are read.
+/// All that the program does: it answers each line of the source by a line to the sink, until an
+/// `end` is answered, the source ends, or a line or the script reaches its limit; or it runs a
+/// script that is made from a seed, and writes its summary. `evals` rises by one for each request
+/// that is evaluated, and `bytes` by the bytes of the configuration texts that are read.
 pub fn run<S: Source, K: Sink, E: Ledger, B: Ledger>(
     alloc: Global,
     words: &[String],
@@ -22,24 +27,37 @@ pub fn run<S: Source, K: Sink, E: Ledger, B: Ledger>(
 
     // Where the source tells its bytes and nothing failed, what is written is the session's
     // replies to these bytes, and the status is the session's.
-    ensures complete { words.now ≡ [] → S.faults source.new ≡ S.faults source.old
-        → K.faults sink.new ≡ K.faults sink.old → result ≢ Status.NoMemory
+    ensures complete { AsksToServe (words_of (map string_bytes words.now))
+        → S.faults source.new ≡ S.faults source.old → K.faults sink.new ≡ K.faults sink.old
+        → result ≢ Status.NoMemory
         → Completes (S.left source.old) (K.written sink.old) (K.written sink.new) result }
 
     // In every case what was written is a front of the replies to the whole lines taken, and all
-    // of them unless the sink failed.
-    ensures served { result ≢ Status.Words → result ≢ Status.NoMemory
-        → Served (S.left source.old) (S.left source.new) (K.written sink.old) (K.written sink.new) result }
+    // of them unless the sink failed; and `evals` has risen by no more than the evaluations that
+    // they count, and by one for each `no_memory`.
+    ensures served { AsksToServe (words_of (map string_bytes words.now)) → result ≢ Status.NoMemory
+        → Served (S.left source.old) (S.left source.new)
+        (K.written sink.old) (K.written sink.new) evals.old evals.new result }
 
-    ensures words { (result ≡ Status.Words) ↔ (words.now ≢ []) }
+    // A script is made without a look at the source.
+    ensures generated { (seed : ℕ) → AsksFor seed (words_of (map string_bytes words.now)) → result ≢ Status.NoMemory
+        → Generated seed (K.written sink.old) (K.written sink.new) evals.old evals.new result
+        × (source.new ≡ source.old) }
+
+    ensures words { result ≡ Status.Words → words_of (map string_bytes words.now) ≡ None }
+    ensures refused { words_of (map string_bytes words.now) ≡ None
+        → (result ≡ Status.Words) ⊎ (result ≡ Status.NoMemory) }
     ensures read_fault { result ≡ Status.ReadFault → S.faults source.old < S.faults source.new }
     ensures write_fault { result ≡ Status.WriteFault → K.faults sink.old < K.faults sink.new }
     ensures untouched { (result ≡ Status.Words) ⊎ (result ≡ Status.NoMemory)
         → (source.new ≡ source.old) × (sink.new ≡ sink.old) }
 {
-    if words.is_empty() {
-        serve_session(alloc, source, sink, evals, bytes)
-    } else {
-        Status::Words
+    match read_words(alloc, words) {
+        Ok(words) => match words.generate {
+            Some(seed) => generate(alloc, seed, sink, evals, bytes),
+            None => serve_session(alloc, source, sink, evals, bytes),
+        },
+        Err(WordsFault::NoMemory) => Status::NoMemory,
+        Err(WordsFault::Refused) => Status::Words,
     }
 }

@@ -3,6 +3,8 @@
 
 mod plain;
 mod reading;
+mod there;
 
 pub use plain::PlainOverrides;
 pub use reading::read_overrides;
+pub use there::read_htaccess;

@@ -1,15 +1,11 @@
 //! The `.htaccess` files of a world, read when they are asked for.
-ghost use Rattle.std.specs.Prelude.{◌≡◌, [], IfOk, option_map};
-ghost use Rattle.hc_base.specs.Gives.{Gives};
-ghost use Rattle.hc_htaccess.specs.Loading.{answer_of, kept_for, loaded_as};
+ghost use Rattle.std.specs.Prelude.{◌≡◌, [], option_map};
+ghost use Rattle.hc_htaccess.specs.Loading.{kept_for, loaded_as};
 ghost use Rattle.hc_htaccess.specs.Pairs.{is_for};
-ghost use Rattle.hc_htaccess.specs.Reading.{reading_in, text_there, without_text};
 
-use crate::reading::read_overrides;
-use hc_base::codes::CONTENT_MISSING;
-use hc_base::{AtByte, Fault, NoMemory, Place, Refusal, Steps, Text};
-use hc_merge::htaccess_of;
-use hc_model::{Allowed, AtFault, Config, HtFile, Kind, Overrides};
+use crate::there::read_htaccess;
+use hc_base::{Steps, Text};
+use hc_model::{Allowed, AtFault, Config, HtFile, Overrides};
 use hc_world::World;
 use std::alloc::Global;
 use std::marker::Model;
@@ -78,7 +74,7 @@ impl<'a, L: Ledger> Overrides for PlainOverrides<'a, L> {
     ghost loaded = { loaded_of };
 
     fn load(&mut self, dir: &[u8], allowed: Allowed) -> Result<(), AtFault> {
-        let file = read_there(
+        let file = read_htaccess(
             self.alloc,
             self.config,
             self.world,
@@ -107,61 +103,4 @@ fn is_for(kept: &Kept, dir: &[u8], allowed: Allowed) -> bool
     ensures { result ≡ is_for (loaded_as kept.now) dir.now allowed }
 {
     kept.dir.as_bytes() == dir && kept.allowed == allowed
-}
-
-// What reading the `.htaccess` of a directory gives.
-#[tactic(auto, unfolding(crate::specs::Reading::found_there))]
-fn read_there<L: Ledger>(
-    alloc: Global,
-    config: &Config,
-    world: &World,
-    bytes: &mut Steps<L>,
-    dir: &[u8],
-    allowed: Allowed,
-) -> Result<Option<HtFile>, AtFault>
-    ensures { Gives result (answer_of (reading_in world.now.files config.now dir.now allowed)) }
-{
-    let path = htaccess_of(alloc, dir)?;
-    match world.kind(path.as_bytes()) {
-        Kind::Absent | Kind::Dir => Ok(None),
-        Kind::File => read_text(
-            alloc,
-            config,
-            bytes,
-            dir,
-            allowed,
-            world.text(path.as_bytes()),
-        ),
-    }
-}
-
-// The same where it is a file, which may have a text.
-fn read_text<L: Ledger>(
-    alloc: Global,
-    config: &Config,
-    bytes: &mut Steps<L>,
-    dir: &[u8],
-    allowed: Allowed,
-    text: Option<&str>,
-) -> Result<Option<HtFile>, AtFault>
-    ensures { Gives result
-        (answer_of (text_there config.now dir.now allowed (option_map (λ text. text.now) text.entry))) }
-{
-    let Some(text) = text else {
-        return Err(Fault::Refused(without_text(alloc, dir)?));
-    };
-    match read_overrides(alloc, text, dir, allowed, config, bytes) {
-        Ok(file) => Ok(Some(file)),
-        Err(fault) => Err(fault),
-    }
-}
-
-fn without_text(alloc: Global, dir: &[u8]) -> Result<Refusal, NoMemory>
-    ensures { IfOk result (λ refusal. refusal ≡ without_text dir.now) }
-{
-    let place = Place {
-        file: htaccess_of(alloc, dir)?,
-        line: 0,
-    };
-    Ok(Refusal::at(alloc, place, AtByte::rule(CONTENT_MISSING)))
 }

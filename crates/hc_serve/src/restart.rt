@@ -1,4 +1,4 @@
-//! The restart that the rules of a directory lead to (Apache manual, mod_rewrite, RewriteRule, "Per-directory Rewrites").
+//! The restart that the rules of a directory lead to (Apache manual, mod_rewrite, "Per-directory Rewrites").
 ghost use Rattle.std.specs.Prelude.{◌≡◌, IfOk, map};
 ghost use Rattle.std.specs.Str.{bytes_eq};
 ghost use Rattle.hc_rw_eval.specs.Substitutions.{without};

@@ -1,8 +1,9 @@
 pub mod Common
 pub mod Answering
 pub mod AnsweringLoop
+pub mod Asks
 pub mod Completing
-pub mod Floats
 pub mod Known
-pub mod Parsing
+pub mod Requests
 pub mod Serving
+pub mod Standing

@@ -1,20 +1,40 @@
 -- What the loop over the reads of a source keeps, and how each of its ends is a run.
-use Rattle.hc_session.proofs.Common.{◌≡◌, ◌⊎◌, ℕ, ◌+◌, ◌-◌, ◌<◌, ◌≤◌, List, [], ◌∷◌, ◌++◌, length, take, Option, arith, refl, sym, ap, ◌∙◌, subst, inl, inr, append-nil, length-append, take-append-le, length-take-le, Consumes, Keeps, IsAtEnd, whole_lines, rest_of, World, new_world, AnswersLines, AnswersLinesInPart, LINE_LIMIT, SCRIPT_LIMIT, whole_lines-append, rest_of-append, rest_of-none, rest_of-none_longer}
+use Rattle.hc_session.proofs.Common.{◌≡◌, ◌⊎◌, ℕ, ◌+◌, ◌-◌, ◌<◌, ◌≤◌, List, [], ◌∷◌, ◌++◌, length, take, Option, true, false, arith, refl, sym, ap, ◌∙◌, subst, inl, inr, append-nil, length-append, take-append-le, length-take-le, Consumes, Keeps, IsAtEnd, whole_lines, rest_of, State, start, AnswersLines, AnswersLinesInPart, output, LINE_LIMIT, SCRIPT_LIMIT, whole_lines-append, rest_of-append, rest_of-none, rest_of-none_longer}
 use Rattle.std.proofs.lemmas.Bool.{cases_lt}
 use Rattle.std.proofs.Math.Seq.{take-append-add}
-use Rattle.hc_session.specs.Conversation.{IsOpen, IsFull, StaysOpen, Served, status_at_end}
-use Rattle.hc_session.specs.declared.status.Status.TheVariants.{ReadFault, WriteFault, CutLine}
-use Rattle.hc_session.proofs.Answering.{lines_append, lines_append_in_part}
-use Rattle.hc_session.proofs.Known.{consumes_more, consumes_keeps}
+use Rattle.hc_session.specs.Conversation.{IsOpen, StaysOpen, Served, EndsWith, Writes, status_at_end}
+use Rattle.hc_session.specs.declared.status.Status.{Status}
+use Rattle.hc_session.specs.declared.status.Status.TheVariants.{Done, ReadFault, WriteFault, CutLine, LineTooLong, ScriptTooLong}
+use Rattle.hc_session.proofs.Answering.{lines_append, lines_append_in_part, lines_none}
+use Rattle.hc_session.proofs.Known.{consumes_more, consumes_keeps, consumes_none}
 
--- So far these bytes were taken and their whole lines answered; `line` has not ended.
-pub record Serving (left remaining written grown : Option (List ℕ)) (world : World) (line : List ℕ) (count : ℕ) : Type 0 where
-  pub bytes : List ℕ
+-- These bytes were taken, and their whole lines answered.
+pub record Taken (left remaining written grown : Option (List ℕ)) (state : State) (bytes : List ℕ) (before after : ℕ) : Type 0 where
   pub takes : Consumes left remaining bytes
+  pub within : StaysOpen bytes
+  pub answered : AnswersLines start state (whole_lines bytes) written grown before after
+
+-- So far this holds; `line` has not ended, and nor has the session.
+pub record Serving (left remaining written grown : Option (List ℕ)) (state : State) (line : List ℕ) (count before after : ℕ) : Type 0 where
+  pub bytes : List ℕ
+  pub taken : Taken left remaining written grown state bytes before after
   pub counted : length bytes ≡ count
   pub unended : rest_of bytes ≡ line
-  pub within : StaysOpen bytes
-  pub answered : AnswersLines new_world world (whole_lines bytes) written grown
+  pub going : state.ended ≡ false
+
+-- Nothing was taken yet.
+pub serving_start : (left written : Option (List ℕ)) (state : State) (line : List ℕ) (n : ℕ) → state ≡ start → line ≡ [] → Serving left left written written state line 0 n n
+serving_start left written state line n is none = record {
+  bytes = [];
+  taken = record {
+    takes = consumes_none left;
+    within = λ count below. absurd (omega arith);
+    answered = subst (λ state. AnswersLines start state [] written written n n) (sym is) (lines_none start written n);
+  };
+  counted = refl;
+  unended = sym none;
+  going = ap (λ (state : State). state.ended) is;
+}
 
 -- Bytes that fit leave the session open after each shorter front of them.
 front_open : (bytes chunk : List ℕ) (count : ℕ) → count < length chunk → length (rest_of bytes) + length chunk ≤ LINE_LIMIT → length bytes + length chunk ≤ SCRIPT_LIMIT → IsOpen (bytes ++ take count chunk)
@@ -39,33 +59,69 @@ open_more bytes chunk line_room script_room within count below = by_side (cases_
 cons_not_nil : (b : ℕ) (bs : List ℕ) → b ∷ bs ≡ [] → ⊥
 cons_not_nil b bs e = cc
 
-module _ (left now written grown : Option (List ℕ)) (world : World) (line : List ℕ) (count : ℕ) (before : Serving left now written grown world line count) where
-  pub serving_more : (later grown' : Option (List ℕ)) (next : World) (chunk line' : List ℕ) (count' : ℕ) → Consumes now later chunk → length line + length chunk ≤ LINE_LIMIT → count + length chunk ≤ SCRIPT_LIMIT → count' ≡ count + length chunk
-      → AnswersLines world next (whole_lines (line ++ chunk)) grown grown' → line' ≡ rest_of (line ++ chunk) → Serving left later written grown' next line' count'
-  serving_more later grown' next chunk line' count' took line_room script_room total answered unended = record {
-    bytes = before.bytes ++ chunk;
-    takes = consumes_more left now later before.bytes chunk before.takes took;
-    counted = length-append before.bytes chunk ∙ ap (λ n. n + length chunk) before.counted ∙ sym total;
-    unended = rest_of-append before.bytes chunk ∙ ap (λ l. rest_of (l ++ chunk)) before.unended ∙ sym unended;
-    within = open_more before.bytes chunk (omega (arith, line_room, ap length before.unended)) (omega (arith, script_room, before.counted)) before.within;
-    answered = rw (whole_lines-append before.bytes chunk, before.unended) (lines_append new_world world next _ _ written grown grown' before.answered answered);
-  }
+-- What was taken and answered is a run, where its status says how it ends.
+served_as : (left remaining written grown : Option (List ℕ)) (state : State) (bytes : List ℕ) (k n : ℕ) (status : Status) (taken : Taken left remaining written grown state bytes k n) → Writes status written grown (output taken.answered.replies) → EndsWith status remaining bytes state.ended → Served left remaining written grown k n status
+served_as left remaining written grown state bytes k n status all writes ends = record {
+  taken = bytes;
+  replies = all.answered.replies;
+  state = state;
+  takes = all.takes;
+  within = all.within;
+  answers = all.answered.answers;
+  writes = writes;
+  spent = all.answered.spent;
+  ends = ends;
+}
 
-  pub served_write_fault : (later grown' : Option (List ℕ)) (chunk : List ℕ) → Consumes now later chunk → length line + length chunk ≤ LINE_LIMIT → count + length chunk ≤ SCRIPT_LIMIT
-      → AnswersLinesInPart world (whole_lines (line ++ chunk)) grown grown' → Served left later written grown' WriteFault
-  served_write_fault later grown' chunk took line_room script_room answered =
-      let all = lines_append_in_part new_world world _ _ written grown grown' before.answered answered in
-      record {
-        taken = before.bytes ++ chunk;
-        replies = all.replies;
-        world = all.world;
-        takes = consumes_more left now later before.bytes chunk before.takes took;
-        within = open_more before.bytes chunk (omega (arith, line_room, ap length before.unended)) (omega (arith, script_room, before.counted)) before.within;
-        answers = rw (whole_lines-append before.bytes chunk, before.unended) all.answers;
-        writes = all.writes;
-        ends = tt;
-      }
+module _ (left now later written grown : Option (List ℕ)) (state : State) (line : List ℕ) (count k m : ℕ) (before : Serving left now written grown state line count k m) where
+  -- ---- more bytes are answered
 
+  module _ (chunk : List ℕ) (took : Consumes now later chunk) (line_room : length line + length chunk ≤ LINE_LIMIT) (script_room : count + length chunk ≤ SCRIPT_LIMIT) where
+    within_more : StaysOpen (before.bytes ++ chunk)
+    within_more = open_more before.bytes chunk (omega (arith, line_room, ap length before.unended)) (omega (arith, script_room, before.counted)) before.taken.within
+
+    lines_more : whole_lines (before.bytes ++ chunk) ≡ whole_lines before.bytes ++ whole_lines (line ++ chunk)
+    lines_more = whole_lines-append before.bytes chunk ∙ ap (λ l. whole_lines before.bytes ++ whole_lines (l ++ chunk)) before.unended
+
+    taken_more : (grown' : Option (List ℕ)) (next : State) (n : ℕ) → AnswersLines state next (whole_lines (line ++ chunk)) grown grown' m n → Taken left later written grown' next (before.bytes ++ chunk) k n
+    taken_more grown' next n answered = record {
+      takes = consumes_more left now later before.bytes chunk before.taken.takes took;
+      within = within_more;
+      answered = rw lines_more (lines_append start state written grown grown' k m n next _ _ before.taken.answered answered);
+    }
+
+    pub serving_more : (grown' : Option (List ℕ)) (next : State) (n : ℕ) (line' : List ℕ) (count' : ℕ) → count' ≡ count + length chunk
+        → AnswersLines state next (whole_lines (line ++ chunk)) grown grown' m n → next.ended ≡ false → line' ≡ rest_of (line ++ chunk) → Serving left later written grown' next line' count' k n
+    serving_more grown' next n line' count' total answered going unended = record {
+      bytes = before.bytes ++ chunk;
+      taken = taken_more grown' next n answered;
+      counted = length-append before.bytes chunk ∙ ap (λ l. l + length chunk) before.counted ∙ sym total;
+      unended = rest_of-append before.bytes chunk ∙ ap (λ l. rest_of (l ++ chunk)) before.unended ∙ sym unended;
+      going = going;
+    }
+
+    -- an `end` was answered
+    pub served_ended : (grown' : Option (List ℕ)) (next : State) (n : ℕ) → AnswersLines state next (whole_lines (line ++ chunk)) grown grown' m n → next.ended ≡ true → Served left later written grown' k n Done
+    served_ended grown' next n answered ended =
+        let all = taken_more grown' next n answered in
+        served_as left later written grown' next (before.bytes ++ chunk) k n Done all all.answered.writes (inl ended)
+
+    pub served_write_fault : (grown' : Option (List ℕ)) (n : ℕ) → AnswersLinesInPart state (whole_lines (line ++ chunk)) grown grown' m n → Served left later written grown' k n WriteFault
+    served_write_fault grown' n answered =
+        let all = lines_append_in_part start state written grown grown' k m n _ _ before.taken.answered answered in
+        record {
+          taken = before.bytes ++ chunk;
+          replies = all.replies;
+          state = all.state;
+          takes = consumes_more left now later before.bytes chunk before.taken.takes took;
+          within = within_more;
+          answers = rw lines_more all.answers;
+          writes = all.writes;
+          spent = all.spent;
+          ends = tt;
+        }
+
+module _ (left now written grown : Option (List ℕ)) (state : State) (line : List ℕ) (count k m : ℕ) (before : Serving left now written grown state line count k m) where
   -- the line that has not ended has no LF
   pub serving_unended : rest_of line ≡ line
   serving_unended = rw (sym before.unended) (rest_of-none (rest_of before.bytes) (rest_of-none_longer before.bytes).0)
@@ -73,55 +129,30 @@ module _ (left now written grown : Option (List ℕ)) (world : World) (line : Li
   is_open : length line < LINE_LIMIT → count < SCRIPT_LIMIT → IsOpen before.bytes
   is_open line_room script_room = (omega (arith, line_room, ap length before.unended), omega (arith, script_room, before.counted))
 
-  pub served_read_fault : (later : Option (List ℕ)) → Keeps now later → length line < LINE_LIMIT → count < SCRIPT_LIMIT → Served left later written grown ReadFault
-  served_read_fault later kept line_room script_room = record {
-    taken = before.bytes;
-    replies = before.answered.replies;
-    world = world;
-    takes = consumes_keeps left now later before.bytes before.takes kept;
-    within = before.within;
-    answers = before.answered.answers;
-    writes = before.answered.writes;
-    ends = is_open line_room script_room;
-  }
+  -- the source may have changed
+  still : (later : Option (List ℕ)) → Consumes left later before.bytes → Taken left later written grown state before.bytes k m
+  still later takes = record { takes = takes; within = before.taken.within; answered = before.taken.answered }
+
+  pub served_read_fault : (later : Option (List ℕ)) → Keeps now later → length line < LINE_LIMIT → count < SCRIPT_LIMIT → Served left later written grown k m ReadFault
+  served_read_fault later kept line_room script_room =
+      let all = still later (consumes_keeps left now later before.bytes before.taken.takes kept) in
+      served_as left later written grown state before.bytes k m ReadFault all all.answered.writes (is_open line_room script_room, before.going)
 
   -- the end of the input
-  pub served_at_end : (later : Option (List ℕ)) (chunk : List ℕ) → chunk ≡ [] → Consumes now later chunk → (chunk ≡ [] → IsAtEnd later) → length line < LINE_LIMIT → count < SCRIPT_LIMIT → Served left later written grown (status_at_end line)
+  pub served_at_end : (later : Option (List ℕ)) (chunk : List ℕ) → chunk ≡ [] → Consumes now later chunk → (chunk ≡ [] → IsAtEnd later) → length line < LINE_LIMIT → count < SCRIPT_LIMIT → Served left later written grown k m (status_at_end line)
   served_at_end later chunk none took end line_room script_room = by_line line refl where
-    by_line : (rest : List ℕ) → line ≡ rest → Served left later written grown (status_at_end rest)
-    by_line [] is = record {
-      taken = before.bytes;
-      replies = before.answered.replies;
-      world = world;
-      takes = rw (none, append-nil) at (consumes_more left now later before.bytes chunk before.takes took);
-      within = before.within;
-      answers = before.answered.answers;
-      writes = before.answered.writes;
-      ends = (end none, before.unended ∙ is, is_open line_room script_room);
-    }
-    by_line (b ∷ bs) is = record {
-      taken = before.bytes;
-      replies = before.answered.replies;
-      world = world;
-      takes = rw (none, append-nil) at (consumes_more left now later before.bytes chunk before.takes took);
-      within = before.within;
-      answers = before.answered.answers;
-      writes = before.answered.writes;
-      ends = inr (end none, (λ empty. absurd (cons_not_nil b bs (sym (before.unended ∙ is) ∙ empty))), is_open line_room script_room);
-    }
+    all : Taken left later written grown state before.bytes k m
+    all = still later (rw (none, append-nil) at (consumes_more left now later before.bytes chunk before.taken.takes took))
+
+    by_line : (rest : List ℕ) → line ≡ rest → Served left later written grown k m (status_at_end rest)
+    by_line [] is = served_as left later written grown state before.bytes k m Done all all.answered.writes (inr (end none, before.unended ∙ is, is_open line_room script_room, before.going))
+    by_line (b ∷ bs) is =
+        served_as left later written grown state before.bytes k m CutLine all all.answered.writes (end none, (λ empty. absurd (cons_not_nil b bs (sym (before.unended ∙ is) ∙ empty))), is_open line_room script_room, before.going)
 
   -- a limit was reached
-  pub served_full : (LINE_LIMIT ≤ length line) ⊎ (SCRIPT_LIMIT ≤ count) → Served left now written grown CutLine
-  served_full full = record {
-    taken = before.bytes;
-    replies = before.answered.replies;
-    world = world;
-    takes = before.takes;
-    within = before.within;
-    answers = before.answered.answers;
-    writes = before.answered.writes;
-    ends = inl (is_full full);
-  } where
-    is_full : (LINE_LIMIT ≤ length line) ⊎ (SCRIPT_LIMIT ≤ count) → IsFull before.bytes
-    is_full (inl long) = inl (omega (arith, long, ap length before.unended))
-    is_full (inr long) = inr (omega (arith, long, before.counted))
+  pub served_long_line : LINE_LIMIT ≤ length line → Served left now written grown k m LineTooLong
+  served_long_line long = served_as left now written grown state before.bytes k m LineTooLong before.taken before.taken.answered.writes (omega (arith, long, ap length before.unended), before.going)
+
+  pub served_long_script : length line < LINE_LIMIT → SCRIPT_LIMIT ≤ count → Served left now written grown k m ScriptTooLong
+  served_long_script line_room long =
+      served_as left now written grown state before.bytes k m ScriptTooLong before.taken before.taken.answered.writes (omega (arith, line_room, ap length before.unended), omega (arith, long, before.counted), before.going)

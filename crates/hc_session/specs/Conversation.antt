@@ -1,15 +1,15 @@
 -- What a run of the program takes and writes. Our own choice.
 use Rattle.std.specs.Prelude.{◌≡◌, ◌≢◌, ◌⊎◌, ℕ, ◌<◌, ◌≤◌, List, [], ◌∷◌, ◌++◌, length, take}
-use Rattle.std.specs.Prelude.{◌||◌, nat_lt, nat_le, if◌then◌else◌, Option, ⊤, IfSome}
+use Rattle.std.specs.Prelude.{Bool, true, false, nat_lt, nat_le, if◌then◌else◌, Option, ⊤, IfSome}
 use Rattle.std.specs.Io.KnownBytes.{Consumes, Appends, IsAtEnd}
 use Rattle.hc_base.specs.Lines.{whole_lines, rest_of}
-use Rattle.hc_model.specs.World.{World, new_world}
-use Rattle.hc_session.specs.Reply.{Reply}
-use Rattle.hc_session.specs.Session.{Answers}
-use Rattle.hc_session.specs.Sending.{output, AppendsFront}
+use Rattle.hc_json.specs.Reply.{Reply}
+use Rattle.hc_session.specs.Session.{Answers, State, start}
+use Rattle.hc_session.specs.Sending.{output, AppendsFront, IsSpent}
 use Rattle.hc_session.specs.declared.limits.TheConstants.{LINE_LIMIT, SCRIPT_LIMIT}
 use Rattle.hc_session.specs.declared.status.Status.{Status}
-use Rattle.hc_session.specs.declared.status.Status.TheVariants.{Done, Words, ReadFault, WriteFault, NoMemory, CutLine}
+use Rattle.hc_session.specs.declared.status.Status.TheVariants.{Done, Words, ReadFault, WriteFault}
+use Rattle.hc_session.specs.declared.status.Status.TheVariants.{NoMemory, CutLine, LineTooLong, ScriptTooLong}
 
 -- After these bytes more are taken: the line that they end in is below its limit, and so is the
 -- script.
@@ -26,26 +26,35 @@ StaysOpen taken = (count : ℕ) → count < length taken → IsOpen (take count 
 
 -- ---- a run without faults
 
--- The bytes that a session takes of its input: all of them, or those up to a limit.
-pub record Takes (input taken : List ℕ) : Type 0 where
+-- The bytes that a session takes of its input: all of them, those up to a limit, or those of the last read before
+-- it had ended.
+pub record Takes (input taken : List ℕ) (ended : Bool) : Type 0 where
   pub left : List ℕ
   pub front : input ≡ taken ++ left
   pub within : StaysOpen taken
-  pub up_to : (left ≡ []) ⊎ IsFull taken
+  pub up_to : (left ≡ []) ⊎ IsFull taken ⊎ (ended ≡ true)
 
--- How it ends: all lines were whole, or the last one was cut off.
-abbrev pub status_of : List ℕ → Status
-status_of taken = if (nat_lt 0 (length (rest_of taken)) || nat_le SCRIPT_LIMIT (length taken)) then CutLine else Done
+-- How the input ends where no `end` was answered: a line or the script reached its limit, the last line was cut off, or
+-- all lines were whole.
+abbrev pub status_of_bytes : List ℕ → Status
+status_of_bytes taken =
+    if nat_le LINE_LIMIT (length (rest_of taken)) then LineTooLong
+    else (if nat_le SCRIPT_LIMIT (length taken) then ScriptTooLong
+    else (if nat_lt 0 (length (rest_of taken)) then CutLine
+    else Done))
+
+abbrev pub status_of : Bool → List ℕ → Status
+status_of ended taken = if ended then Done else status_of_bytes taken
 
 -- The session answers an input with this output, and ends with this status.
 pub record IsSession (input bytes : List ℕ) (status : Status) : Type 0 where
   pub taken : List ℕ
   pub replies : List Reply
-  pub world : World
-  pub takes : Takes input taken
-  pub answers : Answers new_world (whole_lines taken) replies world
+  pub state : State
+  pub takes : Takes input taken state.ended
+  pub answers : Answers start (whole_lines taken) replies state
   pub writes : bytes ≡ output replies
-  pub ends : status ≡ status_of taken
+  pub ends : status ≡ status_of state.ended taken
 
 -- Where the source tells its bytes, a run wrote what the session answers to them.
 abbrev pub Completes : Option (List ℕ) → Option (List ℕ) → Option (List ℕ) → Status → Type 0
@@ -57,20 +66,19 @@ Completes left written grown status =
 -- What was written: the lines of all replies, or a front of them after a fault of the sink.
 abbrev pub Writes : Status → Option (List ℕ) → Option (List ℕ) → List ℕ → Type 0
 Writes WriteFault old new lines = AppendsFront old new lines
-Writes Done old new lines = Appends old new lines
-Writes Words old new lines = Appends old new lines
-Writes ReadFault old new lines = Appends old new lines
-Writes NoMemory old new lines = Appends old new lines
-Writes CutLine old new lines = Appends old new lines
+Writes status old new lines = Appends old new lines
 
 -- When a run ends so, with these bytes taken and these left.
-abbrev pub EndsWith : Status → Option (List ℕ) → List ℕ → Type 0
-EndsWith Done left taken = IsAtEnd left × (rest_of taken ≡ []) × IsOpen taken
-EndsWith CutLine left taken = IsFull taken ⊎ (IsAtEnd left × (rest_of taken ≢ []) × IsOpen taken)
-EndsWith ReadFault left taken = IsOpen taken
-EndsWith WriteFault left taken = ⊤
-EndsWith Words left taken = ⊥
-EndsWith NoMemory left taken = ⊥
+abbrev pub EndsWith : Status → Option (List ℕ) → List ℕ → Bool → Type 0
+EndsWith Done left taken ended = (ended ≡ true) ⊎ (IsAtEnd left × (rest_of taken ≡ []) × IsOpen taken × (ended ≡ false))
+EndsWith CutLine left taken ended = IsAtEnd left × (rest_of taken ≢ []) × IsOpen taken × (ended ≡ false)
+EndsWith LineTooLong left taken ended = (LINE_LIMIT ≤ length (rest_of taken)) × (ended ≡ false)
+EndsWith ScriptTooLong left taken ended =
+    (length (rest_of taken) < LINE_LIMIT) × (SCRIPT_LIMIT ≤ length taken) × (ended ≡ false)
+EndsWith ReadFault left taken ended = IsOpen taken × (ended ≡ false)
+EndsWith WriteFault left taken ended = ⊤
+EndsWith Words left taken ended = ⊥
+EndsWith NoMemory left taken ended = ⊥
 
 -- How an input ends behind these bytes of its last line.
 abbrev pub status_at_end : List ℕ → Status
@@ -78,13 +86,14 @@ status_at_end [] = Done
 status_at_end (b ∷ bs) = CutLine
 
 -- A run that served its source: what was written are the session's replies to the whole lines of
--- the bytes taken.
-pub record Served (left remaining written grown : Option (List ℕ)) (status : Status) : Type 0 where
+-- the bytes taken, up to an `end`; and a counter of evaluations has risen by no more than these give.
+pub record Served (left remaining written grown : Option (List ℕ)) (before after : ℕ) (status : Status) : Type 0 where
   pub taken : List ℕ
   pub replies : List Reply
-  pub world : World
+  pub state : State
   pub takes : Consumes left remaining taken
   pub within : StaysOpen taken
-  pub answers : Answers new_world (whole_lines taken) replies world
+  pub answers : Answers start (whole_lines taken) replies state
   pub writes : Writes status written grown (output replies)
-  pub ends : EndsWith status remaining taken
+  pub spent : IsSpent start state replies before after
+  pub ends : EndsWith status remaining taken state.ended

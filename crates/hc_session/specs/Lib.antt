@@ -1,13 +1,7 @@
-pub mod Asked
-pub mod Command
-pub mod CommandView
+pub mod Changes
 pub mod Conversation
-pub mod Fields
-pub mod Forms
-pub mod Reply
-pub mod ReplyView
+pub mod Inside
 pub mod Sending
 pub mod Session
-pub mod Shown
+pub mod Sound
 pub mod Status
-pub mod Trail

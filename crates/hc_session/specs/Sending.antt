@@ -1,14 +1,23 @@
 -- What was written of some bytes.
-use Rattle.std.specs.Prelude.{◌≡◌, ℕ, List, ◌++◌, Option}
+use Rattle.std.specs.Prelude.{◌≡◌, ℕ, ◌+◌, ◌≤◌, List, [], ◌∷◌, ◌++◌, length, filter, Option}
 use Rattle.std.specs.List.{flat_map}
 use Rattle.std.specs.Io.KnownBytes.{Appends}
-use Rattle.hc_model.specs.World.{World}
-use Rattle.hc_session.specs.Reply.{Reply, reply_line}
-use Rattle.hc_session.specs.Session.{Turns, Answers}
+use Rattle.hc_json.specs.Reply.{Reply, reply_line}
+use Rattle.hc_session.specs.Session.{State, Turns, Answers, is_no_memory}
 
 -- The lines of these replies.
 abbrev pub output : List Reply → List ℕ
 output replies = flat_map reply_line replies
+
+-- How many lines were answered `no_memory`.
+abbrev pub refusals : List Reply → ℕ
+refusals replies = length (filter is_no_memory replies)
+
+-- The counter has risen by no more than the evaluations that are counted, and by one for each line for which memory was
+-- refused.
+pub record IsSpent (old new : State) (replies : List Reply) (before after : ℕ) : Type 0 where
+  pub rises : before ≤ after
+  pub most : after + old.evaluations ≤ before + new.evaluations + refusals replies
 
 -- A front of these bytes was written.
 pub record AppendsFront (old new : Option (List ℕ)) (bytes : List ℕ) : Type 0 where
@@ -17,25 +26,33 @@ pub record AppendsFront (old new : Option (List ℕ)) (bytes : List ℕ) : Type 
   pub whole : bytes ≡ sent ++ unsent
   pub written : Appends old new sent
 
--- A line in a world was answered: all of its reply was written, or a front of it.
-pub record AnswersLine (old new : World) (line : List ℕ) (written grown : Option (List ℕ)) : Type 0 where
+-- A line in a state was answered: all of its reply was written, or a front of it.
+pub record AnswersLine (old new : State) (line : List ℕ)
+    (written grown : Option (List ℕ)) (before after : ℕ) : Type 0 where
   pub reply : Reply
   pub turns : Turns old line reply new
   pub writes : Appends written grown (reply_line reply)
+  pub spent : IsSpent old new (reply ∷ []) before after
 
-pub record AnswersInPart (old new : World) (line : List ℕ) (written grown : Option (List ℕ)) : Type 0 where
+pub record AnswersInPart (old new : State) (line : List ℕ)
+    (written grown : Option (List ℕ)) (before after : ℕ) : Type 0 where
   pub reply : Reply
   pub turns : Turns old line reply new
   pub writes : AppendsFront written grown (reply_line reply)
+  pub spent : IsSpent old new (reply ∷ []) before after
 
--- The same of several lines, where the world after a fault of the sink does not count.
-pub record AnswersLines (old new : World) (lines : List (List ℕ)) (written grown : Option (List ℕ)) : Type 0 where
+-- The same of several lines, where the state after a fault of the sink does not count.
+pub record AnswersLines (old new : State) (lines : List (List ℕ))
+    (written grown : Option (List ℕ)) (before after : ℕ) : Type 0 where
   pub replies : List Reply
   pub answers : Answers old lines replies new
   pub writes : Appends written grown (output replies)
+  pub spent : IsSpent old new replies before after
 
-pub record AnswersLinesInPart (old : World) (lines : List (List ℕ)) (written grown : Option (List ℕ)) : Type 0 where
+pub record AnswersLinesInPart (old : State) (lines : List (List ℕ))
+    (written grown : Option (List ℕ)) (before after : ℕ) : Type 0 where
   pub replies : List Reply
-  pub world : World
-  pub answers : Answers old lines replies world
+  pub state : State
+  pub answers : Answers old lines replies state
   pub writes : AppendsFront written grown (output replies)
+  pub spent : IsSpent old state replies before after

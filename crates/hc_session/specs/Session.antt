@@ -1,52 +1,109 @@
--- The session: what each line of a script is answered, and the world that it leaves. Our own choice.
-use Rattle.std.specs.Prelude.{◌≡◌, ◌⊎◌, ◌+◌, ◌≤◌, ℕ, List, [], ◌∷◌, length, take, Bool, true, false, Result, Ok, Err, codes}
-use Rattle.hc_base.specs.declared.codes.TheConstants.{BAD_COMMAND}
+-- The session: what each line of a script is answered, and what it leaves. Our own choice.
+use Rattle.std.specs.Prelude.{◌≡◌, ◌⊎◌, ◌+◌, ◌≤◌, ◌==◌, ℕ, List, [], ◌∷◌, length, take, Bool, true, false, if◌then◌else◌, is_some, Option, Some, None, Result, Ok, Err, codes}
+use Rattle.std.specs.FinMap.{empty}
+use Rattle.std.specs.Str.{bytes_eq}
+use Rattle.hc_base.specs.declared.codes.TheConstants.{PATH_FORM}
 use Rattle.hc_base.specs.declared.place.Refusal.{Refusal}
-use Rattle.hc_model.specs.World.{World, put as put_in}
-use Rattle.hc_config.specs.Configuration.{built}
-use Rattle.hc_include.specs.Flat.{flat_of}
-use Rattle.hc_world.specs.Edits.{listed}
+use Rattle.hc_cache.specs.Entries.{Entry, stored, value_of}
+use Rattle.hc_json.specs.Asked.{Question}
+use Rattle.hc_json.specs.Command.{Command, put, list, drop, edit, main, check, ask, stats, end, bad_line, command_of}
+use Rattle.hc_json.specs.Reply as reply
+use Rattle.hc_json.specs.Reply.{Reply, reply_line}
+use Rattle.hc_json.specs.Trail.{trailed_of}
+use Rattle.hc_json.specs.declared.reply.Done.{Done}
+use Rattle.hc_json.specs.declared.reply.Done.TheVariants as what
+use Rattle.hc_kept.specs.Site.{configuration}
+use Rattle.hc_model.specs.World.{World, is_path, new_world, put as put_in}
+use Rattle.hc_model.specs.declared.config.Config.{Config}
+use Rattle.hc_model.specs.declared.outcome.Outcome.{Outcome}
+use Rattle.hc_model.specs.declared.outcome.Outcome.TheVariants as outcome
 use Rattle.hc_model.specs.declared.request.Request.{Request}
+use Rattle.hc_model.specs.contracts.request.RequestPartialEq.TheImpl.{ghosts as requests}
 use Rattle.hc_serve.specs.Request.{received, reads_of, whole_run}
 use Rattle.hc_serve.specs.declared.answer.Answer.{Answer}
 use Rattle.hc_serve.specs.declared.answer.TheConstants.{LONGEST_TRAIL}
-use Rattle.hc_model.specs.declared.config.Config.{Config}
-use Rattle.hc_session.specs.Asked.{Question}
-use Rattle.hc_session.specs.Command.{Command, put, list, check, ask, command_of}
+use Rattle.hc_steps.specs.Step.{Path}
+use Rattle.hc_world.specs.Edits.{Edited, IsAccepted, dropped, lines_edited, listed}
+use Rattle.hc_session.specs.declared.limits.TheConstants.{FORBIDDEN, KEPT_ANSWERS}
+use Rattle.hc_session.specs.declared.stepped.Said.{Said}
+use Rattle.hc_session.specs.declared.stepped.Said.TheVariants as is
+use Rattle.hc_session.specs.declared.stepped.Stepped.{Stepped}
 use Rattle.std.specs.declared.alloc.AllocError.{AllocError as NoMemory}
-use Rattle.hc_session.specs.Reply.{Reply, done_put, done_list, configured, outcome, trailed, refused, no_memory, reply_line}
-use Rattle.hc_session.specs.Trail.{trailed_of}
 
--- The path of the main file.
-abbrev pub main_file : List ℕ
+-- ---- what a session has
+
+-- An answer that is kept, by its request.
+abbrev pub Kept : Type 0
+Kept = Entry Request Answer
+
+-- The files, the path of the main file, the answers that are kept, how many asks were answered with an outcome, how
+-- many of them were evaluated, and whether it has ended.
+pub record State : Type 0 where
+  pub world : Edited
+  pub main : Path
+  pub kept : List Kept
+  pub asks : ℕ
+  pub evaluations : ℕ
+  pub ended : Bool
+
+-- The path of the main file, until another is named.
+abbrev pub main_file : Path
 main_file = codes "/etc/httpd/conf/httpd.conf"
 
+abbrev pub start : State
+start = record {
+  world = record { files = new_world; edits = 0; changes = empty };
+  main = main_file;
+  kept = [];
+  asks = 0;
+  evaluations = 0;
+  ended = false;
+}
+
 -- The configuration that the present files give, or its first refusal.
-unfoldable pub configuration : World → Result Config Refusal
-configuration world = built (flat_of world main_file)
+abbrev pub present : State → Result Config Refusal
+present state = configuration state.world.files state.main
 
--- A refused command, with the field that is wrong. Its place is no file.
-abbrev pub bad_command : List ℕ → Refusal
-bad_command field = record { place = record { file = []; line = 0 }; code = BAD_COMMAND; at = 0; field = field }
+-- ---- a line that leaves the files as they are
 
--- A reply, and the world after it.
 pub record Turn : Type 0 where
   pub reply : Reply
-  pub world : World
+  pub state : State
 
--- A refused edit, by the rule that it breaks.
-abbrev pub bad_edit : ℕ → Refusal
-bad_edit code = record { place = record { file = []; line = 0 }; code = code; at = 0; field = [] }
+abbrev pub IsTurn : Turn → Reply → State → Type 0
+IsTurn turn said new = (said ≡ turn.reply) × (new ≡ turn.state)
 
-abbrev pub edit_turn : Reply → World → Result World ℕ → Turn
-edit_turn done world (Ok edited) = record { reply = done; world = edited }
-edit_turn done world (Err code) = record { reply = refused (bad_edit code); world = world }
+abbrev pub refusing : State → Refusal → Turn
+refusing state refusal = record { reply = reply.refused refusal; state = state }
+
+abbrev pub saying : State → Reply → Turn
+saying state said = record { reply = said; state = state }
 
 abbrev pub check_reply : Result Config Refusal → Reply
-check_reply (Ok found) = configured (length found.hosts)
-check_reply (Err refusal) = refused refusal
+check_reply (Ok found) = reply.configured (length found.hosts)
+check_reply (Err refusal) = reply.refused refusal
 
--- What a request receives, and how that came.
+abbrev pub check_turn : State → Turn
+check_turn state = saying state (check_reply (present state))
+
+abbrev pub stats_turn : State → Turn
+stats_turn state = saying state (reply.stats state.asks state.evaluations)
+
+abbrev pub end_turn : State → Turn
+end_turn state = saying (record state { ended = true }) (reply.done what.End)
+
+-- Another main file forgets the answers.
+abbrev pub with_main : State → Path → State
+with_main state path = if bytes_eq path state.main then state else record state { main = path; kept = [] }
+
+abbrev pub main_turn : State → Path → Turn
+main_turn state path =
+    if is_path path then saying (with_main state path) (reply.done what.Main)
+    else refusing state (bad_line PATH_FORM [])
+
+-- ---- an ask
+
+-- What a request receives of the present files, and how that came.
 abbrev pub answer_of : World → Config → Request → Answer
 answer_of world config request = record {
   outcome = received world config request;
@@ -57,66 +114,145 @@ answer_of world config request = record {
 
 -- The outcome alone, or with its trail.
 abbrev pub answer_reply : Bool → World → Answer → Reply
-answer_reply false world answer = outcome answer.outcome
-answer_reply true world answer = trailed (trailed_of world answer)
+answer_reply false world answer = reply.outcome answer.outcome
+answer_reply true world answer = reply.trailed (trailed_of world answer.outcome answer.events answer.reads answer.trail)
 
-abbrev pub ask_reply : World → Question → Result Config Refusal → Reply
-ask_reply world question (Ok config) = answer_reply question.trail world (answer_of world config question.request)
-ask_reply world question (Err refusal) = refused refusal
+abbrev pub same_request : Request → Request → Bool
+same_request = requests.eq
 
-abbrev pub turn_of : World → Result Command (List ℕ) → Turn
-turn_of world (Ok (put path text)) = edit_turn done_put world (put_in world path text)
-turn_of world (Ok (list path kind)) = edit_turn done_list world (listed world path kind)
-turn_of world (Ok check) = record { reply = check_reply (configuration world); world = world }
-turn_of world (Ok (ask question)) = record { reply = ask_reply world question (configuration world); world = world }
-turn_of world (Err field) = record { reply = refused (bad_command field); world = world }
+-- An answer to the same request is kept, and no later edit changed what it rests on.
+abbrev pub is_kept : State → Request → Bool
+is_kept state request = is_some (value_of same_request state.world request state.kept)
 
--- The one reply to a line in a world, and the world after it.
-abbrev pub turn : World → List ℕ → Turn
-turn world line = turn_of world (command_of line)
+-- An answer, as it is kept: its edits are all so far.
+abbrev pub kept_answer : Edited → Request → Answer → Kept
+kept_answer world request answer = record { key = request; reads = answer.reads; at = world.edits; value = answer }
 
--- ---- how often a request is evaluated
+abbrev pub served : State → State
+served state = record state { asks = state.asks + 1 }
 
-abbrev pub evaluations_under : Result Config Refusal → ℕ
-evaluations_under (Ok config) = 1
-evaluations_under (Err refusal) = 0
+abbrev pub evaluated : State → Request → Answer → State
+evaluated state request answer = record state {
+  kept = stored same_request KEPT_ANSWERS (kept_answer state.world request answer) state.kept;
+  asks = state.asks + 1;
+  evaluations = state.evaluations + 1;
+}
 
--- Once for each request that is asked about under a configuration.
-abbrev pub evaluations_of : World → Result Command (List ℕ) → ℕ
-evaluations_of world (Ok (ask question)) = evaluations_under (configuration world)
-evaluations_of world (Ok (put path text)) = 0
-evaluations_of world (Ok (list path kind)) = 0
-evaluations_of world (Ok check) = 0
-evaluations_of world (Err field) = 0
+abbrev pub asked : State → Request → Answer → State
+asked state request answer = if is_kept state request then served state else evaluated state request answer
 
-abbrev pub evaluations : World → List ℕ → ℕ
-evaluations world line = evaluations_of world (command_of line)
+-- The answer is that of the present files, whether it is kept or evaluated.
+abbrev pub answer_turn : State → Question → Answer → Turn
+answer_turn state question answer = record {
+  reply = answer_reply question.trail state.world.files answer;
+  state = asked state question.request answer;
+}
 
--- The counter has risen by just that; at most by that where no memory was found.
-abbrev pub Counts : {A : Type 0} → Result A NoMemory → ℕ → ℕ → ℕ → Type 0
-Counts (Ok made) count before after = after ≡ before + count
-Counts (Err _) count before after = (before ≤ after) × (after ≤ before + count)
+abbrev pub ask_turn : State → Question → Result Config Refusal → Turn
+ask_turn state question (Ok config) = answer_turn state question (answer_of state.world.files config question.request)
+ask_turn state question (Err refusal) = refusing state refusal
 
--- ---- replies
+-- ---- an edit
+
+-- One that is accepted leaves the files that it gives, and marks what it changed; a refused one leaves all.
+abbrev pub EditTurn : Done → State → Result World ℕ → Reply → State → Type 0
+EditTurn done old (Ok files) said new =
+    (said ≡ reply.done done) × (new ≡ record old { world = new.world })
+    × (new.world.files ≡ files) × IsAccepted old.world new.world
+EditTurn done old (Err code) said new = IsTurn (refusing old (bad_line code [])) said new
+
+-- ---- a line
+
+-- The one reply to a command, and what it leaves.
+abbrev pub CommandTurn : State → Result Command Refusal → Reply → State → Type 0
+CommandTurn old (Ok (put path text)) said new = EditTurn what.Put old (put_in old.world.files path text) said new
+CommandTurn old (Ok (list path kind)) said new = EditTurn what.ListPath old (listed old.world.files path kind) said new
+CommandTurn old (Ok (drop path)) said new = EditTurn what.DropPath old (dropped old.world.files path) said new
+CommandTurn old (Ok (edit path from to text)) said new =
+    EditTurn what.Edit old (lines_edited old.world.files path from to text) said new
+CommandTurn old (Ok (main path)) said new = IsTurn (main_turn old path) said new
+CommandTurn old (Ok check) said new = IsTurn (check_turn old) said new
+CommandTurn old (Ok (ask question)) said new = IsTurn (ask_turn old question (present old)) said new
+CommandTurn old (Ok stats) said new = IsTurn (stats_turn old) said new
+CommandTurn old (Ok end) said new = IsTurn (end_turn old) said new
+CommandTurn old (Err refusal) said new = IsTurn (refusing old refusal) said new
+
+abbrev pub LineTurn : State → List ℕ → Reply → State → Type 0
+LineTurn old line said new = CommandTurn old (command_of line) said new
 
 -- A line may be answered `no_memory`, with all as before; else it has its one reply.
-abbrev pub Turns : World → List ℕ → Reply → World → Type 0
-Turns old line reply new =
-    ((reply ≡ no_memory) × (new ≡ old))
-    ⊎ ((reply ≡ (turn old line).reply) × (new ≡ (turn old line).world))
+abbrev pub Turns : State → List ℕ → Reply → State → Type 0
+Turns old line said new = ((said ≡ reply.no_memory) × (new ≡ old)) ⊎ LineTurn old line said new
 
--- The session may give these replies to these lines, one after another, and leave this world.
-abbrev pub Answers : World → List (List ℕ) → List Reply → World → Type 0
-Answers old [] [] new = new ≡ old
-Answers old (line ∷ lines) (reply ∷ replies) new = (mid : World) × Turns old line reply mid × Answers mid lines replies new
-Answers old [] (reply ∷ replies) new = ⊥
-Answers old (line ∷ lines) [] new = ⊥
+-- The session may give these replies to these lines, one after another, and leave this state. Lines behind an `end`
+-- have none.
+abbrev pub Answers : State → List (List ℕ) → List Reply → State → Type 0
+Answers old [] replies new = (replies ≡ []) × (new ≡ old)
+Answers old (line ∷ lines) replies new =
+    ((old.ended ≡ true) × (replies ≡ []) × (new ≡ old))
+    ⊎ ((old.ended ≡ false) × (said : Reply) × (rest : List Reply) × (mid : State)
+    × (replies ≡ said ∷ rest) × Turns old line said mid × Answers mid lines rest new)
 
--- A call that gives the line of a reply has made this turn; where it finds no memory, all is as
+-- ---- a call
+
+-- What a summary counts of an outcome.
+abbrev pub said_of_outcome : Outcome → Said
+said_of_outcome (outcome.File path info) = is.File
+said_of_outcome outcome.NotFound = is.Missing
+said_of_outcome (outcome.Status status) = if status == FORBIDDEN then is.Denied else is.Other
+said_of_outcome other = is.Other
+
+abbrev pub said_of : Reply → Said
+said_of (reply.outcome outcome) = said_of_outcome outcome
+said_of (reply.trailed answer) = said_of_outcome answer.outcome
+said_of other = is.Other
+
+abbrev pub is_no_memory : Reply → Bool
+is_no_memory reply.no_memory = true
+is_no_memory other = false
+
+-- What is given for a reply: its line, and what a summary counts of it.
+pub record Says (said : Reply) (stepped : Stepped) : Type 0 where
+  pub line : stepped.line ≡ reply_line said
+  pub counted : stepped.said ≡ said_of said
+  pub answers : is_no_memory said ≡ false
+
+-- A call gives what a reply is that may come so, and leaves what that leaves; where it finds no memory, all is as
 -- before.
-abbrev pub TurnedInto : Result (List ℕ) NoMemory → World → Turn → World → Type 0
-TurnedInto (Ok printed) old made new = (printed ≡ reply_line made.reply) × (new ≡ made.world)
-TurnedInto (Err _) old made new = new ≡ old
+abbrev pub Gave : Result Stepped NoMemory → (Reply → State → Type 0) → State → State → Type 0
+Gave (Ok stepped) turn old new = (said : Reply) × Says said stepped × turn said new
+Gave (Err _) turn old new = new ≡ old
 
-abbrev pub Turned : Result (List ℕ) NoMemory → World → List ℕ → World → Type 0
-Turned result old line new = TurnedInto result old (turn old line) new
+abbrev pub StepTurn : Result Stepped NoMemory → State → List ℕ → State → Type 0
+StepTurn result old line new = Gave result (LineTurn old line) old new
+
+-- Which lines read no file: all but a `check` and an `ask` that has to be evaluated.
+abbrev pub reads_nothing : State → Result Command Refusal → Bool
+reads_nothing state (Ok check) = false
+reads_nothing state (Ok (ask question)) = is_kept state question.request
+reads_nothing state other = true
+
+-- ---- an ask in two parts
+
+-- One whose answer is kept, or none.
+abbrev pub kept_turn : State → Request → Bool → Option Stepped → Type 0
+kept_turn state request trail None = is_kept state request ≡ false
+kept_turn state request trail (Some stepped) =
+    (is_kept state request ≡ true)
+    × (config : Config) × (present state ≡ Ok config)
+    × Says (answer_reply trail state.world.files (answer_of state.world.files config request)) stepped
+
+-- One that is evaluated.
+abbrev pub evaluated_turn : State → Request → Bool → Answer → Turn
+evaluated_turn state request trail answer =
+    saying (evaluated state request answer) (answer_reply trail state.world.files answer)
+
+abbrev pub new_turn : State → Request → Bool → Result Config Refusal → Turn
+new_turn state request trail (Ok config) = evaluated_turn state request trail (answer_of state.world.files config request)
+new_turn state request trail (Err refusal) = refusing state refusal
+
+-- The counter rises as the evaluations do; where no memory was found, by one at most.
+abbrev pub Counts : {A : Type 0} → Result A NoMemory → State → State → ℕ → ℕ → Type 0
+Counts (Ok made) old new before after =
+    (before ≤ after) × (after + old.evaluations ≡ before + new.evaluations)
+Counts (Err _) old new before after = (before ≤ after) × (after ≤ before + 1)

@@ -3,7 +3,7 @@ ghost use Rattle.std.specs.Prelude.{[], IfOk, OnErr, length};
 ghost use Rattle.std.specs.Io.KnownBytes.{Consumes, Keeps, IsAtEnd};
 ghost use Rattle.hc_base.specs.Faults.{HasCause};
 ghost use Rattle.hc_session.specs.Conversation.{Served, Completes, status_at_end};
-ghost use Rattle.hc_model.specs.World.{new_world};
+ghost use Rattle.hc_session.specs.Session.{start};
 
 use crate::limits::{CHUNK, LINE_LIMIT, SCRIPT_LIMIT};
 use crate::line_buffer::LineBuffer;
@@ -14,10 +14,10 @@ use hc_base::{Failed, NoMemory, Sink, Source, Steps};
 use std::alloc::Global;
 use std::sync::ledger::Ledger;
 
-/// Serves a source: answers each of its lines by a line to the sink, until the source ends. All
-/// that takes memory first (a line buffer of 16 MiB) is taken before the first byte is read.
-/// `evals` rises by one for each request that is evaluated, and `bytes` by the bytes of the
-/// configuration texts that are read.
+/// Serves a source: answers each of its lines by a line to the sink, until an `end` is answered, the
+/// source ends, or a line or the script reaches its limit. All that takes memory first (a line
+/// buffer of 16 MiB) is taken before the first byte is read. `evals` rises by one for each request
+/// that is evaluated, and `bytes` by the bytes of the configuration texts that are read.
 pub fn serve_session<S: Source, K: Sink, E: Ledger, B: Ledger>(
     alloc: Global,
     source: &mut S,
@@ -35,9 +35,11 @@ pub fn serve_session<S: Source, K: Sink, E: Ledger, B: Ledger>(
         → Completes (S.left source.old) (K.written sink.old) (K.written sink.new) result }
 
     // In every case what was written is a front of the replies to the whole lines taken, and all
-    // of them unless the sink failed.
+    // of them unless the sink failed; and `evals` has risen by no more than the evaluations that
+    // they count, and by one for each `no_memory`.
     ensures served { result ≢ Status.NoMemory
-        → Served (S.left source.old) (S.left source.new) (K.written sink.old) (K.written sink.new) result }
+        → Served (S.left source.old) (S.left source.new)
+        (K.written sink.old) (K.written sink.new) evals.old evals.new result }
 
     ensures words { result ≢ Status.Words }
     ensures read_fault { result ≡ Status.ReadFault → S.faults source.old < S.faults source.new }
@@ -45,7 +47,14 @@ pub fn serve_session<S: Source, K: Sink, E: Ledger, B: Ledger>(
     ensures untouched { result ≡ Status.NoMemory → (source.new ≡ source.old) × (sink.new ≡ sink.old) }
 {
     match Desk::new(alloc) {
-        Ok(desk) => serve(desk, source, sink, evals, bytes),
+        Ok(mut desk) => serve(
+            &mut desk.session,
+            &mut desk.line,
+            source,
+            sink,
+            evals,
+            bytes,
+        ),
         Err(NoMemory) => Status::NoMemory,
     }
 }
@@ -59,7 +68,7 @@ struct Desk {
 
 impl Desk {
     fn new(alloc: Global) -> Result<Desk, NoMemory>
-        ensures session { IfOk result (λ desk. desk.session ≡ new_world) }
+        ensures session { IfOk result (λ desk. desk.session ≡ start) }
         ensures line { IfOk result (λ desk. desk.line ≡ []) }
     {
         Ok(Desk {
@@ -70,24 +79,22 @@ impl Desk {
 }
 
 fn serve<S: Source, K: Sink, E: Ledger, B: Ledger>(
-    desk: Desk,
+    session: &mut Session,
+    line: &mut LineBuffer,
     source: &mut S,
     sink: &mut K,
     evals: &mut Steps<E>,
     bytes: &mut Steps<B>,
 ) -> Status
-    requires session { desk.session ≡ new_world }
-    requires line { desk.line ≡ [] }
+    requires session { session.old ≡ start }
+    requires line { line.old ≡ [] }
     requires source_counts { S.faults source.old < 2 ^ 64 - 1 }
     requires sink_counts { K.faults sink.old < 2 ^ 64 - 1 }
-    ensures served { Served (S.left source.old) (S.left source.new) (K.written sink.old) (K.written sink.new) result }
+    ensures served { Served (S.left source.old) (S.left source.new)
+        (K.written sink.old) (K.written sink.new) evals.old evals.new result }
     ensures read_fault { result ≡ Status.ReadFault → S.faults source.old < S.faults source.new }
     ensures write_fault { result ≡ Status.WriteFault → K.faults sink.old < K.faults sink.new }
 {
-    let Desk {
-        mut session,
-        mut line,
-    } = desk;
     let mut chunk = [0u8; CHUNK];
     let mut taken = 0usize;
     'reads: while line.len() < LINE_LIMIT && taken < SCRIPT_LIMIT {
@@ -96,14 +103,21 @@ fn serve<S: Source, K: Sink, E: Ledger, B: Ledger>(
             return Status::ReadFault;
         };
         if piece.is_empty() {
-            return end_of_input(&line);
+            return end_of_input(line);
         }
         taken += piece.len();
-        let Ok(()) = answer_lines(&mut session, &mut line, piece, sink, evals, bytes) else {
+        let Ok(()) = answer_lines(session, line, piece, sink, evals, bytes) else {
             return Status::WriteFault;
         };
+        if session.has_ended() {
+            return Status::Done;
+        }
     }
-    Status::CutLine
+    if line.len() < LINE_LIMIT {
+        Status::ScriptTooLong
+    } else {
+        Status::LineTooLong
+    }
 }
 
 // How an input ends behind these bytes of its last line.

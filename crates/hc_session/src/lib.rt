@@ -1,21 +1,20 @@
-//! An open session: a world of files, which lines of a script edit and ask about, and the loop that
-//! serves a source of lines.
+//! An open session: a world of files, which lines of a script edit and ask about, what is kept of what was read and
+//! answered, and the loop that serves a source of lines.
 #![tactic(auto)]
 
-mod asked;
-mod command;
+mod asking;
+mod changes;
 mod conversation;
-mod fields;
-mod forms;
-mod headers;
 mod limits;
 mod line_buffer;
-mod reply;
+mod replies;
 mod serve;
 mod session;
 mod status;
-mod trail;
+mod stepped;
 
 pub use conversation::serve_session;
+pub use serve::send;
 pub use session::{MAIN_FILE, Session};
 pub use status::Status;
+pub use stepped::{Said, Stepped};

@@ -6,3 +6,9 @@ pub const SCRIPT_LIMIT: usize = 1_073_741_824;
 
 /// At most so many bytes are read at once.
 pub const CHUNK: usize = 16_384;
+
+/// At most so many answers are kept.
+pub const KEPT_ANSWERS: usize = 4096;
+
+/// The status of a request that is forbidden.
+pub const FORBIDDEN: u16 = 403;

@@ -1,4 +1,4 @@
-ghost use Rattle.std.specs.Prelude.{◌≡◌, ◌+◌, ◌≤◌, ◌++◌, length, OnOk, OnErr};
+ghost use Rattle.std.specs.Prelude.{◌≡◌, ◌+◌, ◌≤◌, ◌++◌, length, false, OnOk, OnErr};
 ghost use Rattle.std.specs.Io.KnownBytes.{Appends};
 ghost use Rattle.hc_base.specs.Faults.{HasCause};
 ghost use Rattle.hc_base.specs.Lines.{whole_lines, rest_of};
@@ -13,8 +13,8 @@ use std::sync::ledger::Ledger;
 
 const NO_MEMORY_LINE: &[u8] = b"{\"no_memory\":true}\n";
 
-// Writes a piece; what a call doesn't take goes to the next call.
-fn send<K: Sink>(sink: &mut K, piece: &[u8]) -> Result<(), Failed>
+/// Writes a piece; what a call doesn't take goes to the next call.
+pub fn send<K: Sink>(sink: &mut K, piece: &[u8]) -> Result<(), Failed>
     ensures ok { OnOk result (Appends (K.written sink.old) (K.written sink.new) piece.now) }
     ensures err { OnErr result (AppendsFront (K.written sink.old) (K.written sink.new) piece.now) }
     ensures cause { HasCause (K.faults sink.old) (K.faults sink.new) result }
@@ -35,19 +35,20 @@ fn answer_line<K: Sink, E: Ledger, L: Ledger>(
     evals: &mut Steps<E>,
     bytes: &mut Steps<L>,
 ) -> Result<(), Failed>
-    ensures ok { OnOk result (AnswersLine session.old session.new line.now (K.written sink.old) (K.written sink.new)) }
-    ensures err { OnErr result
-        (AnswersInPart session.old session.new line.now (K.written sink.old) (K.written sink.new)) }
+    ensures ok { OnOk result (AnswersLine session.old session.new line.now
+        (K.written sink.old) (K.written sink.new) evals.old evals.new) }
+    ensures err { OnErr result (AnswersInPart session.old session.new line.now
+        (K.written sink.old) (K.written sink.new) evals.old evals.new) }
     ensures cause { HasCause (K.faults sink.old) (K.faults sink.new) result }
 {
     match session.step(line, evals, bytes) {
-        Ok(printed) => send(sink, printed.as_bytes()),
+        Ok(stepped) => send(sink, stepped.line.as_bytes()),
         Err(NoMemory) => send(sink, NO_MEMORY_LINE),
     }
 }
 
-// Answers each line that these bytes end. `line` has the bytes of a line that has not ended, and
-// has those of the next one afterwards.
+// Answers each line that these bytes end, up to an `end`. `line` has the bytes of a line that has
+// not ended, and has those of the next one afterwards, unless the session has ended.
 pub(crate) fn answer_lines<K: Sink, E: Ledger, L: Ledger>(
     session: &mut Session,
     line: &mut LineBuffer,
@@ -56,13 +57,14 @@ pub(crate) fn answer_lines<K: Sink, E: Ledger, L: Ledger>(
     evals: &mut Steps<E>,
     bytes: &mut Steps<L>,
 ) -> Result<(), Failed>
+    requires going { session.old.ended ≡ false }
     requires unended { rest_of line.old ≡ line.old }
     requires room { length line.old + length piece.now ≤ LINE_LIMIT }
     ensures ok { OnOk result (AnswersLines session.old session.new
-        (whole_lines (line.old ++ piece.now)) (K.written sink.old) (K.written sink.new)) }
+        (whole_lines (line.old ++ piece.now)) (K.written sink.old) (K.written sink.new) evals.old evals.new) }
     ensures err { OnErr result (AnswersLinesInPart session.old
-        (whole_lines (line.old ++ piece.now)) (K.written sink.old) (K.written sink.new)) }
-    ensures rest { OnOk result (line.new ≡ rest_of (line.old ++ piece.now)) }
+        (whole_lines (line.old ++ piece.now)) (K.written sink.old) (K.written sink.new) evals.old evals.new) }
+    ensures rest { OnOk result (session.new.ended ≡ false → line.new ≡ rest_of (line.old ++ piece.now)) }
     ensures cause { HasCause (K.faults sink.old) (K.faults sink.new) result }
 {
     let mut rest = piece;
@@ -70,6 +72,9 @@ pub(crate) fn answer_lines<K: Sink, E: Ledger, L: Ledger>(
         let (front, behind) = rest.split_at(end);
         line.extend(front);
         answer_line(session, line.as_slice(), sink, evals, bytes)?;
+        if session.has_ended() {
+            return Ok(());
+        }
         line.clear();
         rest = behind.split_at(1).1;
     }

@@ -1,250 +1,296 @@
-ghost use Rattle.std.specs.Prelude.{◌≡◌, true, IfOk};
-ghost use Rattle.std.specs.Option.{option_map};
-ghost use Rattle.serde_json.specs.View.{view};
-ghost use Rattle.hc_model.specs.World.{new_world, put as put_in};
-ghost use Rattle.hc_base.specs.Gives.{Gives};
+ghost use Rattle.std.specs.Prelude.{◌≡◌, ◌<◌, ◌-◌, ◌^◌, Some, true, IfOk};
 ghost use Rattle.hc_base.specs.Paths.{begins_with_slash};
-ghost use Rattle.hc_session.specs.Command.{command_of_json};
-ghost use Rattle.hc_session.specs.CommandView.{IsAskable, question_view, read_view, request_view};
-ghost use Rattle.hc_session.specs.Reply.{done_list, done_put, refused, reply_line};
-ghost use Rattle.hc_session.specs.Session.{Counts, Turned, TurnedInto, answer_of, answer_reply, ask_reply};
-ghost use Rattle.hc_session.specs.Session.{bad_command, bad_edit};
-ghost use Rattle.hc_session.specs.Session.{check_reply, configuration, edit_turn, evaluations, evaluations_under};
-ghost use Rattle.hc_world.specs.Edits.{listed};
+ghost use Rattle.hc_json.specs.Command.{command_of};
+ghost use Rattle.hc_json.specs.CommandView.{question_view, request_view};
+ghost use Rattle.hc_session.specs.Changes.{changed_by, done_of};
+ghost use Rattle.hc_session.specs.Session.{Counts, EditTurn, Gave, IsTurn, StepTurn, ask_turn};
+ghost use Rattle.hc_session.specs.Session.{check_turn, end_turn, evaluated_turn, is_kept, kept_turn};
+ghost use Rattle.hc_session.specs.Session.{main_turn, new_turn, present, reads_nothing, start, stats_turn};
+ghost use Rattle.hc_session.specs.Sound.{IsAnswerOf, IsSite};
 
-use crate::asked::Asked;
-use crate::command::{Command, parse, read_command};
-use crate::fields::BadField;
-use crate::reply::{Reply, print_reply};
-use crate::trail::print_trailed;
-use hc_base::codes::BAD_COMMAND;
-use hc_base::{Fault, NoMemory, Place, Refusal, Steps, Text};
-use hc_config::{BuildFault, build};
-use hc_htaccess::PlainOverrides;
-use hc_include::flatten;
-use hc_model::Config;
-use hc_serve::{Answer, evaluate};
-use hc_world::{ListKind, World};
-use serde_json::Value;
+use crate::asking::find_answer;
+use crate::changes::{Change, done_of, make};
+use crate::limits::KEPT_ANSWERS;
+use crate::replies::{answered, checked, no_command, refused, refusing, replied};
+use crate::stepped::Stepped;
+use hc_base::codes::PATH_FORM;
+use hc_base::{Fault, NoMemory, Steps, Text};
+use hc_cache::Cache;
+use hc_json::{Asked, Command, Done, Reply, command_in, parse};
+use hc_kept::Site;
+use hc_model::Request;
+use hc_serve::Answer;
+use hc_world::{World, is_path};
 use std::alloc::Global;
 use std::marker::Model;
 use std::sync::ledger::Ledger;
 
-/// The path of the main file.
+/// The path of the main file, until another is named.
 pub const MAIN_FILE: &str = "/etc/httpd/conf/httpd.conf";
 
-/// An open session: a world of files, which lines edit and ask about.
+/// An open session: a world of files, which lines edit and ask about, and what is kept of what was read and
+/// answered.
 #[derive(Drop)]
 pub struct Session {
     alloc: Global,
     world: World,
+    main: Text,
+    answers: Cache<Request, Answer>,
+    site: Option<Site>,
+    asks: u64,
+    evaluations: u64,
+    ended: bool,
 }
 
 impl Model for Session {
-    ghost use Rattle.hc_model.specs.World.{World, world_code};
+    ghost use Rattle.std.specs.Coded.{codes};
+    ghost use Rattle.hc_model.specs.contracts.read.Read as d;
+    ghost use Rattle.hc_model.specs.contracts.request.Request as r;
+    ghost use Rattle.hc_serve.specs.contracts.answer.Answer as a;
+    ghost use Rattle.hc_world.specs.Edits.{edited_code};
+    ghost use Rattle.hc_session.specs.Session.{State};
 
-    ghost Value = { World };
+    ghost Value = { State };
 
-    ghost coded = { world_code };
+    ghost coded = { Prim.hlevel (codes, edited_code, a.the_row.coded, d.the_row.coded, r.the_row.coded) };
 
-    ghost view = { λ s. s.world.files };
+    ghost use Rattle.hc_session.specs.Inside.{state_of, IsWhole};
+
+    ghost view = { state_of };
+
+    ghost invariant = { IsWhole };
 }
 
 impl Session {
     /// A session whose world has the root alone.
     pub fn new(alloc: Global) -> Result<Session, NoMemory>
-        ensures { IfOk result (λ session. session ≡ new_world) }
+        ensures { IfOk result (λ session. session ≡ start) }
     {
         Ok(Session {
             alloc,
             world: World::new(alloc)?,
+            main: Text::copy_of(alloc, MAIN_FILE.as_bytes())?,
+            answers: Cache::new(alloc, KEPT_ANSWERS),
+            site: None,
+            asks: 0,
+            evaluations: 0,
+            ended: false,
         })
     }
 
-    /// Answers a line with the line of its reply. Want of memory leaves all as before. `evals` rises
-    /// by one where a request is evaluated, and `bytes` by the bytes of the configuration texts that
-    /// are read.
+    /// Whether an `end` was answered.
+    pub fn has_ended(&self) -> bool
+        ensures { result ≡ self.now.ended }
+    {
+        self.ended
+    }
+
+    /// How many asks were answered with an outcome.
+    pub fn asks(&self) -> u64
+        ensures { result ≡ self.now.asks }
+    {
+        self.asks
+    }
+
+    /// How many of them were evaluated.
+    pub fn evaluations(&self) -> u64
+        ensures { result ≡ self.now.evaluations }
+    {
+        self.evaluations
+    }
+
+    /// Answers a line with the line of its reply. Want of memory leaves all as before. `evals` rises by one where a
+    /// request is evaluated, and `bytes` by the bytes of the configuration texts that are read.
     pub fn step<E: Ledger, L: Ledger>(
         &mut self,
         line: &[u8],
         evals: &mut Steps<E>,
         bytes: &mut Steps<L>,
-    ) -> Result<Text, NoMemory>
-        ensures turned { Turned result self.old line.now self.new }
-        ensures evals { Counts result (evaluations self.old line.now) evals.old evals.new }
+    ) -> Result<Stepped, NoMemory>
+        ensures turned { StepTurn result self.old line.now self.new }
+        ensures evals { Counts result self.old self.new evals.old evals.new }
+        ensures idle { reads_nothing self.old (command_of line.now) ≡ true → bytes.new ≡ bytes.old }
     {
         let value = parse(self.alloc, line)?;
         match command_in(&value) {
-            Ok(Command::Put { path, text }) => self.put(path, text),
-            Ok(Command::ListPath { path, kind }) => self.list(path, kind),
+            Ok(Command::Put { path, text }) => self.edit(Change::Put { path, text }),
+            Ok(Command::ListPath { path, kind }) => self.edit(Change::ListPath { path, kind }),
+            Ok(Command::DropPath { path }) => self.edit(Change::DropPath { path }),
+            Ok(
+                Command::Edit {
+                    path,
+                    from,
+                    to,
+                    text,
+                },
+            ) => self.edit(Change::Edit {
+                path,
+                from,
+                to,
+                text,
+            }),
+            Ok(Command::Main { path }) => self.name_main(path),
             Ok(Command::Check) => self.check(bytes),
             Ok(Command::Ask(asked)) => self.ask(&asked, evals, bytes),
-            Err(BadField(field)) => refuse(self.alloc, field),
+            Ok(Command::Stats) => self.stats(),
+            Ok(Command::End) => self.end(),
+            Err(why) => no_command(self.alloc, why),
         }
     }
 
-    // Puts a file. The reply is printed first, so that nothing has changed where it finds no memory.
-    // A world that has counted its last edit is no longer edited: this is answered as no memory is.
-    fn put(&mut self, path: &str, text: &str) -> Result<Text, NoMemory>
-        ensures { TurnedInto result self.old
-            (edit_turn done_put self.old (put_in self.old path.now text.now)) self.new }
+    // Edits the files. The reply is printed first, so that nothing has changed where it finds no memory. A world that
+    // has counted its last edit is no longer edited: this is answered as no memory is.
+    fn edit(&mut self, edit: Change<'_>) -> Result<Stepped, NoMemory>
+        ensures turned { Gave result (EditTurn (done_of edit.entry) self.old
+            (changed_by self.old.world.files edit.entry)) self.old self.new }
+        ensures evaluations { self.new.evaluations ≡ self.old.evaluations }
     {
         if self.world.edits() == u64::MAX {
             return Err(NoMemory);
         }
-        let done = print_reply(self.alloc, &Reply::DonePut)?;
-        match self.world.put(path.as_bytes(), text) {
+        let done = replied(self.alloc, &Reply::Done(done_of(edit)))?;
+        match make(&mut self.world, edit) {
             Ok(()) => Ok(done),
-            Err(Fault::Refused(code)) => refuse_edit(self.alloc, code),
+            Err(Fault::Refused(code)) => refused(self.alloc, code),
             Err(Fault::NoMemory) => Err(NoMemory),
         }
     }
 
-    // Lists a path, as `put` puts a file.
-    fn list(&mut self, path: &str, kind: ListKind) -> Result<Text, NoMemory>
-        ensures { TurnedInto result self.old (edit_turn done_list self.old (listed self.old path.now kind)) self.new }
+    // Names the main file. Another one forgets the answers.
+    fn name_main(&mut self, path: &str) -> Result<Stepped, NoMemory>
+        ensures turned { Gave result (IsTurn (main_turn self.old path.now)) self.old self.new }
+        ensures evaluations { self.new.evaluations ≡ self.old.evaluations }
     {
-        if self.world.edits() == u64::MAX {
-            return Err(NoMemory);
+        if !is_path(path.as_bytes()) {
+            return refused(self.alloc, PATH_FORM);
         }
-        let done = print_reply(self.alloc, &Reply::DoneList)?;
-        match self.world.list(path.as_bytes(), kind) {
-            Ok(()) => Ok(done),
-            Err(Fault::Refused(code)) => refuse_edit(self.alloc, code),
-            Err(Fault::NoMemory) => Err(NoMemory),
+        let done = replied(self.alloc, &Reply::Done(Done::Main))?;
+        if path.as_bytes() != self.main.as_bytes() {
+            self.main = Text::copy_of(self.alloc, path.as_bytes())?;
+            self.answers.clear();
+            self.site = None;
         }
+        Ok(done)
     }
 
-    fn check<L: Ledger>(&self, bytes: &mut Steps<L>) -> Result<Text, NoMemory>
-        ensures { IfOk result (λ line. line ≡ reply_line (check_reply (configuration self.now))) }
+    fn stats(&self) -> Result<Stepped, NoMemory>
+        ensures { Gave result (IsTurn (stats_turn self.now)) self.now self.now }
     {
-        let reply = match self.config(bytes) {
-            Ok(config) => Reply::Config(config.hosts.as_slice().len()),
-            Err(Fault::Refused(refusal)) => Reply::Refused(refusal),
-            Err(Fault::NoMemory) => return Err(NoMemory),
-        };
-        print_reply(self.alloc, &reply)
+        replied(
+            self.alloc,
+            &Reply::Stats {
+                asks: self.asks,
+                evaluations: self.evaluations,
+            },
+        )
+    }
+
+    fn end(&mut self) -> Result<Stepped, NoMemory>
+        ensures { Gave result (IsTurn (end_turn self.old)) self.old self.new }
+    {
+        let done = replied(self.alloc, &Reply::Done(Done::End))?;
+        self.ended = true;
+        Ok(done)
+    }
+
+    fn check<L: Ledger>(&mut self, bytes: &mut Steps<L>) -> Result<Stepped, NoMemory>
+        ensures { Gave result (IsTurn (check_turn self.old)) self.old self.new }
+    {
+        let site = self.take_site(bytes)?;
+        let stepped = checked(self.alloc, &site.built);
+        put_back(&mut self.site, site);
+        stepped
     }
 
     fn ask<E: Ledger, L: Ledger>(
-        &self,
+        &mut self,
         asked: &Asked<'_>,
         evals: &mut Steps<E>,
         bytes: &mut Steps<L>,
-    ) -> Result<Text, NoMemory>
+    ) -> Result<Stepped, NoMemory>
         requires { begins_with_slash asked.now.target.now ≡ true }
-        ensures line { IfOk result
-            (λ line. line ≡ reply_line (ask_reply self.now (question_view asked.now) (configuration self.now))) }
-        ensures evals { Counts result (evaluations_under (configuration self.now)) evals.old evals.new }
+        ensures turned { Gave result (IsTurn (ask_turn self.old (question_view asked.now) (present self.old)))
+            self.old self.new }
+        ensures evals { Counts result self.old self.new evals.old evals.new }
+        ensures idle { is_kept self.old (request_view asked.now) ≡ true → bytes.new ≡ bytes.old }
     {
-        match self.config(bytes) {
-            Ok(config) => self.ask_under(&config, asked, evals, bytes),
-            Err(Fault::Refused(refusal)) => print_reply(self.alloc, &Reply::Refused(refusal)),
-            Err(Fault::NoMemory) => Err(NoMemory),
+        if self.asks == u64::MAX || self.evaluations == u64::MAX {
+            return Err(NoMemory);
         }
-    }
-
-    fn ask_under<E: Ledger, L: Ledger>(
-        &self,
-        config: &Config,
-        asked: &Asked<'_>,
-        evals: &mut Steps<E>,
-        bytes: &mut Steps<L>,
-    ) -> Result<Text, NoMemory>
-        requires { begins_with_slash asked.now.target.now ≡ true }
-        ensures line { IfOk result (λ line. line ≡ reply_line
-            (answer_reply asked.now.trail self.now (answer_of self.now config.now (request_view asked.now)))) }
-        ensures evals { Counts result 1 evals.old evals.new }
-    {
-        let answer = self.answer(config, asked, evals, bytes)?;
-        self.print_answer(asked.trail, answer)
-    }
-
-    // What a request receives, and how that came. The `.htaccess` files of its walk are read anew.
-    fn answer<E: Ledger, L: Ledger>(
-        &self,
-        config: &Config,
-        asked: &Asked<'_>,
-        evals: &mut Steps<E>,
-        bytes: &mut Steps<L>,
-    ) -> Result<Answer, NoMemory>
-        requires { begins_with_slash asked.now.target.now ≡ true }
-        ensures answer { IfOk result
-            (λ answer. answer ≡ answer_of self.now config.now (request_view asked.now)) }
-        ensures evals { Counts result 1 evals.old evals.new }
-    {
         let request = asked.to_request(self.alloc)?;
-        let mut over = PlainOverrides::new(self.alloc, config, &self.world, bytes);
-        evaluate(self.alloc, config, &self.world, &mut over, &request, evals)
-    }
-
-    // The outcome alone, or with its trail.
-    fn print_answer(&self, trail: bool, answer: Answer) -> Result<Text, NoMemory>
-        ensures { IfOk result (λ line. line ≡ reply_line (answer_reply trail self.now answer)) }
-    {
-        if trail {
-            print_trailed(self.alloc, &self.world, &answer)
-        } else {
-            print_reply(self.alloc, &Reply::Outcome(answer.outcome))
+        match self.kept(&request, asked.trail)? {
+            Some(stepped) => {
+                self.asks += 1;
+                Ok(stepped)
+            }
+            None => self.ask_anew(request, asked.trail, evals, bytes),
         }
     }
 
-    // The configuration, read anew.
-    #[tactic(auto, unfolding(crate::specs::Session::configuration))]
-    fn config<L: Ledger>(&self, bytes: &mut Steps<L>) -> Result<Config, BuildFault>
-        ensures { Gives result (configuration self.now) }
+    // The answer to a request that is kept, and rests on nothing that has changed.
+    fn kept(&self, request: &Request, trail: bool) -> Result<Option<Stepped>, NoMemory>
+        ensures { IfOk result (kept_turn self.now request.now trail) }
     {
-        match flatten(self.alloc, &self.world, MAIN_FILE.as_bytes(), bytes) {
-            Ok(flat) => build(self.alloc, &flat),
-            Err(NoMemory) => Err(Fault::NoMemory),
+        match self.answers.find_valid(request, &self.world) {
+            Some(answer) => Ok(Some(answered(self.alloc, &self.world, trail, answer)?)),
+            None => Ok(None),
         }
     }
-}
 
-// The command of a line, where the line is JSON.
-fn command_in(value: &Option<Value>) -> Result<Command<'_>, BadField<'_>>
-    ensures command { read_view result ≡ command_of_json (option_map view value.now) }
-    ensures askable { IfOk result IsAskable }
-{
-    match value {
-        Some(value) => read_command(value),
-        None => Err(BadField("do")),
+    // An ask whose answer is not kept.
+    fn ask_anew<E: Ledger, L: Ledger>(
+        &mut self,
+        request: Request,
+        trail: bool,
+        evals: &mut Steps<E>,
+        bytes: &mut Steps<L>,
+    ) -> Result<Stepped, NoMemory>
+        requires slash { begins_with_slash request.target ≡ true }
+        requires asks { self.old.asks < 2 ^ 64 - 1 }
+        requires evaluations { self.old.evaluations < 2 ^ 64 - 1 }
+        ensures turned { Gave result (IsTurn (new_turn self.old request trail (present self.old))) self.old self.new }
+        ensures evals { Counts result self.old self.new evals.old evals.new }
+    {
+        let mut site = self.take_site(bytes)?;
+        let found = find_answer(self.alloc, &self.world, &mut site, &request, evals, bytes);
+        put_back(&mut self.site, site);
+        match found? {
+            Ok(answer) => self.keep(request, trail, answer),
+            Err(refusal) => refusing(self.alloc, &refusal),
+        }
+    }
+
+    // What the main file is read as: what was read of it while that stands, or else read anew.
+    fn take_site<L: Ledger>(&mut self, bytes: &mut Steps<L>) -> Result<Site, NoMemory>
+        ensures same { self.new ≡ self.old }
+        ensures site { IfOk result (IsSite self.old.world self.old.main) }
+        ensures built { IfOk result (λ site. site.built ≡ present self.old) }
+    {
+        match self.site.take() {
+            Some(site) if site.is_current(&self.world) => Ok(site),
+            _ => Site::read(self.alloc, &self.world, self.main.as_bytes(), bytes),
+        }
+    }
+
+    // Replies with the answer to a request, keeps it, and counts the ask and the evaluation.
+    fn keep(&mut self, request: Request, trail: bool, answer: Answer) -> Result<Stepped, NoMemory>
+        requires asks { self.old.asks < 2 ^ 64 - 1 }
+        requires evaluations { self.old.evaluations < 2 ^ 64 - 1 }
+        requires present { IsAnswerOf self.old.world self.old.main request answer }
+        ensures { Gave result (IsTurn (evaluated_turn self.old request trail answer)) self.old self.new }
+    {
+        let stepped = answered(self.alloc, &self.world, trail, &answer)?;
+        let reads = answer.reads.copy()?;
+        self.answers
+            .store(request, reads, self.world.edits(), answer)?;
+        self.asks += 1;
+        self.evaluations += 1;
+        Ok(stepped)
     }
 }
 
-// The line that refuses a command for one of its fields.
-fn refuse(alloc: Global, field: &str) -> Result<Text, NoMemory>
-    ensures { IfOk result (λ line. line ≡ reply_line (refused (bad_command field.now))) }
+fn put_back(slot: &mut Option<Site>, site: Site)
+    ensures { slot.new ≡ Some site }
 {
-    print_reply(alloc, &Reply::Refused(bad_command(alloc, field)?))
-}
-
-// The line that refuses an edit for the rule that it breaks.
-fn refuse_edit(alloc: Global, code: u8) -> Result<Text, NoMemory>
-    ensures { IfOk result (λ line. line ≡ reply_line (refused (bad_edit code))) }
-{
-    let refusal = Refusal {
-        place: Place {
-            file: Text::new(alloc),
-            line: 0,
-        },
-        code,
-        at: 0,
-        field: Text::new(alloc),
-    };
-    print_reply(alloc, &Reply::Refused(refusal))
-}
-
-fn bad_command(alloc: Global, field: &str) -> Result<Refusal, NoMemory>
-    ensures { IfOk result (λ refusal. refusal ≡ bad_command field.now) }
-{
-    Ok(Refusal {
-        place: Place {
-            file: Text::new(alloc),
-            line: 0,
-        },
-        code: BAD_COMMAND,
-        at: 0,
-        field: Text::copy_of(alloc, field.as_bytes())?,
-    })
+    *slot = Some(site);
 }

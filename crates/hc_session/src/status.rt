@@ -5,7 +5,7 @@ ghost use Rattle.hc_session.specs.Status.{code_of, message_of};
 /// How a run of the program ended.
 #[derive(Clone, Copy, Debug, PartialEq, Eq)]
 pub enum Status {
-    /// The input was read to its end.
+    /// The input was read to its end, or to an `end`.
     Done,
     /// The words of the command line are not read.
     Words,
@@ -15,8 +15,12 @@ pub enum Status {
     WriteFault,
     /// Memory was refused before anything was read.
     NoMemory,
-    /// The input ended after a byte without LF, or a line or the script reached its limit.
+    /// The input ended after a byte without LF.
     CutLine,
+    /// A line reached 16,777,216 bytes without LF.
+    LineTooLong,
+    /// 1,073,741,824 bytes were taken.
+    ScriptTooLong,
 }
 
 impl Status {
@@ -31,6 +35,8 @@ impl Status {
             Status::WriteFault => 4,
             Status::NoMemory => 5,
             Status::CutLine => 6,
+            Status::LineTooLong => 7,
+            Status::ScriptTooLong => 8,
         }
     }
 
@@ -45,6 +51,8 @@ impl Status {
             Status::WriteFault => Some("hc: write"),
             Status::NoMemory => Some("hc: memory"),
             Status::CutLine => Some("hc: cut line"),
+            Status::LineTooLong => Some("hc: long line"),
+            Status::ScriptTooLong => Some("hc: long script"),
         }
     }
 }

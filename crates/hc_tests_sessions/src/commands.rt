@@ -7,18 +7,52 @@ use hc_session::Status;
 use std::alloc::Global;
 use std::process::Abort;
 
+// Lines that are no JSON.
+static NO_JSON: &[&[u8]] = &[
+    b"",
+    b"x",
+    br#"{"do":"ask""#,
+    b"{\"do\":\"ask\",\"target\":\"/\xff\"}",
+];
+
 // A line that is no command, or may not be done, and the field that is wrong.
 static WRONG: &[(&[u8], &str)] = &[
-    (b"", "do"),
-    (b"x", "do"),
-    (br#"{"do":"ask""#, "do"),
-    (b"{\"do\":\"ask\",\"target\":\"/\xff\"}", "do"),
     (b"[]", "do"),
     (b"7", "do"),
     (b"{}", "do"),
     (br#"{"do":7}"#, "do"),
-    (br#"{"do":"stats"}"#, "do"),
-    (br#"{"do":"stats","x":1}"#, "do"),
+    (br#"{"do":"decide"}"#, "do"),
+    (br#"{"do":"verify","x":1}"#, "do"),
+    (br#"{"do":"follow"}"#, "do"),
+    (br#"{"do":"stats","x":1}"#, "x"),
+    (br#"{"do":"end","path":"/a"}"#, "path"),
+    (br#"{"do":"drop"}"#, "path"),
+    (br#"{"do":"drop","path":7}"#, "path"),
+    (br#"{"do":"main","path":"/a","text":""}"#, "text"),
+    (br#"{"do":"edit","from":1,"to":1,"text":""}"#, "path"),
+    (br#"{"do":"edit","path":"/a","to":1,"text":""}"#, "from"),
+    (br#"{"do":"edit","path":"/a","from":1,"text":""}"#, "to"),
+    (br#"{"do":"edit","path":"/a","from":1,"to":1}"#, "text"),
+    (
+        br#"{"do":"edit","path":"/a","from":-1,"to":1,"text":""}"#,
+        "from",
+    ),
+    (
+        br#"{"do":"edit","path":"/a","from":1.0,"to":1,"text":""}"#,
+        "from",
+    ),
+    (
+        br#"{"do":"edit","path":"/a","from":"1","to":1,"text":""}"#,
+        "from",
+    ),
+    (
+        br#"{"do":"edit","path":"/a","from":4294967296,"to":1,"text":""}"#,
+        "from",
+    ),
+    (
+        br#"{"do":"edit","path":"/a","from":1,"to":1e1,"text":""}"#,
+        "to",
+    ),
     (br#"{"do":"ask"}"#, "target"),
     (br#"{"do":"ask","target":7}"#, "target"),
     (br#"{"do":"ask","target":"/","z":1,"b":2}"#, "b"),
@@ -59,6 +93,19 @@ fn check_wrong(rt: &impl Abort, alloc: Global, line: &[u8], field: &str) -> Resu
 fn wrong_lines_name_their_field(rt: HostRuntime) -> Result<(), NoMemory> {
     for &(line, field) in WRONG {
         check_wrong(&rt, rt.alloc(), line, field)?;
+    }
+    Ok(())
+}
+
+#[test]
+fn what_is_no_json_is_refused(rt: HostRuntime) -> Result<(), NoMemory> {
+    let wanted = br#"{"refused":{"at":0,"code":45,"field":"","file":"","line":0,"name":"BadJson"}}
+"#;
+    for &line in NO_JSON {
+        let mut input = line.to_vec(rt.alloc())?;
+        input.push(b'\n')?;
+        let end = session_over(rt.alloc(), &input, &[], &[], 4096)?;
+        check(&rt, &end, Status::Done, wanted, "no JSON");
     }
     Ok(())
 }

@@ -13,11 +13,17 @@ mod dialogue;
 #[cfg(test)]
 mod directory_rules;
 #[cfg(test)]
+mod edits;
+#[cfg(test)]
 mod folder_files;
+#[cfg(test)]
+mod generated;
 #[cfg(test)]
 mod hosts;
 #[cfg(test)]
 mod include;
+#[cfg(test)]
+mod kept;
 #[cfg(test)]
 mod main_files;
 #[cfg(test)]

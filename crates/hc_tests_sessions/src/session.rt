@@ -170,9 +170,41 @@ fn endless_line(alloc: Global) -> Result<Vec<u8>, NoMemory> {
 }
 
 #[test]
-fn a_line_without_end_is_cut_off_at_its_limit(rt: HostRuntime) -> Result<(), NoMemory> {
+fn a_line_without_end_stops_at_its_limit(rt: HostRuntime) -> Result<(), NoMemory> {
     let alloc = rt.alloc();
     let end = session_over(alloc, &endless_line(alloc)?, &[], &[], 4096)?;
-    check(&rt, &end, Status::CutLine, REPLIES, "endless");
+    check(&rt, &end, Status::LineTooLong, REPLIES, "endless");
+    Ok(())
+}
+
+const STATS: &str = "{\"do\":\"stats\"}\n";
+
+const NO_STATS: &str = "{\"stats\":{\"asks\":0,\"evaluations\":0}}\n";
+
+#[test]
+fn nothing_is_read_behind_an_end(rt: HostRuntime) -> Result<(), NoMemory> {
+    let alloc = rt.alloc();
+    // what stands behind the end, and which read fails where there is one
+    static ROWS: &[(&str, &[u64])] = &[("", &[2]), ("x", &[2]), ("{}\n{}\nx", &[2])];
+    for &(behind, reads) in ROWS {
+        let mut input = String::from_str(alloc, STATS)?;
+        input.push_str("{\"do\":\"end\"}\n")?;
+        input.push_str(behind)?;
+        let mut wanted = String::from_str(alloc, NO_STATS)?;
+        wanted.push_str("{\"done\":\"end\"}\n")?;
+        let end = session_over(alloc, input.as_bytes(), reads, &[], 4096)?;
+        check(&rt, &end, Status::Done, wanted.as_bytes(), behind);
+    }
+    Ok(())
+}
+
+#[test]
+fn a_second_write_fails_or_a_line_is_cut(rt: HostRuntime) -> Result<(), NoMemory> {
+    let alloc = rt.alloc();
+    let twice = STATS.repeat(alloc, 2)?;
+    let end = session_over(alloc, twice.as_bytes(), &[], &[2], 4096)?;
+    check(&rt, &end, Status::WriteFault, NO_STATS.as_bytes(), "write");
+    let end = session_over(alloc, b"{\"do\":\"stats\"}", &[], &[], 4096)?;
+    check(&rt, &end, Status::CutLine, b"", "cut");
     Ok(())
 }

@@ -3,7 +3,7 @@ use Rattle.hc_session.proofs.Answering.{answers_no_memory, answers_no_memory_in_
 use Rattle.hc_session.proofs.serve.answer_line.Goals as goal
 
 pub returns-in-Err-clause-ok : goal.returns-in-Err-clause-ok
-returns-in-Err-clause-ok g c = on_ok_weaker c.send-in-Err.result (answers_no_memory _ _ _ _ _ c.in-Err.ensures.turned) c.send-in-Err.ensures.ok
+returns-in-Err-clause-ok g c = on_ok_weaker c.send-in-Err.result (answers_no_memory _ _ _ _ _ _ _ c.in-Err.ensures.turned c.in-Err.ensures.evals) c.send-in-Err.ensures.ok
 
 pub returns-in-Err-clause-err : goal.returns-in-Err-clause-err
-returns-in-Err-clause-err g c = on_err_weaker c.send-in-Err.result (answers_no_memory_in_part _ _ _ _ _ c.in-Err.ensures.turned) c.send-in-Err.ensures.err
+returns-in-Err-clause-err g c = on_err_weaker c.send-in-Err.result (answers_no_memory_in_part _ _ _ _ _ _ _ c.in-Err.ensures.turned c.in-Err.ensures.evals) c.send-in-Err.ensures.err

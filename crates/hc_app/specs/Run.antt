@@ -1,0 +1,24 @@
+-- What a run of the program does. Our own choice.
+use Rattle.std.specs.Prelude.{◌≡◌, ◌⊎◌, ℕ, List, Option, Some, None}
+use Rattle.hc_generate.specs.Summary.{IsSummary}
+use Rattle.hc_session.specs.Conversation.{Writes}
+use Rattle.hc_session.specs.declared.status.Status.{Status}
+use Rattle.hc_session.specs.declared.status.Status.TheVariants.{Done, WriteFault}
+use Rattle.hc_words.specs.declared.words.Words.{Words}
+
+-- The words are read, and ask to serve the source.
+abbrev pub AsksToServe : Option Words → Type 0
+AsksToServe None = ⊥
+AsksToServe (Some words) = words.generate ≡ None
+
+-- The words are read, and ask for the script of this seed.
+abbrev pub AsksFor : ℕ → Option Words → Type 0
+AsksFor seed None = ⊥
+AsksFor seed (Some words) = words.generate ≡ Some seed
+
+-- A run that made the script of a seed: the summary was written, or a front of it after a fault of the sink.
+pub record Generated (seed : ℕ) (written grown : Option (List ℕ)) (before after : ℕ) (status : Status) : Type 0 where
+  pub line : List ℕ
+  pub told : IsSummary seed line before after
+  pub writes : Writes status written grown line
+  pub ends : (status ≡ Done) ⊎ (status ≡ WriteFault)

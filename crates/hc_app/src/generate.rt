@@ -1,0 +1,33 @@
+ghost use Rattle.std.specs.Prelude.{◌≡◌, ◌≢◌, ◌<◌, ◌^◌, ◌-◌};
+ghost use Rattle.hc_app.specs.Run.{Generated};
+
+use hc_base::{Failed, Sink, Steps};
+use hc_generate::summary;
+use hc_session::{Status, send};
+use std::alloc::Global;
+use std::sync::ledger::Ledger;
+
+/// Runs the script that a seed makes, and writes its summary.
+pub fn generate<K: Sink, E: Ledger, B: Ledger>(
+    alloc: Global,
+    seed: u64,
+    sink: &mut K,
+    evals: &mut Steps<E>,
+    bytes: &mut Steps<B>,
+) -> Status
+    requires sink_counts { K.faults sink.old < 2 ^ 64 - 1 }
+    ensures generated { result ≢ Status.NoMemory
+        → Generated seed (K.written sink.old) (K.written sink.new) evals.old evals.new result }
+    ensures write_fault { result ≡ Status.WriteFault → K.faults sink.old < K.faults sink.new }
+    ensures untouched { result ≡ Status.NoMemory → sink.new ≡ sink.old }
+    ensures words { result ≢ Status.Words }
+    ensures read { result ≢ Status.ReadFault }
+{
+    let Ok(line) = summary(alloc, seed, evals, bytes) else {
+        return Status::NoMemory;
+    };
+    match send(sink, line.as_bytes()) {
+        Ok(()) => Status::Done,
+        Err(Failed) => Status::WriteFault,
+    }
+}

@@ -1,0 +1,5 @@
+pub mod Draws
+pub mod Lines
+pub mod Run
+pub mod Script
+pub mod Summary

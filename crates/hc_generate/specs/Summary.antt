@@ -1,0 +1,61 @@
+-- What the run of a script that a seed makes comes to. Our own choice.
+use Rattle.std.specs.Prelude.{◌≡◌, ℕ, ◌+◌, List, [], ◌∷◌, ◌++◌, if◌then◌else◌, fold, codes}
+use Rattle.serde_json.specs.Data.{Data, number, unsigned, object, no_members, member}
+use Rattle.serde_json.specs.Written.{compact_text}
+use Rattle.hc_base.specs.Bytes.{lf}
+use Rattle.hc_json.specs.Reply.{Reply, only}
+use Rattle.hc_session.specs.Sending.{IsSpent}
+use Rattle.hc_session.specs.Session.{Answers, State, is_no_memory, said_of, start}
+use Rattle.hc_session.specs.declared.stepped.Said.{Said}
+use Rattle.hc_session.specs.declared.stepped.Said.TheVariants as is
+use Rattle.hc_generate.specs.Script.{script_of}
+use Rattle.hc_generate.specs.declared.tally.Tally.{Tally}
+
+-- ---- what the replies say
+
+-- How many served a file, found nothing, were forbidden, and found no memory.
+abbrev pub nothing_said : Tally
+nothing_said = record { files = 0; missing = 0; denied = 0; no_memory = 0 }
+
+abbrev pub said_counted : Tally → Said → Tally
+said_counted tally is.File = record tally { files = tally.files + 1 }
+said_counted tally is.Missing = record tally { missing = tally.missing + 1 }
+said_counted tally is.Denied = record tally { denied = tally.denied + 1 }
+said_counted tally is.Other = tally
+
+abbrev pub refusal_counted : Tally → Tally
+refusal_counted tally = record tally { no_memory = tally.no_memory + 1 }
+
+abbrev pub counted : Tally → Reply → Tally
+counted tally reply = if is_no_memory reply then refusal_counted tally else said_counted tally (said_of reply)
+
+abbrev pub tally_of : List Reply → Tally
+tally_of replies = fold counted nothing_said replies
+
+-- How many replies were counted.
+abbrev pub total : Tally → ℕ
+total tally = tally.files + tally.missing + tally.denied + tally.no_memory
+
+-- ---- the line
+
+abbrev pub summary_data : ℕ → ℕ → Tally → Data
+summary_data asks evaluations tally =
+    only (codes "summary") (object (
+    member (codes "asks") (number (unsigned asks)) (
+    member (codes "denied") (number (unsigned tally.denied)) (
+    member (codes "evaluations") (number (unsigned evaluations)) (
+    member (codes "files") (number (unsigned tally.files)) (
+    member (codes "missing") (number (unsigned tally.missing)) (
+    member (codes "no_memory") (number (unsigned tally.no_memory)) no_members)))))))
+
+unfoldable pub summary_line : State → Tally → List ℕ
+summary_line state tally = compact_text (summary_data state.asks state.evaluations tally) ++ lf ∷ []
+
+-- The line is the summary of a run of the script that the seed makes, and the counter of evaluations has risen by no
+-- more than that run gives.
+pub record IsSummary (seed : ℕ) (line : List ℕ) (before after : ℕ) : Type 0 where
+  pub replies : List Reply
+  pub state : State
+  pub answers : Answers start (script_of seed) replies state
+  pub told : line ≡ summary_line state (tally_of replies)
+  pub spent : IsSpent start state replies before after

@@ -1,0 +1,11 @@
+//! A script that is made from a seed, run, and told in one line.
+#![tactic(auto)]
+
+mod draws;
+mod line;
+mod run;
+mod step;
+mod summaries;
+mod tally;
+
+pub use summaries::summary;

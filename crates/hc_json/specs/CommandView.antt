@@ -1,0 +1,88 @@
+-- What a command of the code is seen as.
+use Rattle.std.specs.Prelude.{◌≡◌, ℕ, List, [], true, Option, Some, None, Result, Ok, Err, String, ⊤}
+use Rattle.std.specs.Borrow.{Bor}
+use Rattle.std.specs.declared.alloc.Global.{Global}
+use Rattle.serde_json.specs.View.{members_view}
+use Rattle.serde_json.specs.declared.value.Value.{Value}
+use Rattle.std.specs.BTreeMap.{BTreeMap}
+use Rattle.hc_base.specs.Paths.{begins_with_slash}
+use Rattle.hc_base.specs.declared.codes.TheConstants.{BAD_COMMAND, BAD_JSON}
+use Rattle.hc_base.specs.declared.place.Refusal.{Refusal}
+use Rattle.hc_model.specs.declared.request.Header.{Header}
+use Rattle.hc_model.specs.declared.request.Request.{Request}
+use Rattle.hc_json.specs.Asked.{Question}
+use Rattle.hc_json.specs.Command as spec
+use Rattle.hc_json.specs.Forms.{headers_of}
+use Rattle.hc_json.specs.declared.asked.Asked.{Asked}
+use Rattle.hc_json.specs.declared.fields.BadField.{BadField}
+use Rattle.hc_json.specs.declared.command.Command.{Command}
+use Rattle.hc_json.specs.declared.command.NoCommand.{NoCommand}
+use Rattle.hc_json.specs.declared.command.NoCommand.TheVariants as wrong
+use Rattle.hc_json.specs.declared.command.Command.TheVariants.{Put, ListPath, DropPath, Edit, Main, Check, Ask, Stats, End}
+
+abbrev pub headers_view : Option (Bor (BTreeMap (String Global) Value)) → List Header
+headers_view None = []
+headers_view (Some members) = headers_of (members_view members.now.entries)
+
+abbrev pub request_view : Asked → Request
+request_view asked = record {
+  method = asked.method.now;
+  scheme = asked.scheme;
+  server = asked.server;
+  port = asked.port;
+  host = asked.host.now;
+  client = asked.client;
+  headers = headers_view asked.headers;
+  target = asked.target.now;
+}
+
+abbrev pub question_view : Asked → Question
+question_view asked = record { request = request_view asked; trail = asked.trail }
+
+abbrev pub command_view : Command → spec.Command
+command_view (Put path bytes) = spec.put path.now bytes.now
+command_view (ListPath path kind) = spec.list path.now kind
+command_view (DropPath path) = spec.drop path.now
+command_view (Edit path from to bytes) = spec.edit path.now from to bytes.now
+command_view (Main path) = spec.main path.now
+command_view Check = spec.check
+command_view (Ask asked) = spec.ask (question_view asked)
+command_view Stats = spec.stats
+command_view End = spec.end
+
+-- The target of an `ask` begins with a slash.
+abbrev pub IsAskable : Command → Type 0
+IsAskable (Ask asked) = begins_with_slash asked.target.now ≡ true
+IsAskable command = ⊤
+
+-- Why a line is no command, as the refusal that it is answered with.
+abbrev pub no_command_view : NoCommand → Refusal
+no_command_view wrong.BadJson = spec.bad_line BAD_JSON []
+no_command_view (wrong.BadField field) = spec.bad_line BAD_COMMAND field.now
+
+abbrev pub line_view : Result Command NoCommand → Result spec.Command Refusal
+line_view (Ok command) = Ok (command_view command)
+line_view (Err wrong) = Err (no_command_view wrong)
+
+-- ---- what is read, or the wrong field
+
+abbrev pub read_view : Result Command BadField → Result spec.Command (List ℕ)
+read_view (Ok command) = Ok (command_view command)
+read_view (Err bad) = Err bad.0.now
+
+abbrev pub asked_view : Result Asked BadField → Result Question (List ℕ)
+asked_view (Ok asked) = Ok (question_view asked)
+asked_view (Err bad) = Err bad.0.now
+
+abbrev pub field_view : Result (Bor (List ℕ)) BadField → Result (List ℕ) (List ℕ)
+field_view (Ok text) = Ok text.now
+field_view (Err bad) = Err bad.0.now
+
+abbrev pub members_field_view :
+    Result (Option (Bor (BTreeMap (String Global) Value))) BadField → Result (List Header) (List ℕ)
+members_field_view (Ok members) = Ok (headers_view members)
+members_field_view (Err bad) = Err bad.0.now
+
+abbrev pub value_view : {A : Type 0} → Result A BadField → Result A (List ℕ)
+value_view (Ok value) = Ok value
+value_view (Err bad) = Err bad.0.now

@@ -1,0 +1,114 @@
+-- The forms of an `ask`'s fields. Our own choice.
+use Rattle.std.specs.Prelude.{ℕ, ◌==◌, List, [], ◌∷◌, length, Bool, true, false, ◌&&◌, ◌||◌, not, nat_le, nat_lt, Option, Some, None, if◌then◌else◌, option_and_then, option_map, unwrap_or, codes}
+use Rattle.std.specs.Char.{is_ascii_alphanumeric, is_ascii_uppercase}
+use Rattle.std.specs.List.{list_all}
+use Rattle.std.specs.Str.{bytes_eq, str_eq_ignore_ascii_case}
+use Rattle.serde_json.specs.Data.{Data, Members, no_members, member}
+use Rattle.serde_json.specs.Find.{as_number, as_object, as_str, as_u64}
+use Rattle.hc_addr.specs.Addresses.{addr_of}
+use Rattle.hc_addr.specs.declared.addr.Addr.{Addr}
+use Rattle.hc_base.specs.Bytes.{dash, dot, hash, space, tilde, underscore}
+use Rattle.hc_base.specs.Paths.{begins_with_slash}
+use Rattle.hc_model.specs.declared.request.Header.{Header}
+use Rattle.hc_model.specs.declared.request.Scheme.{Scheme}
+use Rattle.hc_model.specs.declared.request.Scheme.TheVariants.{Http, Https}
+use Rattle.hc_json.specs.declared.forms.TheConstants.{HIGHEST_PORT, LONGEST_HOST, LONGEST_METHOD, LONGEST_NAME, LONGEST_TARGET, LONGEST_VALUE}
+
+-- ---- texts
+
+-- At least one byte, and at most so many, that all pass this test.
+abbrev pub is_word : ℕ → (ℕ → Bool) → List ℕ → Bool
+is_word most test text = nat_lt 0 (length text) && nat_le (length text) most && list_all test text
+
+-- Bytes that are printed, without the space and `#`.
+abbrev pub is_target_byte : ℕ → Bool
+is_target_byte b = nat_lt space b && nat_le b tilde && not (b == hash)
+
+abbrev pub is_target : List ℕ → Bool
+is_target target = begins_with_slash target && nat_le (length target) LONGEST_TARGET && list_all is_target_byte target
+
+abbrev pub is_method : List ℕ → Bool
+is_method method = is_word LONGEST_METHOD is_ascii_uppercase method
+
+abbrev pub is_host_byte : ℕ → Bool
+is_host_byte b = is_ascii_alphanumeric b || (b == dot) || (b == dash)
+
+-- It may be empty.
+abbrev pub is_host : List ℕ → Bool
+is_host host = nat_le (length host) LONGEST_HOST && list_all is_host_byte host
+
+abbrev pub is_name_byte : ℕ → Bool
+is_name_byte b = is_ascii_alphanumeric b || (b == dash) || (b == underscore)
+
+-- Host is a field of its own.
+abbrev pub is_name : List ℕ → Bool
+is_name name = is_word LONGEST_NAME is_name_byte name && not (str_eq_ignore_ascii_case name (codes "Host"))
+
+abbrev pub is_value_byte : ℕ → Bool
+is_value_byte b = nat_le space b && nat_le b tilde
+
+abbrev pub is_value : List ℕ → Bool
+is_value value = nat_le (length value) LONGEST_VALUE && list_all is_value_byte value
+
+-- ---- what a value is read as, where it is of its form
+
+abbrev pub such_that : {A : Type 0} → (A → Bool) → Option A → Option A
+such_that test None = None
+such_that test (Some x) = if test x then Some x else None
+
+abbrev pub text_where : (List ℕ → Bool) → Data → Option (List ℕ)
+text_where test d = such_that test (as_str d)
+
+abbrev pub scheme_named : List ℕ → Option Scheme
+scheme_named name =
+    if bytes_eq name (codes "http") then Some Http
+    else (if bytes_eq name (codes "https") then Some Https
+    else None)
+
+abbrev pub scheme_from : Data → Option Scheme
+scheme_from d = option_and_then scheme_named (as_str d)
+
+abbrev pub addr_from : Data → Option Addr
+addr_from d = option_and_then addr_of (as_str d)
+
+abbrev pub is_port : ℕ → Bool
+is_port n = nat_le n HIGHEST_PORT
+
+-- JSON writes a whole number without a sign, a fraction and an exponent.
+abbrev pub port_from : Data → Option ℕ
+port_from d = such_that is_port (option_and_then as_u64 (as_number d))
+
+-- ---- headers, the members of an object
+
+abbrev pub is_value_of : Option (List ℕ) → Bool
+is_value_of None = false
+is_value_of (Some value) = is_value value
+
+-- Another name that is equal without case.
+abbrev pub is_alike : List ℕ → List ℕ → Bool
+is_alike name other = str_eq_ignore_ascii_case name other && not (bytes_eq name other)
+
+abbrev pub has_alike : List ℕ → Members → Bool
+has_alike name no_members = false
+has_alike name (member other d rest) = is_alike name other || has_alike name rest
+
+-- Each member is a header, and none has a name that another of them all has without case. The keys of an
+-- object differ.
+abbrev pub are_headers : Members → Members → Bool
+are_headers all no_members = true
+are_headers all (member name d rest) =
+    is_name name && is_value_of (as_str d) && not (has_alike name all) && are_headers all rest
+
+abbrev pub header_of : List ℕ → Data → Header
+header_of name d = record { name = name; value = unwrap_or (as_str d) [] }
+
+-- The headers that members are, in their order.
+abbrev pub headers_of : Members → List Header
+headers_of no_members = []
+headers_of (member name d rest) = header_of name d ∷ headers_of rest
+
+abbrev pub members_from : Data → Option Members
+members_from d = such_that (λ members. are_headers members members) (as_object d)
+
+abbrev pub headers_from : Data → Option (List Header)
+headers_from d = option_map headers_of (members_from d)

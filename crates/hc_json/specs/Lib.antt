@@ -1,0 +1,9 @@
+pub mod Asked
+pub mod Command
+pub mod CommandView
+pub mod Fields
+pub mod Forms
+pub mod Reply
+pub mod ReplyView
+pub mod Shown
+pub mod Trail

@@ -1,0 +1,108 @@
+-- The replies to a script's lines: their JSON values and their bytes. Our own choice.
+use Rattle.std.specs.Prelude.{ℕ, List, [], ◌∷◌, ◌++◌, true, codes}
+use Rattle.serde_json.specs.Data.{Data, boolean, number, unsigned, string, object, no_members, member}
+use Rattle.serde_json.specs.Written.{compact_text}
+use Rattle.hc_base.specs.Bytes.{lf}
+use Rattle.hc_base.specs.Codes.{name_of_code}
+use Rattle.hc_base.specs.declared.place.Refusal.{Refusal}
+use Rattle.hc_model.specs.declared.outcome.Outcome.{Outcome}
+use Rattle.hc_model.specs.declared.outcome.Outcome.TheVariants.{File, Directory, NotFound, Redirect, Status, Limit, HtRefused, Outside}
+use Rattle.hc_model.specs.declared.outcome.LimitKind.{LimitKind}
+use Rattle.hc_model.specs.declared.outcome.LimitKind.TheVariants.{Rounds, Redirects}
+use Rattle.hc_model.specs.declared.outcome.Reason.{Reason}
+use Rattle.hc_model.specs.declared.outcome.Reason.TheVariants.{PathByte, LongText, DotSegment, RelativeRedirect, RelativeUnderAlias, Scheme, NoRoot}
+use Rattle.hc_json.specs.Shown.{shown}
+use Rattle.hc_json.specs.declared.reply.Done.{Done}
+use Rattle.hc_json.specs.declared.reply.Done.TheVariants.{Put, ListPath, DropPath, Edit, Main, End}
+use Rattle.hc_json.specs.Trail.{Trailed, reads_data, trail_data}
+
+pub data Reply : Type 0 where
+  -- a command that asks nothing was done
+  done : Done → Reply
+  -- a configuration, with how many virtual hosts it has
+  configured : ℕ → Reply
+  outcome : Outcome → Reply
+  -- an outcome, and how it came
+  trailed : Trailed → Reply
+  -- how many asks were answered with an outcome, and how many of them were evaluated
+  stats : ℕ → ℕ → Reply
+  refused : Refusal → Reply
+  no_memory : Reply
+
+-- An object with one member.
+abbrev pub only : List ℕ → Data → Data
+only key d = object (member key d no_members)
+
+abbrev pub refusal_data : Refusal → Data
+refusal_data r =
+    object (
+    member (codes "at") (number (unsigned r.at)) (
+    member (codes "code") (number (unsigned r.code)) (
+    member (codes "field") (string (shown r.field)) (
+    member (codes "file") (string (shown r.place.file)) (
+    member (codes "line") (number (unsigned r.place.line)) (
+    member (codes "name") (string (name_of_code r.code)) no_members))))))
+
+abbrev pub limit_name : LimitKind → List ℕ
+limit_name Rounds = codes "rounds"
+limit_name Redirects = codes "redirects"
+
+abbrev pub reason_name : Reason → List ℕ
+reason_name PathByte = codes "path byte"
+reason_name LongText = codes "long text"
+reason_name DotSegment = codes "dot segment"
+reason_name RelativeRedirect = codes "relative redirect"
+reason_name RelativeUnderAlias = codes "relative under alias"
+reason_name Scheme = codes "scheme"
+reason_name NoRoot = codes "no root"
+
+abbrev pub outcome_data : Outcome → Data
+outcome_data (File path info) =
+    only (codes "file") (object (
+    member (codes "info") (string (shown info)) (
+    member (codes "path") (string (shown path)) no_members)))
+outcome_data (Directory path) = only (codes "directory") (string (shown path))
+outcome_data NotFound = only (codes "not_found") (boolean true)
+outcome_data (Redirect status location) =
+    only (codes "redirect") (object (
+    member (codes "location") (string (shown location)) (
+    member (codes "status") (number (unsigned status)) no_members)))
+outcome_data (Status status) = only (codes "status") (number (unsigned status))
+outcome_data (Limit kind) = only (codes "limit") (string (limit_name kind))
+outcome_data (HtRefused refusal) = only (codes "ht_refused") (refusal_data refusal)
+outcome_data (Outside reason) = only (codes "outside") (string (reason_name reason))
+
+abbrev pub trailed_data : Trailed → Data
+trailed_data answer =
+    object (
+    member (codes "events") (number (unsigned answer.events)) (
+    member (codes "outcome") (outcome_data answer.outcome) (
+    member (codes "reads") (reads_data answer.reads) (
+    member (codes "trail") (trail_data answer.trail) no_members))))
+
+abbrev pub done_name : Done → List ℕ
+done_name Put = codes "put"
+done_name ListPath = codes "list"
+done_name DropPath = codes "drop"
+done_name Edit = codes "edit"
+done_name Main = codes "main"
+done_name End = codes "end"
+
+abbrev pub stats_data : ℕ → ℕ → Data
+stats_data asks evaluations =
+    object (
+    member (codes "asks") (number (unsigned asks)) (
+    member (codes "evaluations") (number (unsigned evaluations)) no_members))
+
+abbrev pub reply_data : Reply → Data
+reply_data (done what) = only (codes "done") (string (done_name what))
+reply_data (configured hosts) = only (codes "config") (only (codes "hosts") (number (unsigned hosts)))
+reply_data (outcome o) = only (codes "outcome") (outcome_data o)
+reply_data (trailed answer) = trailed_data answer
+reply_data (stats asks evaluations) = only (codes "stats") (stats_data asks evaluations)
+reply_data (refused r) = only (codes "refused") (refusal_data r)
+reply_data no_memory = only (codes "no_memory") (boolean true)
+
+-- A reply's line: compact JSON, and LF.
+abbrev pub reply_line : Reply → List ℕ
+reply_line reply = compact_text (reply_data reply) ++ lf ∷ []

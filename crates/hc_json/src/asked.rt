@@ -1,0 +1,217 @@
+ghost use Rattle.std.specs.Prelude.{◌≡◌, IfOk, true};
+ghost use Rattle.serde_json.specs.View.{view};
+ghost use Rattle.hc_addr.specs.declared.addr.Addr.TheVariants.{V4};
+ghost use Rattle.hc_base.specs.Paths.{begins_with_slash};
+ghost use Rattle.hc_json.specs.Asked.{asked_in, headers_in, host_in, method_in, port_in, port_of, scheme_in};
+ghost use Rattle.hc_json.specs.Asked.{target_in, trail_in};
+ghost use Rattle.hc_json.specs.CommandView.{asked_view, field_view, headers_view, members_field_view};
+ghost use Rattle.hc_json.specs.CommandView.{request_view, value_view};
+ghost use Rattle.hc_json.specs.Fields.{optional};
+ghost use Rattle.hc_json.specs.Forms.{addr_from, port_from, scheme_from};
+
+use crate::fields::BadField;
+use crate::forms::{HIGHEST_PORT, is_host, is_method, is_target};
+use crate::headers::{are_headers, copy_headers};
+use hc_addr::{Addr, parse_addr};
+use hc_base::{List, NoMemory, Text};
+use hc_model::{Header, Request, Scheme};
+use serde_json::{Map, Value};
+use std::alloc::Global;
+
+const HTTP_PORT: u16 = 80;
+
+const HTTPS_PORT: u16 = 443;
+
+/// 192.0.2.1.
+const SERVER: u32 = 0xC000_0201;
+
+/// 192.0.2.9.
+const CLIENT: u32 = 0xC000_0209;
+
+/// A request that is asked about. It borrows from the JSON value that it is read from.
+#[derive(Clone, Copy)]
+pub struct Asked<'v> {
+    pub target: &'v str,
+    pub method: &'v str,
+    pub scheme: Scheme,
+    pub server: Addr,
+    pub port: u16,
+    pub host: &'v str,
+    pub client: Addr,
+    /// Members that are headers, where the field is there.
+    pub headers: Option<&'v Map<String, Value>>,
+    /// Whether how the outcome came is asked too.
+    pub trail: bool,
+}
+
+/// What a value asks, or its first wrong field.
+pub(crate) fn read_asked(value: &Value) -> Result<Asked<'_>, BadField<'_>>
+    ensures asked { asked_view result ≡ asked_in (view value.now) }
+    ensures slash { IfOk result (λ asked. begins_with_slash asked.target.now ≡ true) }
+{
+    let target = target_in(value)?;
+    let method = method_in(value)?;
+    let scheme = scheme_in(value)?;
+    let server = addr_in(value, "server", SERVER)?;
+    let port = port_in(value, scheme)?;
+    let host = host_in(value)?;
+    let client = addr_in(value, "client", CLIENT)?;
+    let headers = headers_in(value)?;
+    let trail = trail_in(value)?;
+    Ok(Asked {
+        target,
+        method,
+        scheme,
+        server,
+        port,
+        host,
+        client,
+        headers,
+        trail,
+    })
+}
+
+fn target_in(value: &Value) -> Result<&str, BadField<'_>>
+    ensures target { field_view result ≡ target_in (view value.now) }
+    ensures slash { IfOk result (λ target. begins_with_slash target.now ≡ true) }
+{
+    match value.get("target").and_then(Value::as_str) {
+        Some(target) if is_target(target.as_bytes()) => Ok(target),
+        _ => Err(BadField("target")),
+    }
+}
+
+fn method_in(value: &Value) -> Result<&str, BadField<'_>>
+    ensures { field_view result ≡ method_in (view value.now) }
+{
+    let Some(given) = value.get("method") else {
+        return Ok("GET");
+    };
+    match given.as_str() {
+        Some(method) if is_method(method.as_bytes()) => Ok(method),
+        _ => Err(BadField("method")),
+    }
+}
+
+fn scheme_in(value: &Value) -> Result<Scheme, BadField<'_>>
+    ensures { value_view result ≡ scheme_in (view value.now) }
+{
+    match value.get("scheme") {
+        Some(given) => scheme_from(given).ok_or(BadField("scheme")),
+        None => Ok(Scheme::Http),
+    }
+}
+
+fn scheme_from(value: &Value) -> Option<Scheme>
+    ensures { result ≡ scheme_from (view value.now) }
+{
+    match value.as_str()? {
+        "http" => Some(Scheme::Http),
+        "https" => Some(Scheme::Https),
+        _ => None,
+    }
+}
+
+fn addr_in<'v>(value: &'v Value, key: &'v str, default: u32) -> Result<Addr, BadField<'v>>
+    ensures { value_view result ≡ optional key.now (V4 default) addr_from (view value.now) }
+{
+    match value.get(key) {
+        Some(given) => addr_from(given).ok_or(BadField(key)),
+        None => Ok(Addr::V4(default)),
+    }
+}
+
+fn addr_from(value: &Value) -> Option<Addr>
+    ensures { result ≡ addr_from (view value.now) }
+{
+    parse_addr(value.as_str()?.as_bytes())
+}
+
+fn port_in(value: &Value, scheme: Scheme) -> Result<u16, BadField<'_>>
+    ensures { value_view result ≡ port_in scheme (view value.now) }
+{
+    match value.get("port") {
+        Some(given) => port_from(given).ok_or(BadField("port")),
+        None => Ok(port_of(scheme)),
+    }
+}
+
+fn port_of(scheme: Scheme) -> u16
+    ensures { result ≡ port_of scheme }
+{
+    match scheme {
+        Scheme::Http => HTTP_PORT,
+        Scheme::Https => HTTPS_PORT,
+    }
+}
+
+fn port_from(value: &Value) -> Option<u16>
+    ensures { result ≡ port_from (view value.now) }
+{
+    let port = value.as_u64()?;
+    if port <= HIGHEST_PORT {
+        Some(port as u16)
+    } else {
+        None
+    }
+}
+
+fn host_in(value: &Value) -> Result<&str, BadField<'_>>
+    ensures { field_view result ≡ host_in (view value.now) }
+{
+    let Some(given) = value.get("host") else {
+        return Ok("localhost");
+    };
+    match given.as_str() {
+        Some(host) if is_host(host.as_bytes()) => Ok(host),
+        _ => Err(BadField("host")),
+    }
+}
+
+fn headers_in(value: &Value) -> Result<Option<&Map<String, Value>>, BadField<'_>>
+    ensures { members_field_view result ≡ headers_in (view value.now) }
+{
+    let Some(given) = value.get("headers") else {
+        return Ok(None);
+    };
+    match given.as_object() {
+        Some(members) if are_headers(members) => Ok(Some(members)),
+        _ => Err(BadField("headers")),
+    }
+}
+
+fn trail_in(value: &Value) -> Result<bool, BadField<'_>>
+    ensures { value_view result ≡ trail_in (view value.now) }
+{
+    match value.get("trail") {
+        Some(given) => given.as_bool().ok_or(BadField("trail")),
+        None => Ok(false),
+    }
+}
+
+impl Asked<'_> {
+    /// The request as a value of its own.
+    pub fn to_request(&self, alloc: Global) -> Result<Request, NoMemory>
+        ensures { IfOk result (λ request. request ≡ request_view self.now) }
+    {
+        Ok(Request {
+            method: Text::copy_of(alloc, self.method.as_bytes())?,
+            scheme: self.scheme,
+            server: self.server,
+            port: self.port,
+            host: Text::copy_of(alloc, self.host.as_bytes())?,
+            client: self.client,
+            headers: self.copy_headers(alloc)?,
+            target: Text::copy_of(alloc, self.target.as_bytes())?,
+        })
+    }
+
+    fn copy_headers(&self, alloc: Global) -> Result<List<Header>, NoMemory>
+        ensures { IfOk result (λ headers. headers ≡ headers_view self.now.headers) }
+    {
+        match self.headers {
+            Some(members) => copy_headers(alloc, members),
+            None => Ok(List::new(alloc)),
+        }
+    }
+}

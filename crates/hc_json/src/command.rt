@@ -1,0 +1,266 @@
+ghost use Rattle.std.specs.Prelude.{◌≡◌, IfOk};
+ghost use Rattle.std.specs.Option.{option_map};
+ghost use Rattle.serde_json.specs.View.{view};
+ghost use Rattle.hc_json.specs.Command.{ask_fields, ask_in, bad_line, command_in, command_named, command_of_json};
+ghost use Rattle.hc_json.specs.Command.{drop_in, edit_fields, edit_in, json_of, line_from, line_in, list_fields};
+ghost use Rattle.hc_json.specs.Command.{list_in, list_kind, main_in, path_fields, put_fields, put_in};
+ghost use Rattle.hc_json.specs.Command.{with_fields, without_fields};
+ghost use Rattle.hc_json.specs.CommandView.{IsAskable, command_view, line_view, read_view, value_view};
+ghost use Rattle.hc_json.specs.Fields.{unknown_field};
+
+use crate::asked::{Asked, read_asked};
+use crate::fields::{BadField, required, unknown_field};
+use hc_base::{NoMemory, Place, Refusal, Text};
+use hc_world::ListKind;
+use serde_json::Value;
+use std::alloc::Global;
+
+/// The highest number of a line that a command names.
+pub(crate) const LAST_LINE: u64 = 4_294_967_295;
+
+/// A command of a script. It borrows from the JSON value that it is read from.
+#[derive(Clone, Copy)]
+pub enum Command<'v> {
+    /// Makes or replaces a file with a text.
+    Put {
+        path: &'v str,
+        text: &'v str,
+    },
+    /// Lists a path as a directory or as a file without a text.
+    ListPath {
+        path: &'v str,
+        kind: ListKind,
+    },
+    /// Takes a path out of the files.
+    DropPath {
+        path: &'v str,
+    },
+    /// Puts a text in place of the lines of a file from one to another.
+    Edit {
+        path: &'v str,
+        from: u32,
+        to: u32,
+        text: &'v str,
+    },
+    /// Names the main file of the configuration.
+    Main {
+        path: &'v str,
+    },
+    /// Reads the configuration.
+    Check,
+    /// Asks what a request receives.
+    Ask(Asked<'v>),
+    /// Asks how many asks were answered, and how many of them were evaluated.
+    Stats,
+    /// Ends the session.
+    End,
+}
+
+/// Why a line is no command.
+#[derive(Clone, Copy)]
+pub enum NoCommand<'v> {
+    /// It is no JSON.
+    BadJson,
+    /// The field that is wrong: `do` where it is missing or unknown; else the least unknown field; else
+    /// the first field of the command that is missing or ill-formed.
+    BadField(&'v str),
+}
+
+// ---- lines
+
+/// The JSON value that a line is; none where it is no JSON.
+#[tactic(auto, using(crate::proofs::Parsing::parsing))]
+pub fn parse(alloc: Global, line: &[u8]) -> Result<Option<Value>, NoMemory>
+    ensures { IfOk result (λ value. option_map view value ≡ json_of line.now) }
+{
+    let Ok(text) = std::str::from_utf8(line) else {
+        return Ok(None);
+    };
+    match Value::from_str(alloc, text) {
+        Ok(value) => Ok(Some(value)),
+        Err(error) if error.is_memory() => Err(NoMemory),
+        Err(_) => Ok(None),
+    }
+}
+
+/// The command of a line that was parsed.
+pub fn command_in(value: &Option<Value>) -> Result<Command<'_>, NoCommand<'_>>
+    ensures command { line_view result ≡ command_of_json (option_map view value.now) }
+    ensures askable { IfOk result IsAskable }
+{
+    let Some(value) = value else {
+        return Err(NoCommand::BadJson);
+    };
+    match read_command(value) {
+        Ok(command) => Ok(command),
+        Err(BadField(field)) => Err(NoCommand::BadField(field)),
+    }
+}
+
+/// The refusal of a line that is not done: its place is no file, and its field is empty where no field
+/// is to blame.
+pub fn bad_line(alloc: Global, code: u8, field: &str) -> Result<Refusal, NoMemory>
+    ensures { IfOk result (λ refusal. refusal ≡ bad_line code field.now) }
+{
+    Ok(Refusal {
+        place: Place {
+            file: Text::new(alloc),
+            line: 0,
+        },
+        code,
+        at: 0,
+        field: Text::copy_of(alloc, field.as_bytes())?,
+    })
+}
+
+// ---- commands
+
+fn read_command(value: &Value) -> Result<Command<'_>, BadField<'_>>
+    ensures command { read_view result ≡ command_in (view value.now) }
+    ensures askable { IfOk result IsAskable }
+{
+    command_named(required(value, "do")?, value)
+}
+
+fn command_named<'v>(name: &'v str, value: &'v Value) -> Result<Command<'v>, BadField<'v>>
+    ensures command { read_view result ≡ command_named name.now (view value.now) }
+    ensures askable { IfOk result IsAskable }
+{
+    match name {
+        "put" => read_put(value),
+        "list" => read_list(value),
+        "drop" => read_drop(value),
+        "edit" => read_edit(value),
+        "main" => read_main(value),
+        "check" => without_fields(Command::Check, value),
+        "ask" => read_ask(value),
+        "stats" => without_fields(Command::Stats, value),
+        "end" => without_fields(Command::End, value),
+        _ => Err(BadField("do")),
+    }
+}
+
+// A command that has no field of its own.
+fn without_fields<'v>(command: Command<'v>, value: &'v Value) -> Result<Command<'v>, BadField<'v>>
+    ensures command { read_view result ≡ without_fields (command_view command.entry) (view value.now) }
+    ensures askable { IsAskable command.entry → IfOk result IsAskable }
+{
+    match unknown_field(value, &["do"]) {
+        Some(field) => Err(BadField(field)),
+        None => Ok(command),
+    }
+}
+
+fn read_put(value: &Value) -> Result<Command<'_>, BadField<'_>>
+    ensures command { read_view result ≡ with_fields put_fields put_in (view value.now) }
+    ensures askable { IfOk result IsAskable }
+{
+    if let Some(field) = unknown_field(value, &["do", "path", "text"]) {
+        return Err(BadField(field));
+    }
+    let path = required(value, "path")?;
+    let text = required(value, "text")?;
+    Ok(Command::Put { path, text })
+}
+
+fn read_list(value: &Value) -> Result<Command<'_>, BadField<'_>>
+    ensures command { read_view result ≡ with_fields list_fields list_in (view value.now) }
+    ensures askable { IfOk result IsAskable }
+{
+    if let Some(field) = unknown_field(value, &["do", "path", "kind"]) {
+        return Err(BadField(field));
+    }
+    let path = required(value, "path")?;
+    let kind = list_kind(required(value, "kind")?)?;
+    Ok(Command::ListPath { path, kind })
+}
+
+fn list_kind(name: &str) -> Result<ListKind, BadField<'static>>
+    ensures { value_view result ≡ list_kind name.now }
+{
+    match name {
+        "file" => Ok(ListKind::File),
+        "dir" => Ok(ListKind::Dir),
+        _ => Err(BadField("kind")),
+    }
+}
+
+fn read_drop(value: &Value) -> Result<Command<'_>, BadField<'_>>
+    ensures command { read_view result ≡ with_fields path_fields drop_in (view value.now) }
+    ensures askable { IfOk result IsAskable }
+{
+    if let Some(field) = unknown_field(value, &["do", "path"]) {
+        return Err(BadField(field));
+    }
+    let path = required(value, "path")?;
+    Ok(Command::DropPath { path })
+}
+
+fn read_edit(value: &Value) -> Result<Command<'_>, BadField<'_>>
+    ensures command { read_view result ≡ with_fields edit_fields edit_in (view value.now) }
+    ensures askable { IfOk result IsAskable }
+{
+    if let Some(field) = unknown_field(value, &["do", "path", "from", "to", "text"]) {
+        return Err(BadField(field));
+    }
+    let path = required(value, "path")?;
+    let from = line_in(value, "from")?;
+    let to = line_in(value, "to")?;
+    let text = required(value, "text")?;
+    Ok(Command::Edit {
+        path,
+        from,
+        to,
+        text,
+    })
+}
+
+fn line_in<'v>(value: &'v Value, key: &'v str) -> Result<u32, BadField<'v>>
+    ensures { value_view result ≡ line_in key.now (view value.now) }
+{
+    value.get(key).and_then(line_from).ok_or(BadField(key))
+}
+
+fn line_from(value: &Value) -> Option<u32>
+    ensures { result ≡ line_from (view value.now) }
+{
+    let line = value.as_u64()?;
+    if line <= LAST_LINE {
+        Some(line as u32)
+    } else {
+        None
+    }
+}
+
+fn read_main(value: &Value) -> Result<Command<'_>, BadField<'_>>
+    ensures command { read_view result ≡ with_fields path_fields main_in (view value.now) }
+    ensures askable { IfOk result IsAskable }
+{
+    if let Some(field) = unknown_field(value, &["do", "path"]) {
+        return Err(BadField(field));
+    }
+    let path = required(value, "path")?;
+    Ok(Command::Main { path })
+}
+
+fn read_ask(value: &Value) -> Result<Command<'_>, BadField<'_>>
+    ensures command { read_view result ≡ with_fields ask_fields ask_in (view value.now) }
+    ensures askable { IfOk result IsAskable }
+{
+    if let Some(field) = unknown_ask_field(value) {
+        return Err(BadField(field));
+    }
+    Ok(Command::Ask(read_asked(value)?))
+}
+
+fn unknown_ask_field(value: &Value) -> Option<&str>
+    ensures { option_map (λ field. field.now) result ≡ unknown_field ask_fields (view value.now) }
+{
+    unknown_field(
+        value,
+        &[
+            "do", "target", "method", "scheme", "server", "port", "host", "client", "headers",
+            "trail",
+        ],
+    )
+}

@@ -1,0 +1,39 @@
+ghost use Rattle.std.specs.Prelude.{◌≡◌, map};
+ghost use Rattle.std.specs.Option.{option_map};
+ghost use Rattle.serde_json.specs.View.{view, members_view};
+ghost use Rattle.hc_json.specs.CommandView.{field_view};
+ghost use Rattle.hc_json.specs.Fields.{required, unknown_field, unknown_member};
+
+use hc_base::bytes::is_among;
+use serde_json::{Map, Value};
+
+/// The first wrong field of a value that is no command.
+#[derive(Clone, Copy)]
+pub(crate) struct BadField<'v>(pub(crate) &'v str);
+
+/// The text at a key that must be there.
+pub(crate) fn required<'v>(value: &'v Value, key: &'v str) -> Result<&'v str, BadField<'v>>
+    ensures { field_view result ≡ required key.now (view value.now) }
+{
+    value.get(key).and_then(Value::as_str).ok_or(BadField(key))
+}
+
+/// The first key, in byte order, that is not among the known ones.
+pub(crate) fn unknown_field<'v>(value: &'v Value, known: &[&str]) -> Option<&'v str>
+    ensures { option_map (λ field. field.now) result
+        ≡ unknown_field (map (λ k. k.now) known.now) (view value.now) }
+{
+    unknown_member(value.as_object()?, known)
+}
+
+fn unknown_member<'v>(members: &'v Map<String, Value>, known: &[&str]) -> Option<&'v str>
+    ensures { option_map (λ field. field.now) result
+        ≡ unknown_member (map (λ k. k.now) known.now) (members_view members.now.entries) }
+{
+    for (key, _) in members.iter() {
+        if !is_among(known, key.as_str()) {
+            return Some(key.as_str());
+        }
+    }
+    None
+}

@@ -1,0 +1,73 @@
+ghost use Rattle.std.specs.Prelude.{◌≡◌, IfOk};
+ghost use Rattle.serde_json.specs.Find.{as_str};
+ghost use Rattle.serde_json.specs.View.{members_view, view};
+ghost use Rattle.hc_json.specs.Forms.{are_headers, has_alike, header_of, headers_of, is_alike, is_value_of};
+
+use crate::forms::{is_name, is_same_name, is_value};
+use hc_base::{List, NoMemory, Text};
+use hc_model::Header;
+use serde_json::{Map, Value};
+use std::alloc::Global;
+
+/// Each member is a header, and no two names are equal without case.
+pub(crate) fn are_headers(members: &Map<String, Value>) -> bool
+    ensures { result ≡ are_headers (members_view members.now.entries) (members_view members.now.entries) }
+{
+    for (name, value) in members.iter() {
+        if !is_name(name.as_bytes()) || !is_value_of(value) || has_alike(members, name.as_bytes()) {
+            return false;
+        }
+    }
+    true
+}
+
+// A text that the value of a header may be.
+fn is_value_of(value: &Value) -> bool
+    ensures { result ≡ is_value_of (as_str (view value.now)) }
+{
+    match value.as_str() {
+        Some(text) => is_value(text.as_bytes()),
+        None => false,
+    }
+}
+
+// Another member's name is equal without case.
+fn has_alike(members: &Map<String, Value>, name: &[u8]) -> bool
+    ensures { result ≡ has_alike name.now (members_view members.now.entries) }
+{
+    for (other, _) in members.iter() {
+        if is_alike(name, other.as_bytes()) {
+            return true;
+        }
+    }
+    false
+}
+
+fn is_alike(name: &[u8], other: &[u8]) -> bool
+    ensures { result ≡ is_alike name.now other.now }
+{
+    is_same_name(name, other) && name != other
+}
+
+/// The headers that members are.
+pub(crate) fn copy_headers(
+    alloc: Global,
+    members: &Map<String, Value>,
+) -> Result<List<Header>, NoMemory>
+    ensures { IfOk result (λ headers. headers ≡ headers_of (members_view members.now.entries)) }
+{
+    let mut headers = List::new(alloc);
+    for (name, value) in members.iter() {
+        headers.push(copy_header(alloc, name.as_str(), value)?)?;
+    }
+    Ok(headers)
+}
+
+fn copy_header(alloc: Global, name: &str, value: &Value) -> Result<Header, NoMemory>
+    ensures { IfOk result (λ header. header ≡ header_of name.now (view value.now)) }
+{
+    Ok(Header {
+        name: Text::copy_of(alloc, name.as_bytes())?,
+        value: Text::copy_of(alloc, value.as_str().unwrap_or("").as_bytes())?,
+    })
+}

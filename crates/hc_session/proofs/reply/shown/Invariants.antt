@@ -1,6 +1,0 @@
-use Rattle.std.proofs.Common.{◌≡◌, string_bytes, take}
-use Rattle.hc_session.specs.Shown.{shown}
-use Rattle.hc_session.proofs.reply.shown.Given as goal
-
-abbrev pub invariant-loop-byte : goal.invariant-loop-byte
-invariant-loop-byte l = string_bytes l.text ≡ shown (take l.byte-index l.bytes)

@@ -1,0 +1,7 @@
+//! The words of the command line.
+#![tactic(auto)]
+
+mod decimal;
+mod words;
+
+pub use words::{Words, WordsFault, read_words};
