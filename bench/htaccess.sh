@@ -5,7 +5,8 @@
 #
 # 10,000 directories, eight below each other, have a `.htaccess` of three lines each. So many asks (20,000) go to a file
 # in the deepest of each eight, in turn, once where all is allowed and once under `AllowOverride None`, where no file
-# is read; what one takes more than the other is what eight texts take. Nothing is built here.
+# is read; what one takes more than the other is what eight texts take, most of them kept. Each chain asked once has all of its
+# texts read. Nothing is built here.
 source "$(dirname -- "$(readlink -f -- "$0")")/program.sh"
 
 python3 - "$program" "$room" "${2:-20000}" << 'PYTHON'
@@ -44,9 +45,10 @@ def write_input(path, allowed, asks):
         commands.append(put(f"/srv{directories[-1]}/f", ""))
     wanted = ['{"done":"put"}'] * len(commands)
     for at in range(asks):
-        target = chains[at % len(chains)][-1] + "/f"
-        commands.append({"do": "ask", "target": target})
-        wanted.append('{"outcome":{"file":{"info":"","path":"/srv%s"}}}' % target)
+        file = chains[at % len(chains)][-1] + "/f"
+        # with a query of its own, so that no answer is kept
+        commands.append({"do": "ask", "target": f"{file}?{at}"})
+        wanted.append('{"outcome":{"file":{"info":"","path":"/srv%s"}}}' % file)
     with open(path, "w", encoding="ascii") as out:
         out.writelines(json.dumps(command, separators=(",", ":")) + "\n" for command in commands)
     return "\n".join(wanted) + "\n"
@@ -70,5 +72,10 @@ without, _ = seconds(program, room, "None", asks)
 whole, peak = seconds(program, room, "All", asks)
 print(f"an ask            {whole / asks * 1e6:8.2f} us  {asks} asks  {peak} KiB")
 print(f"  without texts   {without / asks * 1e6:8.2f} us")
-print(f"  a text read     {(whole - without) / asks / DEPTH * 1e6:8.2f} us")
+print(f"  a text          {(whole - without) / asks / DEPTH * 1e6:8.2f} us")
+# each chain once: all of its texts are read
+once = DIRECTORIES // DEPTH
+anew, _ = seconds(program, room, "All", once)
+alone, _ = seconds(program, room, "None", once)
+print(f"  a text read     {(anew - alone) / once / DEPTH * 1e6:8.2f} us")
 PYTHON

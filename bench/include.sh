@@ -49,12 +49,15 @@ def write_input(path, lines):
         for file, text in puts(lines):
             size += len(text)
             out.write(json.dumps({"do": "put", "path": file, "text": text}) + "\n")
-        out.write('{"do":"check"}\n' * CHECKS)
+        # another text of the main file has everything read anew
+        for at in range(CHECKS):
+            out.write(json.dumps({"do": "put", "path": MAIN_FILE, "text": f"{MAIN_TEXT}# {at}\n"}) + "\n")
+            out.write('{"do":"check"}\n')
     return size
 
 
 def faults_of(replies, lines):
-    wanted = '{"done":"put"}\n' * (lines // LINES_A_FILE + 1) + '{"config":{"hosts":0}}\n' * CHECKS
+    wanted = '{"done":"put"}\n' * (lines // LINES_A_FILE + 1) + '{"done":"put"}\n{"config":{"hosts":0}}\n' * CHECKS
     return differs(replies, wanted)
 
 

@@ -45,7 +45,10 @@ def text_of(lines):
 def write_input(path, lines):
     text = text_of(lines)
     commands = [{"do": "put", "path": MAIN_FILE, "text": text}]
-    commands += [{"do": "ask", "target": "/none"}] * ASKS
+    # another main file and back: the text is read anew at each ask
+    for _ in range(ASKS):
+        commands += [{"do": "main", "path": "/other"}, {"do": "main", "path": MAIN_FILE}]
+        commands.append({"do": "ask", "target": "/none"})
     with open(path, "w", encoding="ascii") as out:
         for command in commands:
             out.write(json.dumps(command, separators=(",", ":")) + "\n")
@@ -53,7 +56,7 @@ def write_input(path, lines):
 
 
 def faults_of(replies, _):
-    wanted = '{"done":"put"}\n' + '{"outcome":{"not_found":true}}\n' * ASKS
+    wanted = '{"done":"put"}\n' + ('{"done":"main"}\n' * 2 + '{"outcome":{"not_found":true}}\n') * ASKS
     return differs(replies, wanted)
 
 

@@ -44,7 +44,8 @@ def file_at(at):
 def asked(kind, at):
     """A target, and the file that it gets where rules run."""
     if kind == "files" or (kind == "both" and at % 2 == 0):
-        return file_at(at % FILES), ROOT + file_at(at % FILES), True
+        # with a query of its own, so that no answer is kept
+        return f"{file_at(at % FILES)}?{at}", ROOT + file_at(at % FILES), True
     return f"/2024/post-{at}", ROOT + "/index.php", False
 
 
