@@ -2,7 +2,7 @@ ghost use Rattle.std.specs.Prelude.{◌≡◌, OnOk};
 ghost use Rattle.hc_config.specs.Rewriting.{no_rewriting, with_base, with_cond, with_engine, with_inherit, with_rule};
 
 use hc_base::{List, NoMemory, Text};
-use hc_model::{Cond, Inherit, Rule};
+use hc_model::{Cond, Inherit, Rule, Rules};
 use std::alloc::Global;
 use std::mem::replace;
 
@@ -20,7 +20,7 @@ pub(crate) struct Rewriting {
     pub base: Option<Text>,
     /// The last RewriteOptions.
     pub inherit: Inherit,
-    pub rules: List<Rule>,
+    pub rules: Rules,
     /// The conditions that wait for the next rule.
     pub conds: List<Cond>,
 }
@@ -34,7 +34,7 @@ impl Rewriting {
             engine: None,
             base: None,
             inherit: Inherit::No,
-            rules: List::new(alloc),
+            rules: Rules::new(),
             conds: List::new(alloc),
         }
     }
@@ -75,6 +75,6 @@ impl Rewriting {
         let alloc = self.conds.allocator();
         rule.conds = replace(&mut self.conds, List::new(alloc));
         self.stands = true;
-        self.rules.push(rule)
+        self.rules.push(alloc, rule)
     }
 }

@@ -5,8 +5,8 @@ ghost use Rattle.hc_merge.specs.Rewriting.{no_rewriting, replaced, rewriting_beh
 ghost use Rattle.hc_merge.specs.RewritingView.{rewriting_view, rules_in};
 
 use crate::candidate::Candidate;
-use hc_base::{List, NoMemory, Text};
-use hc_model::{Inherit, Rule};
+use hc_base::{NoMemory, Text};
+use hc_model::{Inherit, Rules};
 use std::alloc::Global;
 
 /// What of mod_rewrite is in force so far, lent by the sections.
@@ -18,7 +18,7 @@ pub(crate) struct Rewriting<'c> {
     /// RewriteBase.
     pub base: Option<&'c Text>,
     /// The rules, list behind list.
-    pub rules: Vec<&'c List<Rule>>,
+    pub rules: Vec<&'c Rules>,
 }
 
 /// What is in force behind these sections: each that has a directive of mod_rewrite replaces what was, but
@@ -77,9 +77,9 @@ fn replaced<'c>(so_far: Rewriting<'c>, candidate: Candidate<'c>) -> Result<Rewri
 // Inherited rules come behind a section's own, or before them.
 fn with_earlier<'c>(
     inherit: Inherit,
-    own: &'c List<Rule>,
-    mut earlier: Vec<&'c List<Rule>>,
-) -> Result<Vec<&'c List<Rule>>, NoMemory>
+    own: &'c Rules,
+    mut earlier: Vec<&'c Rules>,
+) -> Result<Vec<&'c Rules>, NoMemory>
     ensures { IfOk result (λ rules. rules_in rules.items
         ≡ with_earlier inherit own.now (rules_in earlier.entry.items)) }
 {

@@ -18,7 +18,7 @@ use crate::rewriting::rewriting_of;
 use hc_authz::join;
 use hc_base::{List, NoMemory, Text};
 use hc_model::{
-    Config, Effective, Event, HostId, Merging, OptStep, Overrides, Redirect, ReqTree, Rule, View,
+    Config, Effective, Event, HostId, Merging, OptStep, Overrides, Redirect, ReqTree, Rules, View,
     Walk,
 };
 use hc_vhost::server_at;
@@ -182,13 +182,13 @@ fn redirects_of(alloc: Global, kept: &[Candidate<'_>]) -> Result<List<Redirect>,
     Ok(redirects)
 }
 
-// The rules of lists, one behind another.
-fn rules_of(alloc: Global, lists: &[&List<Rule>]) -> Result<List<Rule>, NoMemory>
+// The rules of lists, one behind another. One list alone is shared.
+fn rules_of(alloc: Global, lists: &[&Rules]) -> Result<Rules, NoMemory>
     ensures { IfOk result (λ rules. rules ≡ rules_in lists.now) }
 {
-    let mut rules = List::new(alloc);
+    let mut rules = Rules::new();
     for list in lists {
-        rules = behind(rules, list.as_slice())?;
+        rules = rules.joined(alloc, list)?;
     }
     Ok(rules)
 }

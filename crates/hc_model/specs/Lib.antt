@@ -2,5 +2,6 @@ pub mod Node
 pub mod Overrides
 pub mod PatternCode
 pub mod Reads
+pub mod Shared
 pub mod Walking
 pub mod World

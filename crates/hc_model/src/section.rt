@@ -1,6 +1,6 @@
 ghost use Rattle.std.specs.Prelude.{◌≡◌, IfOk};
 
-use crate::{Event, Expr, Merging, Redirect, Regex, ReqTree, Rule};
+use crate::{Event, Expr, Merging, Redirect, Regex, ReqTree, Rules};
 use hc_base::{List, NoMemory, Place, Span, Text, copy_option};
 
 /// Where a section applies (Apache manual, "Configuration Sections").
@@ -48,7 +48,7 @@ pub struct Body {
     pub engine: Option<bool>,
     /// RewriteBase.
     pub base: Option<Text>,
-    pub rules: List<Rule>,
+    pub rules: Rules,
     /// Some directive of mod_rewrite stands here.
     pub rewrites: bool,
     /// The Redirect directives (mod_alias).
@@ -109,7 +109,7 @@ pub struct Effective {
     pub dir: Option<Text>,
     /// RewriteBase.
     pub base: Option<Text>,
-    pub rules: List<Rule>,
+    pub rules: Rules,
     pub redirects: List<Redirect>,
     /// The events of the sections, in the order in which they are merged.
     pub sections: List<Event>,
@@ -154,7 +154,7 @@ fn copy_body(body: &Body) -> Result<Body, NoMemory>
         require: copy_option(&body.require)?,
         engine: body.engine,
         base: copy_option(&body.base)?,
-        rules: body.rules.copy()?,
+        rules: body.rules.clone()?,
         rewrites: body.rewrites,
         redirects: body.redirects.copy()?,
         inner: copy_sections(&body.inner)?,
@@ -205,7 +205,7 @@ impl Clone for Effective {
             engine: self.engine,
             dir: copy_option(&self.dir)?,
             base: copy_option(&self.base)?,
-            rules: self.rules.copy()?,
+            rules: self.rules.clone()?,
             redirects: self.redirects.copy()?,
             sections: self.sections.copy()?,
             require: copy_option(&self.require)?,

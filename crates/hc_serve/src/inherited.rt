@@ -1,29 +1,29 @@
 //! What of mod_rewrite is in force at the server that answers (Apache manual, mod_rewrite, RewriteOptions).
 ghost use Rattle.std.specs.Prelude.{◌≡◌, ◌++◌, IfOk};
 ghost use Rattle.hc_serve.specs.Inherited.{list_of};
-ghost use Rattle.hc_merge.specs.Rewriting.{with_earlier};
-ghost use Rattle.hc_serve.specs.ServerRules.{behind_own, engine_at, inherited_by, maps_at, rules_at};
+ghost use Rattle.hc_serve.specs.ServerRules.{engine_at, inherited_by, maps_at, rules_at};
 ghost use Rattle.hc_serve.specs.Site.{site_of};
 
 use crate::site::Asked;
 use hc_base::{List, NoMemory};
-use hc_model::{HostId, Inherit, Map, Rule, Server};
+use hc_model::{HostId, Inherit, Map, Rules, Server};
 use hc_vhost::server_at;
+use std::alloc::Global;
 
-/// What is in force: the server's own, lent, or copies of these and of the main server's.
+/// The maps that are in force: the server's own, lent, or copies of these and of the main server's.
 #[derive(Drop)]
-pub(crate) enum Inherited<'l, T> {
-    Own(&'l [T]),
-    Joined(List<T>),
+pub(crate) enum Maps<'l> {
+    Own(&'l [Map]),
+    Joined(List<Map>),
 }
 
-impl<'l, T> Inherited<'l, T> {
-    pub(crate) fn as_slice(&self) -> &[T]
+impl<'l> Maps<'l> {
+    pub(crate) fn as_slice(&self) -> &[Map]
         ensures { result.now ≡ list_of self.now }
     {
         match self {
-            Inherited::Own(own) => own,
-            Inherited::Joined(joined) => joined.as_slice(),
+            Maps::Own(own) => own,
+            Maps::Joined(joined) => joined.as_slice(),
         }
     }
 }
@@ -39,27 +39,32 @@ pub(crate) fn engine_at(asked: &Asked<'_>) -> bool
 }
 
 /// The rules that are in force.
-pub(crate) fn rules_at<'c>(asked: &Asked<'c>) -> Result<Inherited<'c, Rule>, NoMemory>
-    ensures { IfOk result (λ rules. list_of rules ≡ rules_at (site_of asked.now)) }
+pub(crate) fn rules_at(alloc: Global, asked: &Asked<'_>) -> Result<Rules, NoMemory>
+    ensures { IfOk result (λ rules. rules ≡ rules_at (site_of asked.now)) }
 {
     let server = server_at(asked.config, asked.host);
-    with_earlier(
-        inherited_by(asked.host, server),
-        &server.body.rules,
-        &asked.config.main.body.rules,
-    )
+    let own = &server.body.rules;
+    let main = &asked.config.main.body.rules;
+    match inherited_by(asked.host, server) {
+        Inherit::No => own.clone(),
+        Inherit::After => own.joined(alloc, main),
+        Inherit::Before => main.joined(alloc, own),
+    }
 }
 
-/// The maps that are in force.
-pub(crate) fn maps_at<'c>(asked: &Asked<'c>) -> Result<Inherited<'c, Map>, NoMemory>
+/// The maps that are in force. Inherited ones always come behind the server's own.
+pub(crate) fn maps_at<'c>(asked: &Asked<'c>) -> Result<Maps<'c>, NoMemory>
     ensures { IfOk result (λ maps. list_of maps ≡ maps_at (site_of asked.now)) }
 {
     let server = server_at(asked.config, asked.host);
-    with_earlier(
-        behind_own(inherited_by(asked.host, server)),
-        &server.maps_by_name,
-        &asked.config.main.maps_by_name,
-    )
+    let own = &server.maps_by_name;
+    match inherited_by(asked.host, server) {
+        Inherit::No => Ok(Maps::Own(own.as_slice())),
+        Inherit::After | Inherit::Before => {
+            let main = asked.config.main.maps_by_name.as_slice();
+            Ok(Maps::Joined(joined(own.copy()?, main)?))
+        }
+    }
 }
 
 // RewriteOptions of the main server inherits nothing.
@@ -72,39 +77,12 @@ fn inherited_by(host: HostId, server: &Server) -> Inherit
     }
 }
 
-// Inherited maps always come behind the server's own.
-fn behind_own(inherit: Inherit) -> Inherit
-    ensures { result ≡ behind_own inherit }
+// Copies of these behind a list.
+fn joined(mut list: List<Map>, more: &[Map]) -> Result<List<Map>, NoMemory>
+    ensures { IfOk result (λ all. all ≡ list ++ more.now) }
 {
-    match inherit {
-        Inherit::No => Inherit::No,
-        Inherit::After | Inherit::Before => Inherit::After,
+    for map in more {
+        list.push(map.clone()?)?;
     }
-}
-
-fn with_earlier<'l, T: Clone + Drop>(
-    inherit: Inherit,
-    own: &'l List<T>,
-    main: &List<T>,
-) -> Result<Inherited<'l, T>, NoMemory>
-    requires { (x y : T) → T.is_clone x y → y ≡ x }
-    ensures { IfOk result (λ list. list_of list ≡ with_earlier inherit own.now main.now) }
-{
-    match inherit {
-        Inherit::No => Ok(Inherited::Own(own.as_slice())),
-        Inherit::After => Ok(Inherited::Joined(joined(own, main)?)),
-        Inherit::Before => Ok(Inherited::Joined(joined(main, own)?)),
-    }
-}
-
-// Copies of both, one behind the other.
-fn joined<T: Clone + Drop>(first: &List<T>, then: &List<T>) -> Result<List<T>, NoMemory>
-    requires { (x y : T) → T.is_clone x y → y ≡ x }
-    ensures { IfOk result (λ all. all ≡ first.now ++ then.now) }
-{
-    let mut all = first.copy()?;
-    for item in then.as_slice() {
-        all.push(item.clone()?)?;
-    }
-    Ok(all)
+    Ok(list)
 }

@@ -79,7 +79,7 @@ fn run_at(asked: &Asked<'_>, log: &mut Log, pass: &Pass, state: RwState) -> Resu
         (run (run_rules (context_at (site_of asked.now) pass.now) (looks_of (maps_at (site_of asked.now)))
         (rules_at (site_of asked.now)) state) (shown_by asked.now.world.now.files)) }
 {
-    let rules = rules_at(asked)?;
+    let rules = rules_at(log.allocator(), asked)?;
     let context = context_at(asked, pass);
     run_over(asked, log, &context, rules.as_slice(), state)
 }

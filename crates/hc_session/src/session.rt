@@ -1,7 +1,8 @@
-ghost use Rattle.std.specs.Prelude.{◌≡◌, ◌<◌, ◌-◌, ◌^◌, Some, true, IfOk};
+ghost use Rattle.std.specs.Prelude.{◌≡◌, ◌<◌, ◌-◌, ◌^◌, None, Some, true, IfOk, IfSome};
 ghost use Rattle.hc_base.specs.Paths.{begins_with_slash};
 ghost use Rattle.hc_json.specs.Command.{command_of};
 ghost use Rattle.hc_json.specs.CommandView.{question_view, request_view};
+ghost use Rattle.hc_kept.specs.Site.{is_current_site};
 ghost use Rattle.hc_session.specs.Changes.{changed_by, done_of};
 ghost use Rattle.hc_session.specs.Session.{Counts, EditTurn, Gave, IsTurn, StepTurn, ask_turn};
 ghost use Rattle.hc_session.specs.Session.{check_turn, end_turn, evaluated_turn, is_kept, kept_turn};
@@ -168,7 +169,7 @@ impl Session {
         if path.as_bytes() != self.main.as_bytes() {
             self.main = Text::copy_of(self.alloc, path.as_bytes())?;
             self.answers.clear();
-            self.site = None;
+            forget(&mut self.site);
         }
         Ok(done)
     }
@@ -266,9 +267,9 @@ impl Session {
         ensures site { IfOk result (IsSite self.old.world self.old.main) }
         ensures built { IfOk result (λ site. site.built ≡ present self.old) }
     {
-        match self.site.take() {
-            Some(site) if site.is_current(&self.world) => Ok(site),
-            _ => Site::read(self.alloc, &self.world, self.main.as_bytes(), bytes),
+        match take_current(&mut self.site, &self.world) {
+            Some(site) => Ok(site),
+            None => Site::read(self.alloc, &self.world, self.main.as_bytes(), bytes),
         }
     }
 
@@ -286,6 +287,23 @@ impl Session {
         self.asks += 1;
         self.evaluations += 1;
         Ok(stepped)
+    }
+}
+
+fn forget(slot: &mut Option<Site>)
+    ensures { slot.new ≡ None }
+{
+    *slot = None;
+}
+
+// What was read, if that stands; else it is forgotten.
+fn take_current(slot: &mut Option<Site>, world: &World) -> Option<Site>
+    ensures left { slot.new ≡ None }
+    ensures current { IfSome result (λ site. (slot.old ≡ Some site) × (is_current_site world.now site ≡ true)) }
+{
+    match slot.take() {
+        Some(site) if site.is_current(world) => Some(site),
+        _ => None,
     }
 }
 

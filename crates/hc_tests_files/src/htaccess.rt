@@ -7,7 +7,7 @@ use crate::show::text_of;
 use hc_base::{List, NoMemory, Place, Steps, Text};
 use hc_flat::Flat;
 use hc_include::flatten_override;
-use hc_model::{Body, Config, Inherit, Merging, Server};
+use hc_model::{Body, Config, Inherit, Merging, Rules, Server};
 use hc_world::WorldFault;
 use std::alloc::Global;
 use std::marker::Brand;
@@ -137,7 +137,7 @@ fn body(alloc: Global) -> Body {
         inherit: Inherit::No,
         rewrites: false,
         options: List::new(alloc),
-        rules: List::new(alloc),
+        rules: Rules::new(),
         redirects: List::new(alloc),
         inner: List::new(alloc),
     }

@@ -1,5 +1,5 @@
 use Rattle.std.proofs.Common.{◌≡◌, ◌++◌, drop}
 use Rattle.hc_serve.proofs.inherited.joined.Given as goal
 
-abbrev pub invariant-loop-item : goal.invariant-loop-item
-invariant-loop-item g l = l.all ++ drop l.item-index l.then ≡ l.first ++ l.then
+abbrev pub invariant-loop-map : goal.invariant-loop-map
+invariant-loop-map l = l.fn.list ++ l.more ≡ l.list ++ drop l.map-index l.more
