@@ -1,4 +1,5 @@
 pub mod Common
+pub mod Finishing
 pub mod Fronts
 pub mod Groups
 pub mod Leading

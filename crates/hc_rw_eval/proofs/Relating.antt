@@ -51,7 +51,7 @@ module _ (context : Context) (looks : Looks) (w : Shown) (round : ℕ) where
     matched stop next late left_by further is s n l on =
         gone (attempted true left_by) further is (on ∙ λ i. run (flagged (sym s i) (sym n i) (sym l i) left_by) w)
 
-  only : {rules : List Rule} {skipped : ℕ} {left : Rewritten} {one : Run Outcome Round} → Led rules skipped left one → one ≡ from rules skipped left
+  pub only : {rules : List Rule} {skipped : ℕ} {left : Rewritten} {one : Run Outcome Round} → Led rules skipped left one → one ≡ from rules skipped left
   unfolding from_place behind
   only no_rule = refl
   only (skipped_rule further) = only further
