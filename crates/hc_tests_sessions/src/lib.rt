@@ -42,3 +42,5 @@ mod serve;
 mod session;
 #[cfg(test)]
 mod trails;
+#[cfg(test)]
+mod words;
