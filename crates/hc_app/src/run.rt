@@ -40,7 +40,8 @@ pub fn run<S: Source, K: Sink, E: Ledger, B: Ledger>(
         (K.written sink.old) (K.written sink.new) evals.old evals.new result }
 
     // A script is made without a look at the source.
-    ensures generated { (seed : ℕ) → AsksFor seed (words_of (map string_bytes words.now)) → result ≢ Status.NoMemory
+    ensures generated { (seed : ℕ) → AsksFor seed (words_of (map string_bytes words.now))
+        → result ≢ Status.NoMemory
         → Generated seed (K.written sink.old) (K.written sink.new) evals.old evals.new result
         × (source.new ≡ source.old) }
 

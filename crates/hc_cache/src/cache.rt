@@ -73,7 +73,10 @@ impl<K: Eq + Hash + Drop, V: Drop> Cache<K, V> {
     pub fn store(&mut self, key: K, reads: List<Read>, at: u64, value: V) -> Result<(), NoMemory>
         ensures ok { OnOk result (
             let entry : Entry K V = record { key = key; reads = reads; at = at; value = value } in
-            self.new ≡ record { limit = self.old.limit; entries = stored K.eq self.old.limit entry self.old.entries }) }
+            self.new ≡ record {
+              limit = self.old.limit;
+              entries = stored K.eq self.old.limit entry self.old.entries;
+            }) }
         ensures err { OnErr result (self.new ≡ self.old) }
     {
         // What leaves need not give its room back.

@@ -44,7 +44,8 @@ impl Run {
     )
         requires going { self.old.session.ended ≡ false }
         requires room { total self.old.tally < 2 ^ 64 - 1 }
-        ensures goes { (left : List (List ℕ)) → Goes self.old self.new (line.now ∷ left) left evals.old evals.new }
+        ensures goes { (left : List (List ℕ))
+            → Goes self.old self.new (line.now ∷ left) left evals.old evals.new }
         ensures few { total self.new.tally ≤ total self.old.tally + 1 }
     {
         match self.session.step(line, evals, bytes) {

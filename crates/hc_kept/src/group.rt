@@ -99,8 +99,8 @@ fn current_in<'e>(
     dir: &[u8],
 ) -> Option<&'e Found>
     requires { IsGroup entries.now.entries }
-    ensures some { (allowed : Allowed)
-        → IfSome result (λ found. IsCurrent world.now (files_in allowed entries.now.entries) dir.now allowed found.now) }
+    ensures some { (allowed : Allowed) → IfSome result (λ found.
+        IsCurrent world.now (files_in allowed entries.now.entries) dir.now allowed found.now) }
     ensures none { (allowed : Allowed)
         → IfNone result (HasNoCurrent world.now (files_in allowed entries.now.entries) dir.now allowed) }
 {

@@ -13,15 +13,18 @@ use std::sync::ledger::{Blank, Ledger};
 static SUMMARIES: &[(u64, &str)] = &[
     (
         0,
-        "{\"summary\":{\"asks\":1800,\"denied\":556,\"evaluations\":1748,\"files\":9,\"missing\":1235,\"no_memory\":0}}\n",
+        "{\"summary\":{\"asks\":1800,\"denied\":556,\"evaluations\":1748,\
+         \"files\":9,\"missing\":1235,\"no_memory\":0}}\n",
     ),
     (
         7,
-        "{\"summary\":{\"asks\":1823,\"denied\":642,\"evaluations\":1767,\"files\":16,\"missing\":1165,\"no_memory\":0}}\n",
+        "{\"summary\":{\"asks\":1823,\"denied\":642,\"evaluations\":1767,\
+         \"files\":16,\"missing\":1165,\"no_memory\":0}}\n",
     ),
     (
         18_446_744_073_709_551_615,
-        "{\"summary\":{\"asks\":1796,\"denied\":603,\"evaluations\":1764,\"files\":25,\"missing\":1168,\"no_memory\":0}}\n",
+        "{\"summary\":{\"asks\":1796,\"denied\":603,\"evaluations\":1764,\
+         \"files\":25,\"missing\":1168,\"no_memory\":0}}\n",
     ),
 ];
 
