@@ -202,11 +202,16 @@ fn headers(alloc: Global) -> Result<List<Header>, NoMemory> {
     ];
     let mut headers = List::new(alloc);
     for &(name, value) in ROWS {
-        let value = Text::copy_of(alloc, value.as_bytes())?;
-        let name = Text::copy_of(alloc, name.as_bytes())?;
-        headers.push(Header { name, value })?;
+        headers.push(header(alloc, name, value)?)?;
     }
     Ok(headers)
+}
+
+fn header(alloc: Global, name: &str, value: &str) -> Result<Header, NoMemory> {
+    Ok(Header {
+        name: Text::copy_of(alloc, name.as_bytes())?,
+        value: Text::copy_of(alloc, value.as_bytes())?,
+    })
 }
 
 fn request(alloc: Global, scheme: Scheme) -> Result<Request, NoMemory> {

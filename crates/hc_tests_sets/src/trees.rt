@@ -110,13 +110,17 @@ static JOINED: &[(Merging, Shape, Shape, Tri)] = &[
     (Merging::Or, Unmet, NotUnmet, Tri::Denied),
 ];
 
+fn joined(alloc: Global, how: Merging, before: &Shape, own: &Shape) -> Result<ReqTree, NoMemory> {
+    let before = made(alloc, before)?;
+    let own = made(alloc, own)?;
+    join(alloc, before, own, how)
+}
+
 #[test]
 fn trees_are_joined(rt: HostRuntime) -> Result<(), Fail> {
     let caller = caller(rt.alloc())?;
     for (how, before, own, wanted) in JOINED {
-        let before = made(rt.alloc(), before)?;
-        let own = made(rt.alloc(), own)?;
-        let tree = join(rt.alloc(), before, own, *how)?;
+        let tree = joined(rt.alloc(), *how, before, own)?;
         assert!(&rt; value(&tree, &caller) == *wanted);
     }
     Ok(())
