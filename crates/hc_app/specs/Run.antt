@@ -2,6 +2,7 @@
 use Rattle.std.specs.Prelude.{◌≡◌, ◌⊎◌, ℕ, List, Option, Some, None}
 use Rattle.hc_generate.specs.Summary.{IsSummary}
 use Rattle.hc_session.specs.Conversation.{Writes}
+use Rattle.hc_session.specs.Sending.{Work}
 use Rattle.hc_session.specs.declared.status.Status.{Status}
 use Rattle.hc_session.specs.declared.status.Status.TheVariants.{Done, WriteFault}
 use Rattle.hc_words.specs.declared.words.Words.{Words}
@@ -17,7 +18,7 @@ AsksFor seed None = ⊥
 AsksFor seed (Some words) = words.generate ≡ Some seed
 
 -- A run that made the script of a seed: the summary was written, or a front of it after a fault of the sink.
-pub record Generated (seed : ℕ) (written grown : Option (List ℕ)) (before after : ℕ) (status : Status) : Type 0 where
+pub record Generated (seed : ℕ) (written grown : Option (List ℕ)) (before after : Work) (status : Status) : Type 0 where
   pub line : List ℕ
   pub told : IsSummary seed line before after
   pub writes : Writes status written grown line

@@ -1,4 +1,5 @@
 ghost use Rattle.std.specs.Prelude.{◌≡◌, ◌≢◌, ◌<◌, ◌^◌, ◌-◌};
+ghost use Rattle.hc_session.specs.Sending.{work};
 ghost use Rattle.hc_app.specs.Run.{Generated};
 
 use hc_base::{Failed, Sink, Steps};
@@ -17,7 +18,8 @@ pub fn generate<K: Sink, E: Ledger, B: Ledger>(
 ) -> Status
     requires sink_counts { K.faults sink.old < 2 ^ 64 - 1 }
     ensures generated { result ≢ Status.NoMemory
-        → Generated seed (K.written sink.old) (K.written sink.new) evals.old evals.new result }
+        → Generated seed (K.written sink.old) (K.written sink.new)
+        (work evals.old bytes.old) (work evals.new bytes.new) result }
     ensures write_fault { result ≡ Status.WriteFault → K.faults sink.old < K.faults sink.new }
     ensures untouched { result ≡ Status.NoMemory → sink.new ≡ sink.old }
     ensures words { result ≢ Status.Words }

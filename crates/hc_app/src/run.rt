@@ -1,5 +1,6 @@
 ghost use Rattle.std.specs.Prelude.{◌≡◌, ◌≢◌, ◌⊎◌, ◌<◌, ◌^◌, ◌-◌, ℕ, None, map, string_bytes};
 ghost use Rattle.hc_session.specs.Conversation.{Completes, Served};
+ghost use Rattle.hc_session.specs.Sending.{work};
 ghost use Rattle.hc_words.specs.Words.{words_of};
 ghost use Rattle.hc_app.specs.Run.{AsksFor, AsksToServe, Generated};
 
@@ -33,16 +34,19 @@ pub fn run<S: Source, K: Sink, E: Ledger, B: Ledger>(
         → Completes (S.left source.old) (K.written sink.old) (K.written sink.new) result }
 
     // In every case what was written is a front of the replies to the whole lines taken, and all
-    // of them unless the sink failed; and `evals` has risen by no more than the evaluations that
-    // they count, and by one for each `no_memory`.
+    // of them unless the sink failed; `evals` has risen by no more than the evaluations that they
+    // count, and by one for each `no_memory`; and `bytes`, where none of them is that, by no more
+    // than the texts that the lines may read.
     ensures served { AsksToServe (words_of (map string_bytes words.now)) → result ≢ Status.NoMemory
         → Served (S.left source.old) (S.left source.new)
-        (K.written sink.old) (K.written sink.new) evals.old evals.new result }
+        (K.written sink.old) (K.written sink.new)
+        (work evals.old bytes.old) (work evals.new bytes.new) result }
 
     // A script is made without a look at the source.
     ensures generated { (seed : ℕ) → AsksFor seed (words_of (map string_bytes words.now))
         → result ≢ Status.NoMemory
-        → Generated seed (K.written sink.old) (K.written sink.new) evals.old evals.new result
+        → Generated seed (K.written sink.old) (K.written sink.new)
+        (work evals.old bytes.old) (work evals.new bytes.new) result
         × (source.new ≡ source.old) }
 
     ensures words { result ≡ Status.Words → words_of (map string_bytes words.now) ≡ None }

@@ -4,8 +4,8 @@ use Rattle.serde_json.specs.Data.{Data, number, unsigned, object, no_members, me
 use Rattle.serde_json.specs.Written.{compact_text}
 use Rattle.hc_base.specs.Bytes.{lf}
 use Rattle.hc_json.specs.Reply.{Reply, only}
-use Rattle.hc_session.specs.Sending.{IsSpent}
-use Rattle.hc_session.specs.Session.{Answers, State, is_no_memory, said_of, start}
+use Rattle.hc_session.specs.Sending.{IsSpent, Work}
+use Rattle.hc_session.specs.Session.{AnswersReading, State, is_no_memory, said_of, start}
 use Rattle.hc_session.specs.declared.stepped.Said.{Said}
 use Rattle.hc_session.specs.declared.stepped.Said.TheVariants as is
 use Rattle.hc_generate.specs.Script.{script_of}
@@ -51,11 +51,12 @@ summary_data asks evaluations tally =
 unfoldable pub summary_line : State → Tally → List ℕ
 summary_line state tally = compact_text (summary_data state.asks state.evaluations tally) ++ lf ∷ []
 
--- The line is the summary of a run of the script that the seed makes, and the counter of evaluations has risen by no
--- more than that run gives.
-pub record IsSummary (seed : ℕ) (line : List ℕ) (before after : ℕ) : Type 0 where
+-- The line is the summary of a run of the script that the seed makes, and the counters have risen by no more than that
+-- run gives.
+pub record IsSummary (seed : ℕ) (line : List ℕ) (before after : Work) : Type 0 where
   pub replies : List Reply
   pub state : State
-  pub answers : Answers start (script_of seed) replies state
+  pub most : ℕ
+  pub answers : AnswersReading start (script_of seed) replies state most
   pub told : line ≡ summary_line state (tally_of replies)
-  pub spent : IsSpent start state replies before after
+  pub spent : IsSpent start state replies most before after

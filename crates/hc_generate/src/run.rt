@@ -1,4 +1,5 @@
 ghost use Rattle.std.specs.Prelude.{◌≡◌, ◌<◌, ◌≤◌, ◌^◌, ◌-◌, ◌+◌, ℕ, List, [], ◌∷◌, false, IfOk, OnOk};
+ghost use Rattle.hc_session.specs.Sending.{work};
 ghost use Rattle.hc_session.specs.Session.{start};
 ghost use Rattle.hc_generate.specs.Run.{Goes, Takes};
 ghost use Rattle.hc_generate.specs.Script.{file_step, files_behind, in_order, override_step, turn};
@@ -45,7 +46,8 @@ impl Run {
         requires going { self.old.session.ended ≡ false }
         requires room { total self.old.tally < 2 ^ 64 - 1 }
         ensures goes { (left : List (List ℕ))
-            → Goes self.old self.new (line.now ∷ left) left evals.old evals.new }
+            → Goes self.old self.new (line.now ∷ left) left
+            (work evals.old bytes.old) (work evals.new bytes.new) }
         ensures few { total self.new.tally ≤ total self.old.tally + 1 }
     {
         match self.session.step(line, evals, bytes) {
@@ -63,7 +65,8 @@ impl Run {
     ) -> Result<(), NoMemory>
         requires room { total self.old.tally < 2 ^ 64 - 1 }
         ensures goes { OnOk result ((left : List Step)
-            → Takes self.old self.new (step ∷ left) left evals.old evals.new) }
+            → Takes self.old self.new (step ∷ left) left
+            (work evals.old bytes.old) (work evals.new bytes.new)) }
         ensures few { total self.new.tally ≤ total self.old.tally + 1 }
     {
         if self.session.has_ended() {
@@ -83,7 +86,8 @@ impl Run {
     ) -> Result<(), NoMemory>
         requires room { total self.old.tally + FILES < 2 ^ 64 - 1 }
         ensures goes { OnOk result ((behind : ℕ → List Step) → Takes self.old self.new
-            (in_order file_step 0 FILES behind draws.old.x) (behind draws.new.x) evals.old evals.new) }
+            (in_order file_step 0 FILES behind draws.old.x) (behind draws.new.x)
+            (work evals.old bytes.old) (work evals.new bytes.new)) }
         ensures few { total self.new.tally ≤ total self.old.tally + FILES }
     {
         for file in 0..FILES {
@@ -101,7 +105,8 @@ impl Run {
     ) -> Result<(), NoMemory>
         requires room { total self.old.tally + DIRECTORIES < 2 ^ 64 - 1 }
         ensures goes { OnOk result ((behind : ℕ → List Step) → Takes self.old self.new
-            (in_order override_step 0 DIRECTORIES behind draws.old.x) (behind draws.new.x) evals.old evals.new) }
+            (in_order override_step 0 DIRECTORIES behind draws.old.x) (behind draws.new.x)
+            (work evals.old bytes.old) (work evals.new bytes.new)) }
         ensures few { total self.new.tally ≤ total self.old.tally + DIRECTORIES }
     {
         for directory in 0..DIRECTORIES {
@@ -119,7 +124,8 @@ impl Run {
     ) -> Result<(), NoMemory>
         requires room { total self.old.tally + TURNS < 2 ^ 64 - 1 }
         ensures goes { OnOk result ((behind : ℕ → List Step) → Takes self.old self.new
-            (in_order (λ number. turn) 0 TURNS behind draws.old.x) (behind draws.new.x) evals.old evals.new) }
+            (in_order (λ number. turn) 0 TURNS behind draws.old.x) (behind draws.new.x)
+            (work evals.old bytes.old) (work evals.new bytes.new)) }
         ensures few { total self.new.tally ≤ total self.old.tally + TURNS }
     {
         for number in 0..TURNS {
@@ -136,7 +142,8 @@ impl Run {
         bytes: &mut Steps<B>,
     ) -> Result<(), NoMemory>
         requires fresh { total self.old.tally ≡ 0 }
-        ensures { OnOk result (Takes self.old self.new (Main ∷ files_behind draws.x) [] evals.old evals.new) }
+        ensures { OnOk result (Takes self.old self.new (Main ∷ files_behind draws.x) []
+            (work evals.old bytes.old) (work evals.new bytes.new)) }
     {
         self.take(Step::Main, evals, bytes)?;
         self.list_files(&mut draws, evals, bytes)?;

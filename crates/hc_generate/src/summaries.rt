@@ -1,5 +1,6 @@
 ghost use Rattle.std.specs.Prelude.{◌≡◌, IfOk};
 ghost use Rattle.serde_json.specs.View.{view};
+ghost use Rattle.hc_session.specs.Sending.{work};
 ghost use Rattle.hc_session.specs.Session.{start};
 ghost use Rattle.hc_generate.specs.Summary.{IsSummary, nothing_said, summary_data, summary_line};
 
@@ -21,7 +22,7 @@ pub fn summary<E: Ledger, B: Ledger>(
     evals: &mut Steps<E>,
     bytes: &mut Steps<B>,
 ) -> Result<Text, NoMemory>
-    ensures { IfOk result (λ line. IsSummary seed line evals.old evals.new) }
+    ensures { IfOk result (λ line. IsSummary seed line (work evals.old bytes.old) (work evals.new bytes.new)) }
 {
     let mut run = Run::new(alloc)?;
     told(alloc, &mut run, seed, evals, bytes)
@@ -36,7 +37,7 @@ fn told<E: Ledger, B: Ledger>(
     bytes: &mut Steps<B>,
 ) -> Result<Text, NoMemory>
     requires { (run.old.session ≡ start) × (run.old.tally ≡ nothing_said) }
-    ensures { IfOk result (λ line. IsSummary seed line evals.old evals.new) }
+    ensures { IfOk result (λ line. IsSummary seed line (work evals.old bytes.old) (work evals.new bytes.new)) }
 {
     run.take_all(Draws::new(seed), evals, bytes)?;
     print(alloc, &run.session, run.tally)

@@ -1,5 +1,6 @@
 -- What is kept of directories whose `.htaccess` was read.
-use Rattle.std.specs.Prelude.{◌≡◌, List, map, Option, Some, None, Result, Ok, Err}
+use Rattle.std.specs.Prelude.{◌≡◌, ℕ, List, map, Option, Some, None, Result, Ok, Err}
+use Rattle.std.specs.Borrow.{GName}
 use Rattle.std.specs.List.{AllByRecursion, find}
 use Rattle.hc_base.specs.declared.place.Refusal.{Refusal}
 use Rattle.hc_model.specs.Overrides.{Loaded, Override, Reading, file, file_of, none, refused}
@@ -9,8 +10,20 @@ use Rattle.hc_model.specs.declared.section.Allowed.{Allowed}
 use Rattle.hc_model.specs.declared.section.HtFile.{HtFile}
 use Rattle.hc_steps.specs.Step.{Path}
 use Rattle.hc_htaccess.specs.Pairs.{is_for}
-use Rattle.hc_htaccess.specs.Reading.{reading_in}
+use Rattle.hc_htaccess.specs.Reading.{reading_in, size_in}
 use Rattle.hc_htaccess.specs.declared.plain.Kept.{Kept}
+
+-- What no load changes: the files, the configuration, and which counter counts the bytes.
+pub record Fixed : Type 0 where
+  pub files : World
+  pub config : Config
+  pub counter : GName
+
+abbrev pub reading_by : Fixed → Reading
+reading_by fixed = reading_in fixed.files fixed.config
+
+abbrev pub size_by : Fixed → Path → ℕ
+size_by fixed = size_in fixed.files
 
 -- A world and a configuration, and what was read of them.
 pub record Plain : Type 0 where

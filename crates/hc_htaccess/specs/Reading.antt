@@ -1,7 +1,7 @@
 -- What reading the `.htaccess` of a directory gives.
 -- Apache manual, ".htaccess files"; core, AllowOverride. That a directory of this name counts as none, and that a file without
 -- a text is refused, is our own choice.
-use Rattle.std.specs.Prelude.{ℕ, List, Option, Some, None, Result, Ok, Err}
+use Rattle.std.specs.Prelude.{ℕ, List, length, Option, Some, None, Result, Ok, Err}
 use Rattle.hc_base.specs.Rules.{refusal_at, rule}
 use Rattle.hc_base.specs.declared.codes.TheConstants.{CONTENT_MISSING}
 use Rattle.hc_base.specs.declared.place.Refusal.{Refusal}
@@ -55,3 +55,16 @@ found_there config dir allowed found = at_kind config dir allowed found.text fou
 
 abbrev pub reading_in : World → Config → Reading
 reading_in world config dir allowed = found_there config dir allowed (found_in world (htaccess_of dir))
+
+-- ---- its bytes
+
+abbrev pub length_of : Option (List ℕ) → ℕ
+length_of None = 0
+length_of (Some text) = length text
+
+-- How many bytes the text at a path has: 0 where there is none.
+abbrev pub text_size : World → Path → ℕ
+text_size world path = length_of (found_in world path).text
+
+abbrev pub size_in : World → Path → ℕ
+size_in world dir = text_size world (htaccess_of dir)

@@ -1,8 +1,9 @@
 //! What reading the `.htaccess` of a directory gives.
-ghost use Rattle.std.specs.Prelude.{◌≡◌, IfOk, option_map};
+ghost use Rattle.std.specs.Prelude.{◌≡◌, ◌+◌, ◌≤◌, IfOk, option_map};
 ghost use Rattle.hc_base.specs.Gives.{Gives};
 ghost use Rattle.hc_htaccess.specs.Loading.{answer_of};
-ghost use Rattle.hc_htaccess.specs.Reading.{reading_in, text_there, without_text};
+ghost use Rattle.hc_htaccess.specs.Reading.{length_of, reading_in, size_in, text_there, without_text};
+ghost use Rattle.hc_model.specs.Overrides.{IfMemory};
 
 use crate::reading::read_overrides;
 use hc_base::codes::CONTENT_MISSING;
@@ -25,7 +26,8 @@ pub fn read_htaccess<L: Ledger>(
     dir: &[u8],
     allowed: Allowed,
 ) -> Result<Option<HtFile>, AtFault>
-    ensures { Gives result (answer_of (reading_in world.now.files config.now dir.now allowed)) }
+    ensures found { Gives result (answer_of (reading_in world.now.files config.now dir.now allowed)) }
+    ensures bytes { IfMemory result (bytes.new ≤ bytes.old + size_in world.now.files dir.now) }
 {
     let path = htaccess_of(alloc, dir)?;
     match world.kind(path.as_bytes()) {
@@ -50,8 +52,9 @@ fn read_text<L: Ledger>(
     allowed: Allowed,
     text: Option<&str>,
 ) -> Result<Option<HtFile>, AtFault>
-    ensures { Gives result
+    ensures found { Gives result
         (answer_of (text_there config.now dir.now allowed (option_map (λ text. text.now) text.entry))) }
+    ensures bytes { IfMemory result (bytes.new ≤ bytes.old + length_of (option_map (λ text. text.now) text.entry)) }
 {
     let Some(text) = text else {
         return Err(Fault::Refused(without_text(alloc, dir)?));

@@ -1,7 +1,6 @@
 -- What is loaded: of what was kept and of what was read since.
-use Rattle.std.proofs.Common.{◌≡◌, ◌⊎◌, inl, inr, List, [], ◌∷◌, ◌++◌, map, filter, Bool, true, false, Result, Ok, Err, refl, sym, ap, ◌∙◌, append_assoc, true≢false, arith}
+use Rattle.std.proofs.Common.{◌≡◌, ◌⊎◌, inl, inr, List, [], ◌∷◌, ◌++◌, map, filter, Bool, true, false, refl, sym, ap, ◌∙◌, append_assoc, true≢false, arith}
 use Rattle.std.specs.List.{Contains}
-use Rattle.std.specs.Result.{OnOk}
 use Rattle.std.proofs.lemmas.List.{map-append}
 use Rattle.std.proofs.lemmas.List.Elements.{Contains-append_cases, Contains-append_left, Contains-push}
 use Rattle.hc_model.specs.Overrides.{Loaded}
@@ -12,10 +11,6 @@ use Rattle.hc_kept.specs.Files.{KeptFile, as_loaded, fresh_as_loaded, is_current
 use Rattle.hc_kept.specs.Groups.{HasNoCurrent}
 use Rattle.hc_kept.specs.declared.cached.FreshFile.{FreshFile}
 use Rattle.hc_kept.proofs.Entries.{behind, first, first_or_behind}
-
-pub on_ok : {T E P : Type 0} (r : Result T E) → P → OnOk r P
-on_ok (Ok x) p = p
-on_ok (Err e) p = tt
 
 module _ (world : Edited) where
   abbrev loaded : List KeptFile → List Loaded

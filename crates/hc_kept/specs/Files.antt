@@ -1,9 +1,10 @@
 -- The `.htaccess` files that were read, as long as their texts stay. Our own choice.
 use Rattle.std.specs.Prelude.{◌≡◌, ℕ, ◌≤◌, List, [], ◌∷◌, ◌++◌, map, filter, Bool, true, Contains, Option, Result}
+use Rattle.std.specs.Borrow.{GName}
 use Rattle.std.specs.List.{AllByRecursion}
 use Rattle.hc_base.specs.declared.place.Refusal.{Refusal}
 use Rattle.hc_cache.specs.Entries.{is_current}
-use Rattle.hc_htaccess.specs.Loading.{answer_of}
+use Rattle.hc_htaccess.specs.Loading.{Fixed, answer_of}
 use Rattle.hc_htaccess.specs.Reading.{reading_in}
 use Rattle.hc_merge.specs.Overriding.{htaccess_of}
 use Rattle.hc_model.specs.Overrides.{Loaded, Reading}
@@ -58,6 +59,10 @@ pub record Cached : Type 0 where
 
 abbrev pub reading_of : Cached → Reading
 reading_of cached = reading_in cached.world.files cached.config
+
+-- What no load changes of it, and of what counts the bytes.
+abbrev pub fixed_of : Cached → GName → Fixed
+fixed_of cached counter = record { files = cached.world.files; config = cached.config; counter = counter }
 
 -- All of it is right.
 pub record AreRight (cached : Cached) : Type 0 where

@@ -1,15 +1,16 @@
 //! The `.htaccess` files of a world, kept as long as their texts stay.
-ghost use Rattle.std.specs.Prelude.{◌≡◌, [], IfNone, IfSome, OnSome, option_map};
+ghost use Rattle.std.specs.Prelude.{◌≡◌, ◌+◌, ◌≤◌, [], IfNone, IfOk, IfSome, OnOk, OnSome, option_map};
 ghost use Rattle.std.specs.List.{find};
 ghost use Rattle.hc_htaccess.specs.Loading.{answer_of};
 ghost use Rattle.hc_htaccess.specs.Pairs.{is_for};
-ghost use Rattle.hc_kept.specs.Files.{AreFilesOf, AreFresh, IsLoaded, fresh_as_loaded, reading_of};
-ghost use Rattle.hc_model.specs.Overrides.{IsRead, Override, file_of};
+ghost use Rattle.hc_htaccess.specs.Reading.{size_in};
+ghost use Rattle.hc_kept.specs.Files.{AreFilesOf, AreFresh, IsLoaded, fresh_as_loaded, loaded_of, reading_of};
+ghost use Rattle.hc_model.specs.Overrides.{IsRead, Kept, Override, file_of};
 
 use crate::KeptFiles;
 use crate::group::Found;
 use crate::settled::settled;
-use hc_base::{Fault, Steps, Text};
+use hc_base::{Fault, NoMemory, Steps, Text};
 use hc_htaccess::read_htaccess;
 use hc_model::{Allowed, AtFault, Config, HtFile, Overrides};
 use hc_world::World;
@@ -25,19 +26,18 @@ pub struct FreshFile {
     pub(crate) found: Found,
 }
 
-/// The `.htaccess` files of a world under a configuration: each is read when it is loaded and was not
-/// kept, or its text has changed since. What was read can be taken out, to be kept.
+/// The `.htaccess` files of a world under a configuration, as far as they are kept or were read since. What was
+/// read can be taken out, to be kept.
 #[derive(Drop)]
-pub struct CachedOverrides<'a, L: Ledger> {
+pub struct CachedFiles<'a> {
     alloc: Global,
     config: &'a Config,
     world: &'a World,
-    bytes: &'a mut Steps<L>,
     kept: &'a KeptFiles,
     fresh: Vec<FreshFile>,
 }
 
-impl<'a, L: Ledger> Model for CachedOverrides<'a, L> {
+impl<'a> Model for CachedFiles<'a> {
     ghost use Rattle.std.specs.Coded.{codes};
     ghost use Rattle.hc_kept.specs.Files.{AreRight, Cached};
     ghost use Rattle.hc_world.specs.Edits.{edited_code};
@@ -58,24 +58,21 @@ impl<'a, L: Ledger> Model for CachedOverrides<'a, L> {
         (record { world = o.world.now; config = o.config.now; kept = o.kept.now; fresh = o.fresh.items }) };
 }
 
-impl<'a, L: Ledger> CachedOverrides<'a, L> {
-    /// Those that are kept are loaded, as far as their texts have stayed. `bytes` will rise by the
-    /// bytes of each text that is read.
+impl<'a> CachedFiles<'a> {
+    /// Those that are kept are loaded, as far as their texts have stayed.
     pub fn new(
         alloc: Global,
         config: &'a Config,
         world: &'a World,
-        bytes: &'a mut Steps<L>,
         kept: &'a KeptFiles,
-    ) -> CachedOverrides<'a, L>
+    ) -> CachedFiles<'a>
         requires { AreFilesOf world.now config.now kept.now }
         ensures { result ≡ record { world = world.now; config = config.now; kept = kept.now; fresh = [] } }
     {
-        CachedOverrides {
+        CachedFiles {
             alloc,
             config,
             world,
-            bytes,
             kept,
             fresh: Vec::new(alloc),
         }
@@ -100,39 +97,73 @@ impl<'a, L: Ledger> CachedOverrides<'a, L> {
             None => Some(&fresh_for(&self.fresh, dir, allowed)?.found),
         }
     }
-}
 
-impl<'a, L: Ledger> Overrides for CachedOverrides<'a, L> {
-    ghost use Rattle.hc_kept.specs.Files.{loaded_of, reading_of};
+    fn read<L: Ledger>(
+        &self,
+        bytes: &mut Steps<L>,
+        dir: &[u8],
+        allowed: Allowed,
+    ) -> Result<Found, NoMemory>
+        ensures found { IfOk result (λ found. found ≡ answer_of (reading_of self.now dir.now allowed)) }
+        ensures bytes { OnOk result (bytes.new ≤ bytes.old + size_in self.now.world.files dir.now) }
+    {
+        settled(read_htaccess(self.alloc, self.config, self.world, bytes, dir, allowed))
+    }
 
-    ghost reading = { reading_of };
-
-    ghost loaded = { loaded_of };
-
-    fn load(&mut self, dir: &[u8], allowed: Allowed) -> Result<(), AtFault> {
-        if let Some(found) = self.found(dir, allowed) {
-            return verdict(found);
-        }
-        let found = settled(read_htaccess(
-            self.alloc,
-            self.config,
-            self.world,
-            self.bytes,
-            dir,
-            allowed,
-        ))?;
-        let verdict = verdict(&found);
+    fn keep(&mut self, dir: &[u8], allowed: Allowed, found: Found) -> Result<(), NoMemory>
+        requires { found ≡ answer_of (reading_of self.old dir.now allowed) }
+        ensures world { self.new.world ≡ self.old.world }
+        ensures config { self.new.config ≡ self.old.config }
+        ensures kept { Kept (loaded_of self.old) (loaded_of self.new) }
+        ensures loads { OnOk result (IsLoaded self.new dir.now allowed) }
+    {
         let dir = Text::copy_of(self.alloc, dir)?;
         self.fresh.push(FreshFile {
             dir,
             allowed,
             found,
         })?;
+        Ok(())
+    }
+}
+
+/// Reads each file when it is loaded and was not kept, or its text has changed since. `bytes` rises by the bytes of
+/// each text that is read.
+#[derive(Drop)]
+pub struct CachedOverrides<'b, 'a, L: Ledger> {
+    pub files: &'b mut CachedFiles<'a>,
+    pub bytes: &'b mut Steps<L>,
+}
+
+impl<'b, 'a, L: Ledger> Overrides for CachedOverrides<'b, 'a, L> {
+    ghost use Rattle.std.specs.Borrow.{GName};
+    ghost use Rattle.hc_htaccess.specs.Loading.{Fixed, reading_by, size_by};
+    ghost use Rattle.hc_kept.specs.Files.{fixed_of, loaded_of};
+
+    ghost Fixed = { Fixed × GName };
+
+    ghost fixed = { λ o. (fixed_of o.files.now o.bytes.ghost_name, o.files.ghost_name) };
+
+    ghost reading = { λ fixed. reading_by fixed.0 };
+
+    ghost size = { λ fixed. size_by fixed.0 };
+
+    ghost loaded = { λ o. loaded_of o.files.now };
+
+    ghost counted = { λ o. o.bytes.now };
+
+    fn load(&mut self, dir: &[u8], allowed: Allowed) -> Result<(), AtFault> {
+        if let Some(found) = self.files.found(dir, allowed) {
+            return verdict(found);
+        }
+        let found = self.files.read(self.bytes, dir, allowed)?;
+        let verdict = verdict(&found);
+        self.files.keep(dir, allowed, found)?;
         verdict
     }
 
     fn get(&self, dir: &[u8], allowed: Allowed) -> Option<&HtFile> {
-        file_of(self.found(dir, allowed)?)
+        file_of(self.files.found(dir, allowed)?)
     }
 }
 

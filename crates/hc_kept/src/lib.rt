@@ -8,6 +8,6 @@ pub mod laws;
 mod settled;
 mod site;
 
-pub use cached::{CachedOverrides, FreshFile};
+pub use cached::{CachedFiles, CachedOverrides, FreshFile};
 pub use files::KeptFiles;
 pub use site::Site;

@@ -29,7 +29,7 @@ pub(crate) fn first_group<'c, O: Overrides>(
     requires { AreLoaded (O.loaded over.now) (wanted (sections_view sections) nothing_allowed dirs.now) }
     ensures { IfOk result (λ list. candidates_of list
         ≡ definition.first_group (sections_view sections.entry)
-        (files_read (O.reading over.now)) nothing_allowed dirs.now) }
+        (files_read (O.reading (O.fixed over.now))) nothing_allowed dirs.now) }
 {
     let mut so_far = Allowing {
         list: Vec::new(alloc),
@@ -50,7 +50,7 @@ fn with_override<'c, O: Overrides>(
 ) -> Result<Allowing<'c>, NoMemory>
     requires { AreLoaded (O.loaded over.now) (wants dir.now so_far.allowed) }
     ensures list { IfOk result (λ later. candidates_of later.list ≡ candidates_of so_far.entry.list
-        ++ override_at (files_read (O.reading over.now)) dir.now so_far.entry.allowed) }
+        ++ override_at (files_read (O.reading (O.fixed over.now))) dir.now so_far.entry.allowed) }
     ensures allowed { IfOk result (λ later. later.allowed ≡ so_far.entry.allowed) }
 {
     if allows_nothing(so_far.allowed) {

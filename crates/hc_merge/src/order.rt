@@ -30,7 +30,7 @@ pub fn ordered_sections<'c, O: Overrides>(
     requires host { IsHostOf config.now host }
     requires loaded { AreLoaded (O.loaded over.now) (wanted_by config.now host walk.now.dirs) }
     ensures { IfOk result (λ candidates. candidates_of candidates
-        ≡ definition.ordered_sections config.now host (files_read (O.reading over.now)) walk.now.dirs) }
+        ≡ definition.ordered_sections config.now host (files_read (O.reading (O.fixed over.now))) walk.now.dirs) }
 {
     let sections = Sections::of(config, host);
     let list = first_group(alloc, sections, walk.dirs.as_slice(), over)?;

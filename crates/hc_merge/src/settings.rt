@@ -43,7 +43,7 @@ pub fn effective<O: Overrides>(
     requires host { IsHostOf config.now host }
     requires loaded { AreLoaded (O.loaded over.now) (wanted_by config.now host walk.now.dirs) }
     ensures { IfOk result (λ effective. effective
-        ≡ definition.effective config.now host walk.now view.now (files_read (O.reading over.now))) }
+        ≡ definition.effective config.now host walk.now view.now (files_read (O.reading (O.fixed over.now)))) }
 {
     let sections = ordered_sections(alloc, config, host, walk, over)?;
     let kept = kept_by(alloc, view, &sections)?;

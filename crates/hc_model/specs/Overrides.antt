@@ -37,3 +37,9 @@ IsRead (Ok _) none = Unit {0}
 IsRead (Ok _) (file found) = Unit {0}
 IsRead (Err (Refused refusal)) override = override ≡ refused refusal
 IsRead (Err NoMemory) override = Unit {0}
+
+-- This holds, unless memory was refused.
+abbrev pub IfMemory : {A E : Type 0} → Result A (Fault E) → Type 0 → Type 0
+IfMemory (Ok _) Holds = Holds
+IfMemory (Err (Refused _)) Holds = Holds
+IfMemory (Err NoMemory) Holds = Unit {0}

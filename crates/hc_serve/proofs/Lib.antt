@@ -1,4 +1,5 @@
 pub mod Common
+pub mod Costs
 pub mod Answered
 pub mod Looks
 pub mod Passes

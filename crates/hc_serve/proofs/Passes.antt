@@ -6,6 +6,7 @@ use Rattle.hc_serve.specs.Site.{Site}
 use Rattle.hc_serve.specs.declared.stage.Ended.{Ended}
 use Rattle.hc_serve.specs.declared.stage.Restarted.{Restarted}
 use Rattle.hc_steps.specs.Step.{Shown}
+use Rattle.hc_serve.proofs.Costs.{passes_cost_begin, passes_cost_end}
 use Rattle.hc_steps.proofs.Going.{ran_leaves, ran_no_memory}
 
 -- What is left behind so many passes.
@@ -45,7 +46,7 @@ passes_end most turn site w old now whole pass h le =
     let none : most - turn ≡ 0 = omega arith in
     leads_end old now whole pass pass w (subst (λ n. Leads old whole now (run (passes n site pass) w)) none h) refl
 
-pub ruleset passing = (passes_begin, passes_end)
+pub ruleset passing = (passes_begin, passes_end, passes_cost_begin, passes_cost_end)
 
 -- One step after another, and want of memory between them.
 pub ruleset stepping = (ran_then, ran_no_further, ran_leaves, ran_no_memory)

@@ -1,4 +1,5 @@
 pub mod Site
+pub mod Costs
 pub mod Files
 pub mod Naming
 pub mod ServerRules

@@ -1,8 +1,9 @@
-ghost use Rattle.std.specs.Prelude.{◌≡◌, ◌+◌, true, IfOk, Some};
+ghost use Rattle.std.specs.Prelude.{◌≡◌, ◌+◌, ◌≤◌, true, IfOk, OnOk, Some};
 ghost use Rattle.hc_base.specs.Paths.{begins_with_slash};
-ghost use Rattle.hc_htaccess.specs.Reading.{reading_in};
+ghost use Rattle.hc_htaccess.specs.Reading.{reading_in, size_in};
 ghost use Rattle.hc_model.specs.Overrides.{Kept};
 ghost use Rattle.hc_serve.specs.Answers.{IsServed, log_of};
+ghost use Rattle.hc_serve.specs.Costs.{looked};
 ghost use Rattle.hc_serve.specs.Request.{IsAnswer, IsWholeRun, way};
 
 use crate::needs::needs_of;
@@ -80,11 +81,14 @@ pub fn evaluate<O: Overrides, L: Ledger>(
     evals: &mut Steps<L>,
 ) -> Result<Answer, NoMemory>
     requires slash { begins_with_slash request.now.target ≡ true }
-    requires over { O.reading over.old ≡ reading_in world.now.files config.now }
+    requires over { O.reading (O.fixed over.old) ≡ reading_in world.now.files config.now }
+    requires sizes { O.size (O.fixed over.old) ≡ size_in world.now.files }
     ensures answer { IfOk result (IsAnswer world.now.files config.now request.now) }
     ensures evals { evals.new ≡ evals.old + 1 }
-    ensures reading { O.reading over.new ≡ O.reading over.old }
+    ensures fixed { O.fixed over.new ≡ O.fixed over.old }
     ensures kept { Kept (O.loaded over.old) (O.loaded over.new) }
+    ensures counted { OnOk result (O.counted over.new
+        ≤ O.counted over.old + looked world.now.files (way config.now request.now)) }
 {
     evals.tick();
     let served = serve(alloc, config, world, over, request, Some(LONGEST_TRAIL))?;
@@ -107,11 +111,14 @@ pub fn whole_run<O: Overrides, L: Ledger>(
     evals: &mut Steps<L>,
 ) -> Result<WholeRun, NoMemory>
     requires slash { begins_with_slash request.now.target ≡ true }
-    requires over { O.reading over.old ≡ reading_in world.now.files config.now }
+    requires over { O.reading (O.fixed over.old) ≡ reading_in world.now.files config.now }
+    requires sizes { O.size (O.fixed over.old) ≡ size_in world.now.files }
     ensures whole { IfOk result (IsWholeRun world.now.files config.now request.now) }
     ensures evals { evals.new ≡ evals.old + 1 }
-    ensures reading { O.reading over.new ≡ O.reading over.old }
+    ensures fixed { O.fixed over.new ≡ O.fixed over.old }
     ensures kept { Kept (O.loaded over.old) (O.loaded over.new) }
+    ensures counted { OnOk result (O.counted over.new
+        ≤ O.counted over.old + looked world.now.files (way config.now request.now)) }
 {
     evals.tick();
     let served = serve(alloc, config, world, over, request, None)?;
@@ -141,10 +148,13 @@ fn serve<O: Overrides>(
     cap: Option<usize>,
 ) -> Result<Served, NoMemory>
     requires slash { begins_with_slash request.now.target ≡ true }
-    requires over { O.reading over.old ≡ reading_in world.now.files config.now }
+    requires over { O.reading (O.fixed over.old) ≡ reading_in world.now.files config.now }
+    requires sizes { O.size (O.fixed over.old) ≡ size_in world.now.files }
     ensures served { IfOk result (IsServed cap world.now.files config.now request.now) }
-    ensures reading { O.reading over.new ≡ O.reading over.old }
+    ensures fixed { O.fixed over.new ≡ O.fixed over.old }
     ensures kept { Kept (O.loaded over.old) (O.loaded over.new) }
+    ensures counted { OnOk result (O.counted over.new
+        ≤ O.counted over.old + looked world.now.files (way config.now request.now)) }
 {
     let mut log = log_of(alloc, cap, config.reads.as_slice())?;
     match way(config, world, &mut log, over, request) {

@@ -1,7 +1,8 @@
 ghost use Rattle.std.specs.Prelude.{◌≡◌, IfOk, OnOk};
-ghost use Rattle.hc_htaccess.specs.Reading.{reading_in};
+ghost use Rattle.hc_htaccess.specs.Reading.{reading_in, size_in};
 ghost use Rattle.hc_merge.specs.Overriding.{AreLoaded, files_read, wanted_by};
 ghost use Rattle.hc_model.specs.Overrides.{Kept};
+ghost use Rattle.hc_serve.specs.Costs.{Costs};
 ghost use Rattle.hc_serve.specs.Passing.{force_at, in_force, sections_told, view_at, with_force};
 ghost use Rattle.hc_serve.specs.Site.{site_of};
 ghost use Rattle.hc_steps.specs.Ran.{Ran, with_events};
@@ -28,11 +29,14 @@ pub(crate) fn in_force<O: Overrides>(
     there: Walked,
 ) -> Result<Here, Stop>
     requires host { IsHostOf asked.now.config.now asked.now.host }
-    requires over { O.reading over.old ≡ reading_in asked.now.world.now.files asked.now.config.now }
+    requires over { O.reading (O.fixed over.old) ≡ reading_in asked.now.world.now.files asked.now.config.now }
+    requires sizes { O.size (O.fixed over.old) ≡ size_in asked.now.world.now.files }
     ensures step { Ran result log.old log.new
         (run (in_force (site_of asked.now) there) (shown_by asked.now.world.now.files)) }
-    ensures reading { O.reading over.new ≡ O.reading over.old }
+    ensures fixed { O.fixed over.new ≡ O.fixed over.old }
     ensures kept { Kept (O.loaded over.old) (O.loaded over.new) }
+    ensures counted { Costs result asked.now.world.now.files (in_force (site_of asked.now) there)
+        (O.counted over.old) (O.counted over.new) }
 {
     files_looked(asked, log, over, &there.walk)?;
     let here = with_force(log.allocator(), asked, over, there)?;
@@ -49,7 +53,7 @@ fn with_force<O: Overrides>(
     requires loaded { AreLoaded (O.loaded over.now)
         (wanted_by asked.now.config.now asked.now.host there.walk.dirs) }
     ensures { IfOk result (λ here. here
-        ≡ with_force there (force_at (site_of asked.now) there (files_read (O.reading over.now)))) }
+        ≡ with_force there (force_at (site_of asked.now) there (files_read (O.reading (O.fixed over.now))))) }
 {
     let Walked { named, walk } = there;
     let view = view_at(asked, &named, &walk)?;

@@ -1,7 +1,8 @@
 ghost use Rattle.std.specs.Prelude.{◌≡◌, IfOk};
 ghost use Rattle.hc_vhost.specs.Servers.{IsHostOf};
-ghost use Rattle.hc_htaccess.specs.Reading.{reading_in};
+ghost use Rattle.hc_htaccess.specs.Reading.{reading_in, size_in};
 ghost use Rattle.hc_model.specs.Overrides.{Kept};
+ghost use Rattle.hc_serve.specs.Costs.{Costs};
 ghost use Rattle.hc_serve.specs.DirectoryRules.{query_left};
 ghost use Rattle.hc_serve.specs.Passing.{admitted, admitted_by, answered, answered_by, begun, finished_there, mapped_at};
 ghost use Rattle.hc_serve.specs.Passing.{merged, name_of, outcome_at, passed, passed_from, passed_there, reached};
@@ -37,11 +38,14 @@ pub(crate) fn passed<O: Overrides>(
     pass: Pass,
 ) -> Result<Restarted, Fault<Ended>>
     requires host { IsHostOf asked.now.config.now asked.now.host }
-    requires over { O.reading over.old ≡ reading_in asked.now.world.now.files asked.now.config.now }
+    requires over { O.reading (O.fixed over.old) ≡ reading_in asked.now.world.now.files asked.now.config.now }
+    requires sizes { O.size (O.fixed over.old) ≡ size_in asked.now.world.now.files }
     ensures step { Ran result log.old log.new
         (run (passed (site_of asked.now) pass) (shown_by asked.now.world.now.files)) }
-    ensures reading { O.reading over.new ≡ O.reading over.old }
+    ensures fixed { O.fixed over.new ≡ O.fixed over.old }
     ensures kept { Kept (O.loaded over.old) (O.loaded over.new) }
+    ensures counted { Costs result asked.now.world.now.files (passed (site_of asked.now) pass)
+        (O.counted over.old) (O.counted over.new) }
 {
     match reached(asked, log, over, pass) {
         Ok(here) => passed_from(asked, log, here),
@@ -83,7 +87,7 @@ fn tree_of(here: Here) -> Option<ReqTree>
 }
 
 // Up to what is in force.
-#[tactic(auto, unfolding(crate::specs::Passing::reached), using(hc_steps::proofs::Going::going))]
+#[tactic(auto, unfolding(crate::specs::Passing::reached), using(hc_steps::proofs::Going::going, crate::proofs::Costs::costs_nothing))]
 fn reached<O: Overrides>(
     asked: &Asked<'_>,
     log: &mut Log,
@@ -91,11 +95,14 @@ fn reached<O: Overrides>(
     pass: Pass,
 ) -> Result<Here, Stop>
     requires host { IsHostOf asked.now.config.now asked.now.host }
-    requires over { O.reading over.old ≡ reading_in asked.now.world.now.files asked.now.config.now }
+    requires over { O.reading (O.fixed over.old) ≡ reading_in asked.now.world.now.files asked.now.config.now }
+    requires sizes { O.size (O.fixed over.old) ≡ size_in asked.now.world.now.files }
     ensures step { Ran result log.old log.new
         (run (reached (site_of asked.now) pass) (shown_by asked.now.world.now.files)) }
-    ensures reading { O.reading over.new ≡ O.reading over.old }
+    ensures fixed { O.fixed over.new ≡ O.fixed over.old }
     ensures kept { Kept (O.loaded over.old) (O.loaded over.new) }
+    ensures counted { Costs result asked.now.world.now.files (reached (site_of asked.now) pass)
+        (O.counted over.old) (O.counted over.new) }
 {
     let pass = begun(asked.world, log, pass)?;
     let placed = rewritten(asked, log, pass)?;

@@ -1,8 +1,9 @@
 ghost use Rattle.std.specs.Prelude.{◌≡◌, true, IfOk};
 ghost use Rattle.hc_vhost.specs.Servers.{IsHostOf};
 ghost use Rattle.hc_base.specs.Paths.{begins_with_slash};
-ghost use Rattle.hc_htaccess.specs.Reading.{reading_in};
+ghost use Rattle.hc_htaccess.specs.Reading.{reading_in, size_in};
 ghost use Rattle.hc_model.specs.Overrides.{Kept};
+ghost use Rattle.hc_serve.specs.Costs.{Costs};
 ghost use Rattle.hc_serve.specs.Request.{first_pass, host_of, host_told, opened, passes, passes_at, passes_of, way};
 ghost use Rattle.hc_serve.specs.Site.{site_of};
 ghost use Rattle.hc_steps.specs.Ran.{Ran};
@@ -25,7 +26,7 @@ pub(crate) const BAD_REQUEST: u16 = 400;
 const NOT_FOUND: u16 = 404;
 
 /// The way of a request: it ends, or leaves a pass that is one too many.
-#[tactic(auto, unfolding(crate::specs::Request::way), using(crate::proofs::Trees::treed))]
+#[tactic(auto, unfolding(crate::specs::Request::way), using(crate::proofs::Trees::treed, crate::proofs::Costs::costs_nothing))]
 pub(crate) fn way<O: Overrides>(
     config: &Config,
     world: &World,
@@ -34,10 +35,13 @@ pub(crate) fn way<O: Overrides>(
     request: &Request,
 ) -> Result<Restarted, Fault<Ended>>
     requires slash { begins_with_slash request.now.target ≡ true }
-    requires over { O.reading over.old ≡ reading_in world.now.files config.now }
+    requires over { O.reading (O.fixed over.old) ≡ reading_in world.now.files config.now }
+    requires sizes { O.size (O.fixed over.old) ≡ size_in world.now.files }
     ensures step { Ran result log.old log.new (run (way config.now request.now) (shown_by world.now.files)) }
-    ensures reading { O.reading over.new ≡ O.reading over.old }
+    ensures fixed { O.fixed over.new ≡ O.fixed over.old }
     ensures kept { Kept (O.loaded over.old) (O.loaded over.new) }
+    ensures counted { Costs result world.now.files (way config.now request.now)
+        (O.counted over.old) (O.counted over.new) }
 {
     match opened(config, world, log, request) {
         Ok(opened) => passes_of(config, world, log, over, request, opened),
@@ -58,7 +62,7 @@ fn opened(config: &Config, world: &World, log: &mut Log, request: &Request) -> R
     Ok(Opened { host, pass })
 }
 
-#[tactic(auto, unfolding(crate::specs::Request::passes_of), using(hc_steps::proofs::Going::ran_no_memory))]
+#[tactic(auto, unfolding(crate::specs::Request::passes_of), using(hc_steps::proofs::Going::ran_no_memory, crate::proofs::Costs::costs_nothing))]
 fn passes_of<O: Overrides>(
     config: &Config,
     world: &World,
@@ -68,11 +72,14 @@ fn passes_of<O: Overrides>(
     opened: Opened,
 ) -> Result<Restarted, Fault<Ended>>
     requires host { IsHostOf config.now opened.host }
-    requires over { O.reading over.old ≡ reading_in world.now.files config.now }
+    requires over { O.reading (O.fixed over.old) ≡ reading_in world.now.files config.now }
+    requires sizes { O.size (O.fixed over.old) ≡ size_in world.now.files }
     ensures step { Ran result log.old log.new
         (run (passes_of config.now request.now opened) (shown_by world.now.files)) }
-    ensures reading { O.reading over.new ≡ O.reading over.old }
+    ensures fixed { O.fixed over.new ≡ O.fixed over.old }
     ensures kept { Kept (O.loaded over.old) (O.loaded over.new) }
+    ensures counted { Costs result world.now.files (passes_of config.now request.now opened)
+        (O.counted over.old) (O.counted over.new) }
 {
     let Opened { host, pass } = opened;
     let caller = caller_at(log.allocator(), config, host, request)?;
@@ -138,11 +145,14 @@ fn passes_at<O: Overrides>(
     pass: Pass,
 ) -> Result<Restarted, Fault<Ended>>
     requires host { IsHostOf asked.now.config.now asked.now.host }
-    requires over { O.reading over.old ≡ reading_in asked.now.world.now.files asked.now.config.now }
+    requires over { O.reading (O.fixed over.old) ≡ reading_in asked.now.world.now.files asked.now.config.now }
+    requires sizes { O.size (O.fixed over.old) ≡ size_in asked.now.world.now.files }
     ensures step { Ran result log.old log.new
         (run (passes_at (site_of asked.now) pass) (shown_by asked.now.world.now.files)) }
-    ensures reading { O.reading over.new ≡ O.reading over.old }
+    ensures fixed { O.fixed over.new ≡ O.fixed over.old }
     ensures kept { Kept (O.loaded over.old) (O.loaded over.new) }
+    ensures counted { Costs result asked.now.world.now.files (passes_at (site_of asked.now) pass)
+        (O.counted over.old) (O.counted over.new) }
 {
     let first = Restarted {
         pass,
@@ -167,11 +177,14 @@ fn passes<O: Overrides>(
     first: Restarted,
 ) -> Result<Restarted, Fault<Ended>>
     requires host { IsHostOf asked.now.config.now asked.now.host }
-    requires over { O.reading over.old ≡ reading_in asked.now.world.now.files asked.now.config.now }
+    requires over { O.reading (O.fixed over.old) ≡ reading_in asked.now.world.now.files asked.now.config.now }
+    requires sizes { O.size (O.fixed over.old) ≡ size_in asked.now.world.now.files }
     ensures step { Ran result log.old log.new
         (run (passes most (site_of asked.now) first) (shown_by asked.now.world.now.files)) }
-    ensures reading { O.reading over.new ≡ O.reading over.old }
+    ensures fixed { O.fixed over.new ≡ O.fixed over.old }
     ensures kept { Kept (O.loaded over.old) (O.loaded over.new) }
+    ensures counted { Costs result asked.now.world.now.files (passes most (site_of asked.now) first)
+        (O.counted over.old) (O.counted over.new) }
 {
     let mut left = first;
     for _turn in 0..most {

@@ -1,12 +1,12 @@
 -- What the loop over the lines of a piece keeps.
-use Rattle.hc_session.proofs.Common.{◌≡◌, ℕ, ◌+◌, ◌≤◌, List, [], ◌∷◌, ◌++◌, length, take, drop, Option, Some, None, true, false, arith, refl, sym, ap, ◌∙◌, append_assoc, append-nil, length-drop, HasNoLf, whole_lines, rest_of, State, AnswersLines, AnswersLinesInPart, AnswersLine, AnswersInPart, LINE_LIMIT, HasNoLf-append, HasNoLf-take, at_lf, whole_lines-none, rest_of-none, whole_lines-line, rest_of-line}
+use Rattle.hc_session.proofs.Common.{◌≡◌, ℕ, ◌+◌, ◌≤◌, List, [], ◌∷◌, ◌++◌, length, take, drop, Option, Some, None, true, false, arith, refl, sym, ap, ◌∙◌, append_assoc, append-nil, length-drop, HasNoLf, whole_lines, rest_of, State, AnswersLines, AnswersLinesInPart, AnswersLine, AnswersInPart, Work, LINE_LIMIT, HasNoLf-append, HasNoLf-take, at_lf, whole_lines-none, rest_of-none, whole_lines-line, rest_of-line}
 use Rattle.std.proofs.Math.Seq.{take-length}
 use Rattle.memchr.specs.Find.{IsFirstByte, is_byte}
 use Rattle.hc_session.proofs.Answering.{lines_none, lines_ended, lines_cons, lines_append, lines_append_in_part, lines_cons_in_part}
 
 -- `all` is what the lines are taken from: those in `lines` were answered, `line` has not ended,
 -- and `rest` is still to come.
-pub record Answering (begin state : State) (all line rest : List ℕ) (written grown : Option (List ℕ)) (before after : ℕ) : Type 0 where
+pub record Answering (begin state : State) (all line rest : List ℕ) (written grown : Option (List ℕ)) (before after : Work) : Type 0 where
   pub lines : List (List ℕ)
   pub answered : AnswersLines begin state lines written grown before after
   pub going : state.ended ≡ false
@@ -15,7 +15,7 @@ pub record Answering (begin state : State) (all line rest : List ℕ) (written g
   pub unended : HasNoLf line
   pub room : length line + length rest ≤ LINE_LIMIT
 
-pub answering_start : (state : State) (line rest : List ℕ) (a : Option (List ℕ)) (n : ℕ) → state.ended ≡ false → HasNoLf line → length line + length rest ≤ LINE_LIMIT → Answering state state (line ++ rest) line rest a a n n
+pub answering_start : (state : State) (line rest : List ℕ) (a : Option (List ℕ)) (n : Work) → state.ended ≡ false → HasNoLf line → length line + length rest ≤ LINE_LIMIT → Answering state state (line ++ rest) line rest a a n n
 answering_start state line rest a n going unended room = record {
   lines = [];
   answered = lines_none state a n;
@@ -33,7 +33,7 @@ IsFirstLf rest end = IsFirstByte (is_byte 10) rest (Some end)
 front_has_none : (rest : List ℕ) (end : ℕ) → IsFirstLf rest end → HasNoLf (take end rest)
 front_has_none rest end found = HasNoLf-take rest end (λ k below within is. found.0.before k (omega arith) below is)
 
-module _ (begin mid : State) (all line rest : List ℕ) (end : ℕ) (a b c : Option (List ℕ)) (k m n : ℕ) (found : IsFirstLf rest end) (before : Answering begin mid all line rest a b k m) where
+module _ (begin mid : State) (all line rest : List ℕ) (end : ℕ) (a b c : Option (List ℕ)) (k m n : Work) (found : IsFirstLf rest end) (before : Answering begin mid all line rest a b k m) where
   -- the next line, and what follows it
   abbrev next : List ℕ
   next = line ++ take end rest
@@ -67,7 +67,7 @@ module _ (begin mid : State) (all line rest : List ℕ) (end : ℕ) (a b c : Opt
   answering_part new one =
       rw lines_ahead (lines_append_in_part begin mid a b c k m n _ _ before.answered (lines_cons_in_part mid new next (whole_lines behind) b c m n before.going one))
 
-module _ (begin state : State) (all line rest : List ℕ) (a b : Option (List ℕ)) (k n : ℕ) where
+module _ (begin state : State) (all line rest : List ℕ) (a b : Option (List ℕ)) (k n : Work) where
   pub answering_end : IsFirstByte (is_byte 10) rest None → Answering begin state all line rest a b k n → AnswersLines begin state (whole_lines all) a b k n × (line ++ rest ≡ rest_of all)
   answering_end none before =
       let unended = HasNoLf-append line rest before.unended (rw take-length at (HasNoLf-take rest (length rest) (λ k below within is. none k (omega arith) below is))) in (

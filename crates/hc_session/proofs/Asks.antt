@@ -1,16 +1,18 @@
 -- How an ask comes to its turn.
 use Rattle.std.specs.Prelude.{if◌then◌else◌}
-use Rattle.std.proofs.Common.{◌≡◌, ℕ, ◌+◌, Bool, true, false, Ok, Err, Result, List, arith, ap, sym, refl, ◌∙◌}
+use Rattle.std.proofs.Common.{◌≡◌, ℕ, ◌+◌, ◌≤◌, Bool, true, false, Ok, Err, Result, List, arith, ap, sym, refl, ◌∙◌}
+use Rattle.std.specs.Result.{OnOk}
 use Rattle.std.specs.declared.alloc.AllocError.{AllocError as NoMemory}
 use Rattle.hc_base.specs.declared.place.Refusal.{Refusal}
 use Rattle.hc_cache.specs.Entries.{Cached, stored}
 use Rattle.hc_json.specs.Asked.{Question}
+use Rattle.hc_model.specs.World.{World}
 use Rattle.hc_model.specs.declared.config.Config.{Config}
 use Rattle.hc_model.specs.declared.read.Read.{Read}
 use Rattle.hc_model.specs.declared.request.Request.{Request}
 use Rattle.hc_serve.specs.declared.answer.Answer.{Answer}
 use Rattle.hc_world.specs.Edits.{Edited}
-use Rattle.hc_session.specs.Session.{Counts, Gave, IsTurn, Kept, State, answer_of, answer_reply, ask_turn, evaluated, evaluated_turn, is_kept, kept_answer, new_turn, present, same_request, saying, served}
+use Rattle.hc_session.specs.Session.{Counts, Gave, IsTurn, Kept, State, answer_of, answer_reply, ask_bytes, ask_turn, evaluated, evaluated_turn, is_kept, kept_answer, new_bytes, new_turn, present, request_bytes, same_request, saying, served, site_bytes}
 use Rattle.hc_session.specs.declared.stepped.Stepped.{Stepped}
 
 module _ (state : State) (question : Question) where
@@ -43,6 +45,18 @@ pub counted : (result : Result Stepped NoMemory) (old new : State) (request : Re
 counted (Ok stepped) old new request trail answer before after gave rises =
     let more = ap (λ (state : State). state.evaluations) gave.2.1 in (omega (arith, rises), omega (arith, rises, more))
 counted (Err none) old new request trail answer before after gave rises = (omega (arith, rises), omega (arith, rises))
+
+-- What is read for one, where no answer is kept.
+pub read_anew : {A : Type 0} (result : Result A NoMemory) (state : State) (world : World) (built : Result Config Refusal) (request : Request) (before mid after : ℕ)
+    → world ≡ state.world.files → built ≡ present state → mid ≤ before + site_bytes state → after ≤ mid + request_bytes world built request
+    → OnOk result (after ≤ before + new_bytes state request)
+read_anew (Ok made) state world built request before mid after here is site found =
+    omega (arith, site, found, ap (λ world. request_bytes world built request) here, ap (λ built. request_bytes state.world.files built request) is)
+read_anew (Err none) state world built request before mid after here is site found = tt
+
+pub read_for : (result : Result Stepped NoMemory) (state : State) (request : Request) (before after : ℕ) → is_kept state request ≡ false
+    → OnOk result (after ≤ before + new_bytes state request) → OnOk result (after ≤ before + ask_bytes state request)
+read_for result state request before after isnt few = rw isnt few
 
 -- What is kept behind an answer.
 pub kept_as : (cached : Cached Request Answer) (limit : ℕ) (world : Edited) (request : Request) (answer : Answer) (reads : List Read) (at : ℕ) (entries : List Kept)

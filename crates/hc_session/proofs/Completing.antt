@@ -1,5 +1,5 @@
 -- A run without faults is the session's.
-use Rattle.hc_session.proofs.Common.{◌≡◌, ◌≢◌, ◌⊎◌, ℕ, ◌<◌, List, [], ◌∷◌, length, Bool, true, Option, Some, None, refl, arith, inl, inr, Appends, rest_of, output, LINE_LIMIT, SCRIPT_LIMIT}
+use Rattle.hc_session.proofs.Common.{◌≡◌, ◌≢◌, ◌⊎◌, ℕ, ◌<◌, List, [], ◌∷◌, length, Bool, true, Option, Some, None, refl, arith, inl, inr, Appends, Work, rest_of, output, LINE_LIMIT, SCRIPT_LIMIT}
 use Rattle.std.proofs.lemmas.Bool.{lt-ltb, le-leb, lt-leb}
 use Rattle.hc_session.specs.Conversation.{IsFull, Served, Completes, EndsWith, Writes, status_of}
 use Rattle.hc_session.specs.declared.status.Status.{Status}
@@ -36,7 +36,7 @@ all_written : (status : Status) (old new : Option (List ℕ)) (lines : List ℕ)
 all_written WriteFault old new lines writes write = absurd (write refl)
 all_written status old new lines writes write = writes
 
-pub completes : (left remaining written grown : Option (List ℕ)) (before after : ℕ) (status : Status) → Served left remaining written grown before after status → status ≢ ReadFault → status ≢ WriteFault → Completes left written grown status
+pub completes : (left remaining written grown : Option (List ℕ)) (before after : Work) (status : Status) → Served left remaining written grown before after status → status ≢ ReadFault → status ≢ WriteFault → Completes left written grown status
 completes None remaining written grown before after status served read write = tt
 completes (Some input) None written grown before after status served read write = absurd served.takes
 completes (Some input) (Some left) written grown before after status served read write =
@@ -48,7 +48,7 @@ completes (Some input) (Some left) written grown before after status served read
         replies = served.replies;
         state = served.state;
         takes = record { left = left; front = served.takes; within = served.within; up_to = end.up_to };
-        answers = served.answers;
+        answers = (served.most, served.answers);
         writes = refl;
         ends = end.is;
       },

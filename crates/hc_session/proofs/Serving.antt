@@ -1,5 +1,5 @@
 -- What the loop over the reads of a source keeps, and how each of its ends is a run.
-use Rattle.hc_session.proofs.Common.{◌≡◌, ◌⊎◌, ℕ, ◌+◌, ◌-◌, ◌<◌, ◌≤◌, List, [], ◌∷◌, ◌++◌, length, take, Option, true, false, arith, refl, sym, ap, ◌∙◌, subst, inl, inr, append-nil, length-append, take-append-le, length-take-le, Consumes, Keeps, IsAtEnd, whole_lines, rest_of, State, start, AnswersLines, AnswersLinesInPart, output, LINE_LIMIT, SCRIPT_LIMIT, whole_lines-append, rest_of-append, rest_of-none, rest_of-none_longer}
+use Rattle.hc_session.proofs.Common.{◌≡◌, ◌⊎◌, ℕ, ◌+◌, ◌-◌, ◌<◌, ◌≤◌, List, [], ◌∷◌, ◌++◌, length, take, Option, true, false, arith, refl, sym, ap, ◌∙◌, subst, inl, inr, append-nil, length-append, take-append-le, length-take-le, Consumes, Keeps, IsAtEnd, whole_lines, rest_of, State, start, AnswersLines, AnswersLinesInPart, Work, output, LINE_LIMIT, SCRIPT_LIMIT, whole_lines-append, rest_of-append, rest_of-none, rest_of-none_longer}
 use Rattle.std.proofs.lemmas.Bool.{cases_lt}
 use Rattle.std.proofs.Math.Seq.{take-append-add}
 use Rattle.hc_session.specs.Conversation.{IsOpen, StaysOpen, Served, EndsWith, Writes, status_at_end}
@@ -9,13 +9,13 @@ use Rattle.hc_session.proofs.Answering.{lines_append, lines_append_in_part, line
 use Rattle.hc_session.proofs.Known.{consumes_more, consumes_keeps, consumes_none}
 
 -- These bytes were taken, and their whole lines answered.
-pub record Taken (left remaining written grown : Option (List ℕ)) (state : State) (bytes : List ℕ) (before after : ℕ) : Type 0 where
+pub record Taken (left remaining written grown : Option (List ℕ)) (state : State) (bytes : List ℕ) (before after : Work) : Type 0 where
   pub takes : Consumes left remaining bytes
   pub within : StaysOpen bytes
   pub answered : AnswersLines start state (whole_lines bytes) written grown before after
 
 -- So far this holds; `line` has not ended, and nor has the session.
-pub record Serving (left remaining written grown : Option (List ℕ)) (state : State) (line : List ℕ) (count before after : ℕ) : Type 0 where
+pub record Serving (left remaining written grown : Option (List ℕ)) (state : State) (line : List ℕ) (count : ℕ) (before after : Work) : Type 0 where
   pub bytes : List ℕ
   pub taken : Taken left remaining written grown state bytes before after
   pub counted : length bytes ≡ count
@@ -23,7 +23,7 @@ pub record Serving (left remaining written grown : Option (List ℕ)) (state : S
   pub going : state.ended ≡ false
 
 -- Nothing was taken yet.
-pub serving_start : (left written : Option (List ℕ)) (state : State) (line : List ℕ) (n : ℕ) → state ≡ start → line ≡ [] → Serving left left written written state line 0 n n
+pub serving_start : (left written : Option (List ℕ)) (state : State) (line : List ℕ) (n : Work) → state ≡ start → line ≡ [] → Serving left left written written state line 0 n n
 serving_start left written state line n is none = record {
   bytes = [];
   taken = record {
@@ -60,20 +60,21 @@ cons_not_nil : (b : ℕ) (bs : List ℕ) → b ∷ bs ≡ [] → ⊥
 cons_not_nil b bs e = cc
 
 -- What was taken and answered is a run, where its status says how it ends.
-served_as : (left remaining written grown : Option (List ℕ)) (state : State) (bytes : List ℕ) (k n : ℕ) (status : Status) (taken : Taken left remaining written grown state bytes k n) → Writes status written grown (output taken.answered.replies) → EndsWith status remaining bytes state.ended → Served left remaining written grown k n status
+served_as : (left remaining written grown : Option (List ℕ)) (state : State) (bytes : List ℕ) (k n : Work) (status : Status) (taken : Taken left remaining written grown state bytes k n) → Writes status written grown (output taken.answered.replies) → EndsWith status remaining bytes state.ended → Served left remaining written grown k n status
 served_as left remaining written grown state bytes k n status all writes ends = record {
   taken = bytes;
   replies = all.answered.replies;
   state = state;
   takes = all.takes;
   within = all.within;
+  most = all.answered.most;
   answers = all.answered.answers;
   writes = writes;
   spent = all.answered.spent;
   ends = ends;
 }
 
-module _ (left now later written grown : Option (List ℕ)) (state : State) (line : List ℕ) (count k m : ℕ) (before : Serving left now written grown state line count k m) where
+module _ (left now later written grown : Option (List ℕ)) (state : State) (line : List ℕ) (count : ℕ) (k m : Work) (before : Serving left now written grown state line count k m) where
   -- ---- more bytes are answered
 
   module _ (chunk : List ℕ) (took : Consumes now later chunk) (line_room : length line + length chunk ≤ LINE_LIMIT) (script_room : count + length chunk ≤ SCRIPT_LIMIT) where
@@ -83,14 +84,14 @@ module _ (left now later written grown : Option (List ℕ)) (state : State) (lin
     lines_more : whole_lines (before.bytes ++ chunk) ≡ whole_lines before.bytes ++ whole_lines (line ++ chunk)
     lines_more = whole_lines-append before.bytes chunk ∙ ap (λ l. whole_lines before.bytes ++ whole_lines (l ++ chunk)) before.unended
 
-    taken_more : (grown' : Option (List ℕ)) (next : State) (n : ℕ) → AnswersLines state next (whole_lines (line ++ chunk)) grown grown' m n → Taken left later written grown' next (before.bytes ++ chunk) k n
+    taken_more : (grown' : Option (List ℕ)) (next : State) (n : Work) → AnswersLines state next (whole_lines (line ++ chunk)) grown grown' m n → Taken left later written grown' next (before.bytes ++ chunk) k n
     taken_more grown' next n answered = record {
       takes = consumes_more left now later before.bytes chunk before.taken.takes took;
       within = within_more;
       answered = rw lines_more (lines_append start state written grown grown' k m n next _ _ before.taken.answered answered);
     }
 
-    pub serving_more : (grown' : Option (List ℕ)) (next : State) (n : ℕ) (line' : List ℕ) (count' : ℕ) → count' ≡ count + length chunk
+    pub serving_more : (grown' : Option (List ℕ)) (next : State) (n : Work) (line' : List ℕ) (count' : ℕ) → count' ≡ count + length chunk
         → AnswersLines state next (whole_lines (line ++ chunk)) grown grown' m n → next.ended ≡ false → line' ≡ rest_of (line ++ chunk) → Serving left later written grown' next line' count' k n
     serving_more grown' next n line' count' total answered going unended = record {
       bytes = before.bytes ++ chunk;
@@ -101,12 +102,12 @@ module _ (left now later written grown : Option (List ℕ)) (state : State) (lin
     }
 
     -- an `end` was answered
-    pub served_ended : (grown' : Option (List ℕ)) (next : State) (n : ℕ) → AnswersLines state next (whole_lines (line ++ chunk)) grown grown' m n → next.ended ≡ true → Served left later written grown' k n Done
+    pub served_ended : (grown' : Option (List ℕ)) (next : State) (n : Work) → AnswersLines state next (whole_lines (line ++ chunk)) grown grown' m n → next.ended ≡ true → Served left later written grown' k n Done
     served_ended grown' next n answered ended =
         let all = taken_more grown' next n answered in
         served_as left later written grown' next (before.bytes ++ chunk) k n Done all all.answered.writes (inl ended)
 
-    pub served_write_fault : (grown' : Option (List ℕ)) (n : ℕ) → AnswersLinesInPart state (whole_lines (line ++ chunk)) grown grown' m n → Served left later written grown' k n WriteFault
+    pub served_write_fault : (grown' : Option (List ℕ)) (n : Work) → AnswersLinesInPart state (whole_lines (line ++ chunk)) grown grown' m n → Served left later written grown' k n WriteFault
     served_write_fault grown' n answered =
         let all = lines_append_in_part start state written grown grown' k m n _ _ before.taken.answered answered in
         record {
@@ -115,13 +116,14 @@ module _ (left now later written grown : Option (List ℕ)) (state : State) (lin
           state = all.state;
           takes = consumes_more left now later before.bytes chunk before.taken.takes took;
           within = within_more;
+          most = all.most;
           answers = rw lines_more all.answers;
           writes = all.writes;
           spent = all.spent;
           ends = tt;
         }
 
-module _ (left now written grown : Option (List ℕ)) (state : State) (line : List ℕ) (count k m : ℕ) (before : Serving left now written grown state line count k m) where
+module _ (left now written grown : Option (List ℕ)) (state : State) (line : List ℕ) (count : ℕ) (k m : Work) (before : Serving left now written grown state line count k m) where
   -- the line that has not ended has no LF
   pub serving_unended : rest_of line ≡ line
   serving_unended = rw (sym before.unended) (rest_of-none (rest_of before.bytes) (rest_of-none_longer before.bytes).0)

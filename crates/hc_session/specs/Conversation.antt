@@ -4,8 +4,8 @@ use Rattle.std.specs.Prelude.{Bool, true, false, nat_lt, nat_le, if◌then◌els
 use Rattle.std.specs.Io.KnownBytes.{Consumes, Appends, IsAtEnd}
 use Rattle.hc_base.specs.Lines.{whole_lines, rest_of}
 use Rattle.hc_json.specs.Reply.{Reply}
-use Rattle.hc_session.specs.Session.{Answers, State, start}
-use Rattle.hc_session.specs.Sending.{output, AppendsFront, IsSpent}
+use Rattle.hc_session.specs.Session.{Answers, AnswersReading, State, start}
+use Rattle.hc_session.specs.Sending.{output, AppendsFront, IsSpent, Work}
 use Rattle.hc_session.specs.declared.limits.TheConstants.{LINE_LIMIT, SCRIPT_LIMIT}
 use Rattle.hc_session.specs.declared.status.Status.{Status}
 use Rattle.hc_session.specs.declared.status.Status.TheVariants.{Done, Words, ReadFault, WriteFault}
@@ -86,14 +86,15 @@ status_at_end [] = Done
 status_at_end (b ∷ bs) = CutLine
 
 -- A run that served its source: what was written are the session's replies to the whole lines of
--- the bytes taken, up to an `end`; and a counter of evaluations has risen by no more than these give.
-pub record Served (left remaining written grown : Option (List ℕ)) (before after : ℕ) (status : Status) : Type 0 where
+-- the bytes taken, up to an `end`; and the counters have risen by no more than these give.
+pub record Served (left remaining written grown : Option (List ℕ)) (before after : Work) (status : Status) : Type 0 where
   pub taken : List ℕ
   pub replies : List Reply
   pub state : State
   pub takes : Consumes left remaining taken
   pub within : StaysOpen taken
-  pub answers : Answers start (whole_lines taken) replies state
+  pub most : ℕ
+  pub answers : AnswersReading start (whole_lines taken) replies state most
   pub writes : Writes status written grown (output replies)
-  pub spent : IsSpent start state replies before after
+  pub spent : IsSpent start state replies most before after
   pub ends : EndsWith status remaining taken state.ended

@@ -12,6 +12,7 @@ use Rattle.hc_json.specs.Reply.{Reply, reply_line}
 use Rattle.hc_json.specs.Trail.{trailed_of}
 use Rattle.hc_json.specs.declared.reply.Done.{Done}
 use Rattle.hc_json.specs.declared.reply.Done.TheVariants as what
+use Rattle.hc_include.specs.Flat.{bytes_of}
 use Rattle.hc_kept.specs.Site.{configuration}
 use Rattle.hc_model.specs.World.{World, is_path, new_world, put as put_in}
 use Rattle.hc_model.specs.declared.config.Config.{Config}
@@ -19,7 +20,8 @@ use Rattle.hc_model.specs.declared.outcome.Outcome.{Outcome}
 use Rattle.hc_model.specs.declared.outcome.Outcome.TheVariants as outcome
 use Rattle.hc_model.specs.declared.request.Request.{Request}
 use Rattle.hc_model.specs.contracts.request.RequestPartialEq.TheImpl.{ghosts as requests}
-use Rattle.hc_serve.specs.Request.{received, reads_of, whole_run}
+use Rattle.hc_serve.specs.Costs.{looked}
+use Rattle.hc_serve.specs.Request.{received, reads_of, way, whole_run}
 use Rattle.hc_serve.specs.declared.answer.Answer.{Answer}
 use Rattle.hc_serve.specs.declared.answer.TheConstants.{LONGEST_TRAIL}
 use Rattle.hc_steps.specs.Step.{Path}
@@ -184,14 +186,46 @@ LineTurn old line said new = CommandTurn old (command_of line) said new
 abbrev pub Turns : State → List ℕ → Reply → State → Type 0
 Turns old line said new = ((said ≡ reply.no_memory) × (new ≡ old)) ⊎ LineTurn old line said new
 
--- The session may give these replies to these lines, one after another, and leave this state. Lines behind an `end`
--- have none.
+-- ---- the bytes that a line may read
+
+-- Those of the texts of the configuration.
+abbrev pub site_bytes : State → ℕ
+site_bytes state = bytes_of state.world.files state.main
+
+-- Those of the texts that a request looks at.
+abbrev pub request_bytes : World → Result Config Refusal → Request → ℕ
+request_bytes world (Ok config) request = looked world (way config request)
+request_bytes world (Err refusal) request = 0
+
+abbrev pub new_bytes : State → Request → ℕ
+new_bytes state request = site_bytes state + request_bytes state.world.files (present state) request
+
+-- An answer that is kept takes none.
+abbrev pub ask_bytes : State → Request → ℕ
+ask_bytes state request = if is_kept state request then 0 else new_bytes state request
+
+unfoldable pub command_bytes : State → Result Command Refusal → ℕ
+command_bytes state (Ok check) = site_bytes state
+command_bytes state (Ok (ask question)) = ask_bytes state question.request
+command_bytes state other = 0
+
+abbrev pub line_bytes : State → List ℕ → ℕ
+line_bytes state line = command_bytes state (command_of line)
+
+-- ---- several lines
+
+-- The session may give these replies to these lines, one after another, and leave this state; and they may read so many
+-- bytes of texts. Lines behind an `end` have no replies.
+abbrev pub AnswersReading : State → List (List ℕ) → List Reply → State → ℕ → Type 0
+AnswersReading old [] replies new most = (replies ≡ []) × (new ≡ old) × (most ≡ 0)
+AnswersReading old (line ∷ lines) replies new most =
+    ((old.ended ≡ true) × (replies ≡ []) × (new ≡ old) × (most ≡ 0))
+    ⊎ ((old.ended ≡ false) × (said : Reply) × (rest : List Reply) × (mid : State) × (more : ℕ)
+    × (replies ≡ said ∷ rest) × (most ≡ line_bytes old line + more)
+    × Turns old line said mid × AnswersReading mid lines rest new more)
+
 abbrev pub Answers : State → List (List ℕ) → List Reply → State → Type 0
-Answers old [] replies new = (replies ≡ []) × (new ≡ old)
-Answers old (line ∷ lines) replies new =
-    ((old.ended ≡ true) × (replies ≡ []) × (new ≡ old))
-    ⊎ ((old.ended ≡ false) × (said : Reply) × (rest : List Reply) × (mid : State)
-    × (replies ≡ said ∷ rest) × Turns old line said mid × Answers mid lines rest new)
+Answers old lines replies new = (most : ℕ) × AnswersReading old lines replies new most
 
 -- ---- a call
 

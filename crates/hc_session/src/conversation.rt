@@ -3,6 +3,7 @@ ghost use Rattle.std.specs.Prelude.{[], IfOk, OnErr, length};
 ghost use Rattle.std.specs.Io.KnownBytes.{Consumes, Keeps, IsAtEnd};
 ghost use Rattle.hc_base.specs.Faults.{HasCause};
 ghost use Rattle.hc_session.specs.Conversation.{Served, Completes, status_at_end};
+ghost use Rattle.hc_session.specs.Sending.{work};
 ghost use Rattle.hc_session.specs.Session.{start};
 
 use crate::limits::{CHUNK, LINE_LIMIT, SCRIPT_LIMIT};
@@ -35,11 +36,13 @@ pub fn serve_session<S: Source, K: Sink, E: Ledger, B: Ledger>(
         → Completes (S.left source.old) (K.written sink.old) (K.written sink.new) result }
 
     // In every case what was written is a front of the replies to the whole lines taken, and all
-    // of them unless the sink failed; and `evals` has risen by no more than the evaluations that
-    // they count, and by one for each `no_memory`.
+    // of them unless the sink failed; `evals` has risen by no more than the evaluations that they
+    // count, and by one for each `no_memory`; and `bytes`, where none of them is that, by no more
+    // than the texts that the lines may read.
     ensures served { result ≢ Status.NoMemory
         → Served (S.left source.old) (S.left source.new)
-        (K.written sink.old) (K.written sink.new) evals.old evals.new result }
+        (K.written sink.old) (K.written sink.new)
+        (work evals.old bytes.old) (work evals.new bytes.new) result }
 
     ensures words { result ≢ Status.Words }
     ensures read_fault { result ≡ Status.ReadFault → S.faults source.old < S.faults source.new }
@@ -91,7 +94,8 @@ fn serve<S: Source, K: Sink, E: Ledger, B: Ledger>(
     requires source_counts { S.faults source.old < 2 ^ 64 - 1 }
     requires sink_counts { K.faults sink.old < 2 ^ 64 - 1 }
     ensures served { Served (S.left source.old) (S.left source.new)
-        (K.written sink.old) (K.written sink.new) evals.old evals.new result }
+        (K.written sink.old) (K.written sink.new)
+        (work evals.old bytes.old) (work evals.new bytes.new) result }
     ensures read_fault { result ≡ Status.ReadFault → S.faults source.old < S.faults source.new }
     ensures write_fault { result ≡ Status.WriteFault → K.faults sink.old < K.faults sink.new }
 {

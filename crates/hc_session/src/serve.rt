@@ -2,7 +2,8 @@ ghost use Rattle.std.specs.Prelude.{◌≡◌, ◌+◌, ◌≤◌, ◌++◌, len
 ghost use Rattle.std.specs.Io.KnownBytes.{Appends};
 ghost use Rattle.hc_base.specs.Faults.{HasCause};
 ghost use Rattle.hc_base.specs.Lines.{whole_lines, rest_of};
-ghost use Rattle.hc_session.specs.Sending.{AppendsFront, AnswersLine, AnswersInPart, AnswersLines, AnswersLinesInPart};
+ghost use Rattle.hc_session.specs.Sending.{AppendsFront, AnswersLine, AnswersInPart, AnswersLines};
+ghost use Rattle.hc_session.specs.Sending.{AnswersLinesInPart, work};
 ghost use Rattle.hc_session.specs.declared.limits.TheConstants.{LINE_LIMIT};
 
 use crate::line_buffer::LineBuffer;
@@ -36,9 +37,9 @@ fn answer_line<K: Sink, E: Ledger, L: Ledger>(
     bytes: &mut Steps<L>,
 ) -> Result<(), Failed>
     ensures ok { OnOk result (AnswersLine session.old session.new line.now
-        (K.written sink.old) (K.written sink.new) evals.old evals.new) }
+        (K.written sink.old) (K.written sink.new) (work evals.old bytes.old) (work evals.new bytes.new)) }
     ensures err { OnErr result (AnswersInPart session.old session.new line.now
-        (K.written sink.old) (K.written sink.new) evals.old evals.new) }
+        (K.written sink.old) (K.written sink.new) (work evals.old bytes.old) (work evals.new bytes.new)) }
     ensures cause { HasCause (K.faults sink.old) (K.faults sink.new) result }
 {
     match session.step(line, evals, bytes) {
@@ -61,9 +62,11 @@ pub(crate) fn answer_lines<K: Sink, E: Ledger, L: Ledger>(
     requires unended { rest_of line.old ≡ line.old }
     requires room { length line.old + length piece.now ≤ LINE_LIMIT }
     ensures ok { OnOk result (AnswersLines session.old session.new
-        (whole_lines (line.old ++ piece.now)) (K.written sink.old) (K.written sink.new) evals.old evals.new) }
+        (whole_lines (line.old ++ piece.now)) (K.written sink.old) (K.written sink.new)
+        (work evals.old bytes.old) (work evals.new bytes.new)) }
     ensures err { OnErr result (AnswersLinesInPart session.old
-        (whole_lines (line.old ++ piece.now)) (K.written sink.old) (K.written sink.new) evals.old evals.new) }
+        (whole_lines (line.old ++ piece.now)) (K.written sink.old) (K.written sink.new)
+        (work evals.old bytes.old) (work evals.new bytes.new)) }
     ensures rest { OnOk result (session.new.ended ≡ false → line.new ≡ rest_of (line.old ++ piece.now)) }
     ensures cause { HasCause (K.faults sink.old) (K.faults sink.new) result }
 {

@@ -1,12 +1,13 @@
-ghost use Rattle.std.specs.Prelude.{◌≡◌, ◌<◌, ◌-◌, ◌^◌, None, Some, true, IfOk, IfSome};
+ghost use Rattle.std.specs.Prelude.{◌≡◌, ◌+◌, ◌<◌, ◌≤◌, ◌-◌, ◌^◌, None, Some, true, IfOk, IfSome, OnOk};
 ghost use Rattle.hc_base.specs.Paths.{begins_with_slash};
 ghost use Rattle.hc_json.specs.Command.{command_of};
 ghost use Rattle.hc_json.specs.CommandView.{question_view, request_view};
 ghost use Rattle.hc_kept.specs.Site.{is_current_site};
 ghost use Rattle.hc_session.specs.Changes.{changed_by, done_of};
 ghost use Rattle.hc_session.specs.Session.{Counts, EditTurn, Gave, IsTurn, StepTurn, ask_turn};
-ghost use Rattle.hc_session.specs.Session.{check_turn, end_turn, evaluated_turn, is_kept, kept_turn};
-ghost use Rattle.hc_session.specs.Session.{main_turn, new_turn, present, reads_nothing, start, stats_turn};
+ghost use Rattle.hc_session.specs.Session.{ask_bytes, check_turn, command_bytes, end_turn, evaluated_turn, is_kept};
+ghost use Rattle.hc_session.specs.Session.{kept_turn, main_turn, new_bytes, new_turn, present, reads_nothing};
+ghost use Rattle.hc_session.specs.Session.{site_bytes, start, stats_turn};
 ghost use Rattle.hc_session.specs.Sound.{IsAnswerOf, IsSite};
 
 use crate::asking::find_answer;
@@ -102,6 +103,7 @@ impl Session {
 
     /// Answers a line with the line of its reply. Want of memory leaves all as before. `evals` rises by one where a
     /// request is evaluated, and `bytes` by the bytes of the configuration texts that are read.
+    #[tactic(auto, unfolding(crate::specs::Session::command_bytes))]
     pub fn step<E: Ledger, L: Ledger>(
         &mut self,
         line: &[u8],
@@ -111,6 +113,7 @@ impl Session {
         ensures turned { StepTurn result self.old line.now self.new }
         ensures evals { Counts result self.old self.new evals.old evals.new }
         ensures idle { reads_nothing self.old (command_of line.now) ≡ true → bytes.new ≡ bytes.old }
+        ensures bytes { OnOk result (bytes.new ≤ bytes.old + command_bytes self.old (command_of line.now)) }
     {
         let value = parse(self.alloc, line)?;
         match command_in(&value) {
@@ -195,7 +198,8 @@ impl Session {
     }
 
     fn check<L: Ledger>(&mut self, bytes: &mut Steps<L>) -> Result<Stepped, NoMemory>
-        ensures { Gave result (IsTurn (check_turn self.old)) self.old self.new }
+        ensures turned { Gave result (IsTurn (check_turn self.old)) self.old self.new }
+        ensures bytes { OnOk result (bytes.new ≤ bytes.old + site_bytes self.old) }
     {
         let site = self.take_site(bytes)?;
         let stepped = checked(self.alloc, &site.built);
@@ -214,6 +218,7 @@ impl Session {
             self.old self.new }
         ensures evals { Counts result self.old self.new evals.old evals.new }
         ensures idle { is_kept self.old (request_view asked.now) ≡ true → bytes.new ≡ bytes.old }
+        ensures bytes { OnOk result (bytes.new ≤ bytes.old + ask_bytes self.old (request_view asked.now)) }
     {
         if self.asks == u64::MAX || self.evaluations == u64::MAX {
             return Err(NoMemory);
@@ -251,6 +256,7 @@ impl Session {
         requires evaluations { self.old.evaluations < 2 ^ 64 - 1 }
         ensures turned { Gave result (IsTurn (new_turn self.old request trail (present self.old))) self.old self.new }
         ensures evals { Counts result self.old self.new evals.old evals.new }
+        ensures bytes { OnOk result (bytes.new ≤ bytes.old + new_bytes self.old request) }
     {
         let mut site = self.take_site(bytes)?;
         let found = find_answer(self.alloc, &self.world, &mut site, &request, evals, bytes);
@@ -266,6 +272,7 @@ impl Session {
         ensures same { self.new ≡ self.old }
         ensures site { IfOk result (IsSite self.old.world self.old.main) }
         ensures built { IfOk result (λ site. site.built ≡ present self.old) }
+        ensures bytes { OnOk result (bytes.new ≤ bytes.old + site_bytes self.old) }
     {
         match take_current(&mut self.site, &self.world) {
             Some(site) => Ok(site),

@@ -2,6 +2,7 @@ use Rattle.hc_serve.proofs.Common.{◌∙◌, ran_no_further}
 use Rattle.hc_merge.specs.Overriding.{htaccess_of}
 use Rattle.hc_serve.proofs.Looks.{file_read, stopped}
 use Rattle.hc_serve.specs.Passing.{file_looked}
+use Rattle.hc_serve.proofs.Costs.{costs_nothing, file_costs}
 use Rattle.hc_serve.proofs.files.file_looked.Goals as goal
 use Rattle.hc_steps.specs.Step.{text_at}
 use Rattle.hc_steps.proofs.Going.{ran_no_memory}
@@ -17,4 +18,13 @@ returns-in_err-text_at-clause-step g c = λ files.
 
 pub returns-clause-step : goal.returns-clause-step
 returns-clause-step g c = λ files.
-    file_read _ _ _ files _ _ _ _ _ _ _ (c.as_bytes.ensures ∙ c.in_ok-file.ensures) c.requires c.in_ok-text_at.ensures c.load.ensures.cause c.stopping.ensures
+    file_read _ _ _ files _ _ _ _ _ _ _ (c.as_bytes.ensures ∙ c.in_ok-file.ensures) c.requires.over c.in_ok-text_at.ensures c.load.ensures.cause c.stopping.ensures
+
+pub returns-in_err-file-clause-counted : goal.returns-in_err-file-clause-counted
+returns-in_err-file-clause-counted g c = λ files. costs_nothing _ _ _ _
+
+pub returns-in_err-text_at-clause-counted : goal.returns-in_err-text_at-clause-counted
+returns-in_err-text_at-clause-counted g c = λ files. costs_nothing _ _ _ _
+
+pub returns-clause-counted : goal.returns-clause-counted
+returns-clause-counted g c = λ files. file_costs _ _ files _ _ _ _ _ _ c.requires.sizes c.load.ensures.counted c.stopping.ensures

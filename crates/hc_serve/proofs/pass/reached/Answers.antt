@@ -1,4 +1,5 @@
 use Rattle.hc_serve.proofs.Common.{refl, reached, ran_then, ran_off}
+use Rattle.hc_serve.proofs.Costs.{costs_behind}
 use Rattle.hc_serve.proofs.pass.reached.Goals as goal
 use Rattle.hc_steps.specs.Step.{◌>>=◌}
 
@@ -40,3 +41,12 @@ returns-clause-step g c =
     (ran_then _ _ _ _ _ _ _ _ c.in_ok-named.ensures
     (ran_then _ _ _ _ _ _ _ _ c.in_ok-named-2.ensures
     (ran_then _ _ _ _ _ _ _ _ c.in_ok-there.ensures c.in_force.ensures.step))))
+
+pub returns-clause-counted : goal.returns-clause-counted
+unfolding reached ◌>>=◌
+returns-clause-counted g c =
+    costs_behind _ _ _ _ _ _ _ _ _ c.in_ok-pass.ensures
+    (costs_behind _ _ _ _ _ _ _ _ _ c.in_ok-placed.ensures
+    (costs_behind _ _ _ _ _ _ _ _ _ c.in_ok-named.ensures
+    (costs_behind _ _ _ _ _ _ _ _ _ c.in_ok-named-2.ensures
+    (costs_behind _ _ _ _ _ _ _ _ _ c.in_ok-there.ensures c.in_force.ensures.counted))))

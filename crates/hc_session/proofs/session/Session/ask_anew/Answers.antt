@@ -1,5 +1,5 @@
-use Rattle.std.proofs.Common.{◌≡◌, Ok, sym, subst, ◌∙◌}
-use Rattle.hc_session.proofs.Asks.{counted, turn_found}
+use Rattle.std.proofs.Common.{◌≡◌, Ok, ap, sym, subst, ◌∙◌}
+use Rattle.hc_session.proofs.Asks.{counted, read_anew, turn_found}
 use Rattle.hc_session.specs.Session.{Gave, IsTurn, State, answer_of, evaluated_turn, present}
 use Rattle.hc_session.specs.Sound.{Evaluates, IsFound}
 use Rattle.hc_session.proofs.session.Session.ask_anew.Goals as goal
@@ -28,3 +28,13 @@ returns-in-Ok-clause-evals g c =
     let turned = subst (λ state. Gave c.keep.result (IsTurn (evaluated_turn state c.args.request c.args.trail c.in-Ok.answer)) state c.keep.new.self) (c.self.view_is ∙ c.take_site.ensures.same) c.keep.ensures in
     counted c.keep.result c.args.self.now c.keep.new.self c.args.request c.args.trail c.in-Ok.answer _ _ turned
     (subst (λ found. Evaluates (Ok found) c.args.evals.now c.find_answer-found.new.evals) c.in-Ok.is c.in_ok-answer.ensures.evals)
+
+pub returns-in-Ok-clause-bytes : goal.returns-in-Ok-clause-bytes
+returns-in-Ok-clause-bytes g c =
+    read_anew c.keep.result c.args.self.now _ _ c.args.request _ _ _ (ap (λ (state : State). state.world.files) (c.self.view_is ∙ c.take_site.ensures.same)) c.in_ok-site.ensures.built c.in_ok-site.ensures.bytes
+    c.in_ok-answer.ensures.bytes
+
+pub returns-in-Err-clause-bytes : goal.returns-in-Err-clause-bytes
+returns-in-Err-clause-bytes g c =
+    read_anew c.refusing.result c.args.self.now _ _ c.args.request _ _ _ (ap (λ (state : State). state.world.files) (c.self.view_is ∙ c.take_site.ensures.same)) c.in_ok-site.ensures.built c.in_ok-site.ensures.bytes
+    c.in_ok-answer.ensures.bytes

@@ -4,10 +4,10 @@ use Rattle.hc_model.specs.Overrides.{Loaded, file_of}
 use Rattle.hc_htaccess.specs.Loading.{kept_for, loaded_of, reading_of}
 use Rattle.hc_htaccess.specs.Reading.{reading_in}
 use Rattle.hc_htaccess.proofs.Kept.{got}
-use Rattle.hc_htaccess.proofs.plain.PlainOverridesOverrides.get.Goals as goal
+use Rattle.hc_htaccess.proofs.plain.PlainFiles.get.Goals as goal
 
 pub returns-in_err-kept_for : goal.returns-in_err-kept_for
-returns-in_err-kept_for g c = λ has.
+returns-in_err-kept_for c = λ has.
     let pair : Loaded = record { dir = c.args.dir.now; allowed = c.args.allowed } in
     let reading = reading_in c.self.inside.world.now.files c.self.inside.config.now in
     subst (λ plain. option_map (λ file. file.now) c.from_residual.result ≡ file_of (reading_of plain c.args.dir.now c.args.allowed)) c.self.view_is
@@ -17,7 +17,7 @@ returns-in_err-kept_for g c = λ has.
     (ap (option_map (λ file. file.now)) c.from_residual.ensures))
 
 pub returns : goal.returns
-returns g c = λ has.
+returns c = λ has.
     let pair : Loaded = record { dir = c.args.dir.now; allowed = c.args.allowed } in
     let reading = reading_in c.self.inside.world.now.files c.self.inside.config.now in
     subst (λ plain. option_map (λ file. file.now) c.as_ref.result ≡ file_of (reading_of plain c.args.dir.now c.args.allowed)) c.self.view_is
