@@ -127,8 +127,8 @@ impl<'a> CachedFiles<'a> {
     }
 }
 
-/// Reads each file when it is loaded and was not kept, or its text has changed since. `bytes` rises by the bytes of
-/// each text that is read.
+/// These files, each read when it is loaded and was not kept, or its text has changed since, and a counter that rises
+/// by the bytes of each text that is read.
 #[derive(Drop)]
 pub struct CachedOverrides<'b, 'a, L: Ledger> {
     pub files: &'b mut CachedFiles<'a>,

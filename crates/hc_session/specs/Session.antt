@@ -197,13 +197,15 @@ abbrev pub request_bytes : World → Result Config Refusal → Request → ℕ
 request_bytes world (Ok config) request = looked world (way config request)
 request_bytes world (Err refusal) request = 0
 
+-- Both, for an answer that is made anew.
 abbrev pub new_bytes : State → Request → ℕ
 new_bytes state request = site_bytes state + request_bytes state.world.files (present state) request
 
--- An answer that is kept takes none.
+-- One that is kept takes none.
 abbrev pub ask_bytes : State → Request → ℕ
 ask_bytes state request = if is_kept state request then 0 else new_bytes state request
 
+-- All but a `check` and an ask read nothing.
 unfoldable pub command_bytes : State → Result Command Refusal → ℕ
 command_bytes state (Ok check) = site_bytes state
 command_bytes state (Ok (ask question)) = ask_bytes state question.request
