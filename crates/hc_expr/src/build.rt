@@ -1,181 +1,176 @@
-//! The tree of an expression, built from its last token on.
-ghost use Rattle.std.specs.Prelude.{◌≡◌, ◌∷◌, [], IfOk, OnOk, map, option_map, reverse};
-ghost use Rattle.hc_expr.specs.Syntax.{before, both, conjunction_of, disjunction_of, either, negated_last};
-ghost use Rattle.hc_expr.specs.Syntax.{nothing_read, tree_of, with_token};
-ghost use Rattle.hc_expr.specs.TokenViews.{test_view, token_view};
-ghost use Rattle.hc_expr.specs.Tokens.{ands, closes, negates, opens, ors};
-ghost use Rattle.hc_expr.specs.TreeViews.{level_view, levels_view, part_view};
+//! The steps of an expression, made from its last token on.
+ghost use Rattle.std.specs.Prelude.{◌≡◌, IfOk, OnOk, map};
+ghost use Rattle.hc_expr.specs.Emitted.{all_emitted, finished, inverted, is_conjunction, is_whole, joined};
+ghost use Rattle.hc_expr.specs.Emitted.{nothing_emitted, with_emitted};
+ghost use Rattle.hc_expr.specs.StepViews.{emitted, output_of, step_view};
+ghost use Rattle.hc_expr.specs.TokenViews.{token_view};
+ghost use Rattle.hc_expr.specs.Tokens.{closes, negates, opens};
 
+use crate::step::Step;
 use crate::token::Token;
-use crate::tree::{Part, both, either, leaf, negation};
 use hc_base::NoMemory;
 use std::alloc::Global;
 use std::mem::replace;
 
-/// What is read of the inside of parentheses, from its end: what was read last, what stands behind the
+/// What is there of the inside of parentheses, from its end: what was read last, what stands behind the
 /// next `&&`, and what stands behind the next `||`.
-#[derive(Drop)]
-pub struct Level<'t> {
-    pub last: Option<Part<'t>>,
-    pub conjunction: Option<Part<'t>>,
-    pub disjunction: Option<Part<'t>>,
+#[derive(Clone, Copy)]
+pub struct Level {
+    pub last: bool,
+    pub conjunction: bool,
+    pub disjunction: bool,
 }
 
-/// A level, and those around it, the innermost last.
+/// A level, and those around it, the innermost last. The steps are those of the outermost level first, and in each
+/// what stands behind the next `||`, behind the next `&&`, and what was read last.
 #[derive(Drop)]
 pub struct Levels<'t> {
-    pub inner: Level<'t>,
-    pub outer: Vec<Level<'t>>,
+    pub inner: Level,
+    pub outer: Vec<Level>,
+    pub steps: Vec<Step<'t>>,
 }
 
-fn new_level<'t>() -> Level<'t>
-    ensures { level_view result ≡ nothing_read }
-{
-    Level {
-        last: None,
-        conjunction: None,
-        disjunction: None,
+const NOTHING: Level = Level {
+    last: false,
+    conjunction: false,
+    disjunction: false,
+};
+
+impl Level {
+    fn is_conjunction(self) -> bool
+        ensures { result ≡ is_conjunction self }
+    {
+        self.last || self.conjunction
+    }
+
+    fn is_whole(self) -> bool
+        ensures { result ≡ is_whole self }
+    {
+        self.is_conjunction() || self.disjunction
     }
 }
 
-fn before_conjunction<'t>(
-    alloc: Global,
-    last: Option<Part<'t>>,
-    behind: Option<Part<'t>>,
-) -> Result<Option<Part<'t>>, NoMemory>
-    ensures { IfOk result (λ part. option_map part_view part
-        ≡ before both (option_map part_view last.entry) (option_map part_view behind.entry)) }
+// The step joins two parts, where both are there.
+fn join<'t>(steps: &mut Vec<Step<'t>>, step: Step<'t>, first: bool, second: bool) -> Result<(), NoMemory>
+    ensures { OnOk result (emitted steps.new.items ≡ joined (step_view step.entry) first second (emitted steps.old.items)) }
 {
-    let Some(last) = last else {
-        return Ok(behind);
-    };
-    let Some(behind) = behind else {
-        return Ok(Some(last));
-    };
-    Ok(Some(both(alloc, last, behind)?))
-}
-
-fn before_disjunction<'t>(
-    alloc: Global,
-    conjunction: Option<Part<'t>>,
-    behind: Option<Part<'t>>,
-) -> Result<Option<Part<'t>>, NoMemory>
-    ensures { IfOk result (λ part. option_map part_view part
-        ≡ before either (option_map part_view conjunction.entry) (option_map part_view behind.entry)) }
-{
-    let Some(conjunction) = conjunction else {
-        return Ok(behind);
-    };
-    let Some(behind) = behind else {
-        return Ok(Some(conjunction));
-    };
-    Ok(Some(either(alloc, conjunction, behind)?))
-}
-
-// All that was read of the inside.
-fn whole<'t>(alloc: Global, level: Level<'t>) -> Result<Option<Part<'t>>, NoMemory>
-    ensures { IfOk result (λ part. option_map part_view part ≡ disjunction_of (level_view level.entry)) }
-{
-    let Level {
-        last,
-        conjunction,
-        disjunction,
-    } = level;
-    let conjunction = before_conjunction(alloc, last, conjunction)?;
-    before_disjunction(alloc, conjunction, disjunction)
-}
-
-fn negated_last<'t>(alloc: Global, last: Option<Part<'t>>) -> Result<Option<Part<'t>>, NoMemory>
-    ensures { IfOk result (λ part. option_map part_view part ≡ negated_last (option_map part_view last.entry)) }
-{
-    match last {
-        None => Ok(None),
-        Some(last) => Ok(Some(negation(alloc, last)?)),
+    if first && second {
+        steps.push(step)?;
     }
+    Ok(())
+}
+
+// All that was read of a level becomes one part.
+fn finish<'t>(steps: &mut Vec<Step<'t>>, level: Level) -> Result<(), NoMemory>
+    ensures { OnOk result (emitted steps.new.items ≡ finished level (emitted steps.old.items)) }
+{
+    join(steps, Step::And, level.last, level.conjunction)?;
+    join(steps, Step::Or, level.is_conjunction(), level.disjunction)
+}
+
+// Two `!` are none.
+fn invert<'t>(steps: &mut Vec<Step<'t>>) -> Result<(), NoMemory>
+    ensures { OnOk result (emitted steps.new.items ≡ inverted (emitted steps.old.items)) }
+{
+    if let Some(last) = steps.pop() {
+        if let Step::Not = last {
+            return Ok(());
+        }
+        steps.push(last)?;
+    }
+    steps.push(Step::Not)?;
+    Ok(())
 }
 
 impl<'t> Levels<'t> {
     fn new(alloc: Global) -> Levels<'t>
-        ensures { levels_view result ≡ (nothing_read, []) }
+        ensures { output_of result ≡ nothing_emitted }
     {
         Levels {
-            inner: new_level(),
+            inner: NOTHING,
             outer: Vec::new(alloc),
+            steps: Vec::new(alloc),
         }
     }
 
-    fn negate(&mut self, alloc: Global) -> Result<(), NoMemory>
-        ensures { OnOk result (levels_view self.new ≡ with_token negates (levels_view self.old)) }
+    fn negate(&mut self) -> Result<(), NoMemory>
+        ensures { OnOk result (output_of self.new ≡ with_emitted negates (output_of self.old)) }
     {
-        let last = self.inner.last.take();
-        self.inner.last = negated_last(alloc, last)?;
+        if self.inner.last {
+            invert(&mut self.steps)?;
+        }
         Ok(())
     }
 
     // A parenthesis begins: what was read of its inside was read last of the level around it.
-    fn open(&mut self, alloc: Global) -> Result<(), NoMemory>
-        ensures { OnOk result (levels_view self.new ≡ with_token opens (levels_view self.old)) }
+    fn open(&mut self) -> Result<(), NoMemory>
+        ensures { OnOk result (output_of self.new ≡ with_emitted opens (output_of self.old)) }
     {
+        let inner = self.inner;
+        finish(&mut self.steps, inner)?;
         let around = match self.outer.pop() {
             Some(level) => level,
-            None => new_level(),
+            None => NOTHING,
         };
-        let inner = replace(&mut self.inner, around);
-        self.inner.last = whole(alloc, inner)?;
+        self.inner = Level {
+            last: inner.is_whole(),
+            ..around
+        };
         Ok(())
     }
 
     // A parenthesis ends, so its inside comes now.
     fn close(&mut self) -> Result<(), NoMemory>
-        ensures { OnOk result (levels_view self.new ≡ with_token closes (levels_view self.old)) }
+        ensures { OnOk result (output_of self.new ≡ with_emitted closes (output_of self.old)) }
     {
-        let around = replace(&mut self.inner, new_level());
+        let around = replace(&mut self.inner, NOTHING);
         self.outer.push(around)?;
         Ok(())
     }
 
-    fn and(&mut self, alloc: Global) -> Result<(), NoMemory>
-        ensures { OnOk result (levels_view self.new ≡ with_token ands (levels_view self.old)) }
+    fn with_token(&mut self, token: Token<'t>) -> Result<(), NoMemory>
+        ensures { OnOk result (output_of self.new ≡ with_emitted (token_view token.entry) (output_of self.old)) }
     {
-        let last = self.inner.last.take();
-        let conjunction = self.inner.conjunction.take();
-        self.inner.conjunction = before_conjunction(alloc, last, conjunction)?;
-        Ok(())
-    }
-
-    fn or(&mut self, alloc: Global) -> Result<(), NoMemory>
-        ensures { OnOk result (levels_view self.new ≡ with_token ors (levels_view self.old)) }
-    {
-        let inner = replace(&mut self.inner, new_level());
-        self.inner.disjunction = whole(alloc, inner)?;
-        Ok(())
-    }
-
-    fn with_token(&mut self, alloc: Global, token: Token<'t>) -> Result<(), NoMemory>
-        ensures { OnOk result (levels_view self.new ≡ with_token (token_view token.entry) (levels_view self.old)) }
-    {
+        let inner = self.inner;
         match token {
             Token::Test(test) => {
-                self.inner.last = Some(leaf(test));
+                self.steps.push(Step::Test(test))?;
+                self.inner.last = true;
                 Ok(())
             }
-            Token::Negates => self.negate(alloc),
-            Token::Ands => self.and(alloc),
-            Token::Ors => self.or(alloc),
+            Token::Negates => self.negate(),
+            Token::Ands => {
+                join(&mut self.steps, Step::And, inner.last, inner.conjunction)?;
+                self.inner = Level {
+                    last: false,
+                    conjunction: inner.is_conjunction(),
+                    disjunction: inner.disjunction,
+                };
+                Ok(())
+            }
+            Token::Ors => {
+                finish(&mut self.steps, inner)?;
+                self.inner = Level {
+                    disjunction: inner.is_whole(),
+                    ..NOTHING
+                };
+                Ok(())
+            }
             Token::Closes => self.close(),
-            Token::Opens => self.open(alloc),
+            Token::Opens => self.open(),
             Token::Broken => Ok(()),
         }
     }
 }
 
-/// The tree that all tokens make, where they are an expression.
-pub fn tree_of<'t>(alloc: Global, mut tokens: Vec<Token<'t>>) -> Result<Option<Part<'t>>, NoMemory>
-    ensures { IfOk result (λ part. option_map part_view part ≡ tree_of (map token_view tokens.entry.items)) }
+/// The steps that all tokens make.
+pub fn steps_of<'t>(alloc: Global, mut tokens: Vec<Token<'t>>) -> Result<Vec<Step<'t>>, NoMemory>
+    ensures { IfOk result (λ steps. emitted steps.items ≡ all_emitted (map token_view tokens.entry.items)) }
 {
     let mut levels = Levels::new(alloc);
     'tokens: while let Some(last) = tokens.pop() {
-        levels.with_token(alloc, last)?;
+        levels.with_token(last)?;
     }
-    whole(alloc, levels.inner)
+    finish(&mut levels.steps, levels.inner)?;
+    Ok(levels.steps)
 }

@@ -1,10 +1,11 @@
-ghost use Rattle.std.specs.Prelude.{◌≡◌, IfOk};
+ghost use Rattle.std.specs.Prelude.{◌≡◌};
 
 use crate::{Regex, Template};
 use hc_addr::Net;
 use hc_base::{Boxed, NoMemory};
 
-/// The expression of an `<If>` (Apache manual, "Expressions in Apache HTTP Server").
+/// The expression of an `<If>` (Apache manual, "Expressions in Apache HTTP Server"), as contracts see it; the
+/// code has its steps.
 #[derive(Drop)]
 pub enum Expr {
     /// `true`.
@@ -25,34 +26,40 @@ pub enum Expr {
     IpMatch(Template, Net),
 }
 
-impl Clone for Expr {
-    ghost is_clone = { λ expr copy. copy ≡ expr };
-
-    fn clone(&self) -> Result<Expr, NoMemory> {
-        copy_expr(self)
-    }
+/// A step of an expression: a test, or what joins the parts before it.
+#[derive(Drop)]
+pub enum ExprStep {
+    /// `true`.
+    Yes,
+    /// `false`.
+    No,
+    /// `==`.
+    Same(Template, Template),
+    /// `=~`.
+    Search(Template, Regex),
+    /// `-ipmatch`.
+    IpMatch(Template, Net),
+    /// `!`.
+    Not,
+    /// `&&`.
+    And,
+    /// `||`.
+    Or,
 }
 
-#[cycle(copy)]
-fn copy_expr(expr: &Expr) -> Result<Expr, NoMemory>
-    ensures { IfOk result (λ copy. copy ≡ expr.now) }
-{
-    match expr {
-        Expr::Yes => Ok(Expr::Yes),
-        Expr::No => Ok(Expr::No),
-        Expr::Not(inner) => Ok(Expr::Not(copy_boxed(inner)?)),
-        Expr::And(first, second) => Ok(Expr::And(copy_boxed(first)?, copy_boxed(second)?)),
-        Expr::Or(first, second) => Ok(Expr::Or(copy_boxed(first)?, copy_boxed(second)?)),
-        Expr::Same(first, second) => Ok(Expr::Same(first.copy()?, second.copy()?)),
-        Expr::Search(text, pat) => Ok(Expr::Search(text.copy()?, pat.clone()?)),
-        Expr::IpMatch(text, net) => Ok(Expr::IpMatch(text.copy()?, *net)),
-    }
-}
+impl Clone for ExprStep {
+    ghost is_clone = { λ step copy. copy ≡ step };
 
-#[cycle(copy)]
-fn copy_boxed(expr: &Boxed<Expr>) -> Result<Boxed<Expr>, NoMemory>
-    ensures { IfOk result (λ copy. copy ≡ expr.now) }
-{
-    let inner = copy_expr(expr.get())?;
-    Boxed::new(expr.allocator(), inner)
+    fn clone(&self) -> Result<ExprStep, NoMemory> {
+        match self {
+            ExprStep::Yes => Ok(ExprStep::Yes),
+            ExprStep::No => Ok(ExprStep::No),
+            ExprStep::Same(first, second) => Ok(ExprStep::Same(first.copy()?, second.copy()?)),
+            ExprStep::Search(text, pattern) => Ok(ExprStep::Search(text.copy()?, pattern.clone()?)),
+            ExprStep::IpMatch(text, net) => Ok(ExprStep::IpMatch(text.copy()?, *net)),
+            ExprStep::Not => Ok(ExprStep::Not),
+            ExprStep::And => Ok(ExprStep::And),
+            ExprStep::Or => Ok(ExprStep::Or),
+        }
+    }
 }

@@ -1,6 +1,6 @@
 ghost use Rattle.std.specs.Prelude.{◌≡◌, IfOk};
 
-use crate::{Event, Expr, Merging, Redirect, Regex, ReqTree, Rules};
+use crate::{Event, Expression, Merging, Redirect, Regex, ReqTree, Rules};
 use hc_base::{List, NoMemory, Place, Span, Text, copy_option};
 
 /// Where a section applies (Apache manual, "Configuration Sections").
@@ -18,8 +18,11 @@ pub enum Reach {
     LocationGlob(Regex),
     /// `<LocationMatch>` and `<Location ~>`.
     LocationSearch(Regex),
-    /// `<If>`. An `<ElseIf>` and an `<Else>` also say that what stands before them does not hold.
-    When(Expr),
+    /// `<If>`.
+    When(Expression),
+    /// `<ElseIf>`, and `<Else>` with the expression `true`: where it holds, and none of the chain right before it
+    /// does.
+    Otherwise(Expression),
 }
 
 /// A section.
