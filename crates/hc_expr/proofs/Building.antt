@@ -1,16 +1,16 @@
--- How a tree is built from the last token on.
+-- How the steps are made from the last token on.
 use Rattle.hc_expr.proofs.Common.{◌≡◌, List, [], ◌∷◌, ◌++◌, refl, ap, Token}
-use Rattle.hc_expr.specs.Syntax.{Levels, levels_of, nothing_read, with_token}
+use Rattle.hc_expr.specs.Emitted.{Output, nothing_emitted, output_after, with_emitted}
 
--- The levels of tokens, with those of what follows them.
-abbrev pub levels_with : List Token → Levels → Levels
-levels_with [] levels = levels
-levels_with (token ∷ tokens) levels = with_token token (levels_with tokens levels)
+-- What tokens make, with what follows them.
+abbrev pub output_with : List Token → Output → Output
+output_with [] output = output
+output_with (token ∷ tokens) output = with_emitted token (output_with tokens output)
 
-pub last_token : (tokens : List Token) (last : Token) (levels : Levels) → levels_with (tokens ++ last ∷ []) levels ≡ levels_with tokens (with_token last levels)
-last_token [] last levels = refl
-last_token (first ∷ tokens) last levels = ap (with_token first) (last_token tokens last levels)
+pub last_token : (tokens : List Token) (last : Token) (output : Output) → output_with (tokens ++ last ∷ []) output ≡ output_with tokens (with_emitted last output)
+last_token [] last output = refl
+last_token (first ∷ tokens) last output = ap (with_emitted first) (last_token tokens last output)
 
-pub all_levels : (tokens : List Token) → levels_with tokens (nothing_read, []) ≡ levels_of tokens
-all_levels [] = refl
-all_levels (token ∷ tokens) = ap (with_token token) (all_levels tokens)
+pub all_tokens : (tokens : List Token) → output_with tokens nothing_emitted ≡ output_after tokens
+all_tokens [] = refl
+all_tokens (token ∷ tokens) = ap (with_emitted token) (all_tokens tokens)

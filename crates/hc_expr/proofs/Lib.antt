@@ -3,3 +3,5 @@ pub mod Common
 pub mod TokenLemmas
 pub mod SyntaxLemmas
 pub mod Building
+pub mod StepsHeld
+pub mod StepsOfTrees

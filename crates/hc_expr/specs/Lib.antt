@@ -2,6 +2,9 @@ pub mod Tokens
 pub mod TokenViews
 pub mod Syntax
 pub mod Spots
-pub mod TreeViews
+pub mod Emitted
 pub mod Reading
+pub mod Steps
+pub mod StepViews
 pub mod Values
+pub mod Held

@@ -51,7 +51,12 @@ impl Level {
 }
 
 // The step joins two parts, where both are there.
-fn join<'t>(steps: &mut Vec<Step<'t>>, step: Step<'t>, first: bool, second: bool) -> Result<(), NoMemory>
+fn join<'t>(
+    steps: &mut Vec<Step<'t>>,
+    step: Step<'t>,
+    first: bool,
+    second: bool,
+) -> Result<(), NoMemory>
     ensures { OnOk result (emitted steps.new.items ≡ joined (step_view step.entry) first second (emitted steps.old.items)) }
 {
     if first && second {
@@ -161,6 +166,19 @@ impl<'t> Levels<'t> {
             Token::Broken => Ok(()),
         }
     }
+
+    fn into_steps(self) -> Result<Vec<Step<'t>>, NoMemory>
+        ensures { IfOk result (λ steps. emitted steps.items
+            ≡ finished (output_of self.entry).inner (output_of self.entry).steps) }
+    {
+        let Levels {
+            inner,
+            mut steps,
+            ..
+        } = self;
+        finish(&mut steps, inner)?;
+        Ok(steps)
+    }
 }
 
 /// The steps that all tokens make.
@@ -171,6 +189,5 @@ pub fn steps_of<'t>(alloc: Global, mut tokens: Vec<Token<'t>>) -> Result<Vec<Ste
     'tokens: while let Some(last) = tokens.pop() {
         levels.with_token(last)?;
     }
-    finish(&mut levels.steps, levels.inner)?;
-    Ok(levels.steps)
+    levels.into_steps()
 }

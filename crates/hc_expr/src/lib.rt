@@ -7,10 +7,11 @@ mod hold;
 mod operand;
 mod parts;
 mod read;
+mod step;
+mod stepping;
 mod syntax;
 mod test;
 mod token;
-mod tree;
 
 pub use hold::holds;
 pub use read::{ExprFault, both, lesser, parse_expr};

@@ -8,7 +8,7 @@ use Rattle.hc_model.specs.declared.config.HostId.TheVariants.{Main, Nth}
 use Rattle.hc_model.specs.declared.config.Server.{Server}
 use Rattle.hc_model.specs.declared.section.Body.{Body}
 use Rattle.hc_model.specs.declared.section.Reach.{Reach}
-use Rattle.hc_model.specs.declared.section.Reach.TheVariants.{Dir, DirSearch, Files, Location, LocationGlob, LocationSearch, When}
+use Rattle.hc_model.specs.declared.section.Reach.TheVariants.{Dir, DirSearch, Files, Location, LocationGlob, LocationSearch, Otherwise, When}
 use Rattle.hc_model.specs.declared.section.Section.{Section, out-Section}
 use Rattle.hc_model.specs.declared.spot.Spot.{Spot}
 use Rattle.hc_ways.specs.Kept.{first_match}
@@ -69,6 +69,7 @@ is_glob_of dir (Location path) = false
 is_glob_of dir (LocationGlob pattern) = false
 is_glob_of dir (LocationSearch pattern) = false
 is_glob_of dir (When test) = false
+is_glob_of dir (Otherwise test) = false
 
 -- The sections whose path is this directory's.
 abbrev pub is_of : Path → Section → Bool

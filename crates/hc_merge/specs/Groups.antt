@@ -2,7 +2,7 @@
 -- Apache manual, "Configuration Sections", "How the sections are merged".
 use Rattle.std.specs.Prelude.{Bool, true, false}
 use Rattle.hc_model.specs.declared.section.Reach.{Reach}
-use Rattle.hc_model.specs.declared.section.Reach.TheVariants.{Dir, DirSearch, Files, Location, LocationGlob, LocationSearch, When}
+use Rattle.hc_model.specs.declared.section.Reach.TheVariants.{Dir, DirSearch, Files, Location, LocationGlob, LocationSearch, Otherwise, When}
 use Rattle.hc_merge.specs.declared.group.Group.{Group}
 use Rattle.hc_merge.specs.declared.group.Group.TheVariants.{Components, Conditions, Directories, Names, Urls}
 
@@ -14,6 +14,7 @@ group_of (Location path) = Urls
 group_of (LocationGlob pattern) = Urls
 group_of (LocationSearch pattern) = Urls
 group_of (When test) = Conditions
+group_of (Otherwise test) = Conditions
 
 abbrev pub same_group : Group → Group → Bool
 same_group Directories Directories = true

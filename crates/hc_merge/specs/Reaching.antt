@@ -1,12 +1,14 @@
 -- Where a section applies: each is a test of one text, but for a condition, which may look at all of the request.
 -- Apache manual, core: DirectoryMatch, Files, FilesMatch, If, Location, LocationMatch.
-use Rattle.std.specs.Prelude.{ℕ, List, [], ◌∷◌, ◌++◌, Bool, true, false, not, ◌&&◌, is_some, Option, Some, None, slice_get, unwrap_or, if◌then◌else◌}
+use Rattle.std.specs.Prelude.{ℕ, List, [], ◌∷◌, ◌++◌, Bool, true, false, not, ◌&&◌, is_some, option_map, Option, Some, None, slice_get, unwrap_or, if◌then◌else◌}
 use Rattle.hc_alias.specs.Tests.{is_below}
 use Rattle.hc_base.specs.Paths.{begins_with_slash, ends_with_slash, is_slash}
 use Rattle.hc_expr.specs.Values.{holds}
+use Rattle.hc_model.specs.declared.expression.Expr.{Expr}
+use Rattle.hc_model.specs.declared.expression.Expr.TheVariants.{And, Not}
 use Rattle.hc_model.specs.declared.request.View.{View}
 use Rattle.hc_model.specs.declared.section.Reach.{Reach}
-use Rattle.hc_model.specs.declared.section.Reach.TheVariants.{Dir, DirSearch, Files, Location, LocationGlob, LocationSearch, When}
+use Rattle.hc_model.specs.declared.section.Reach.TheVariants.{Dir, DirSearch, Files, Location, LocationGlob, LocationSearch, Otherwise, When}
 use Rattle.hc_pattern.specs.Pattern.{Pattern}
 use Rattle.hc_ways.specs.Kept.{first_match}
 use Rattle.hc_merge.specs.Candidates.{Candidate}
@@ -39,11 +41,53 @@ reaches view (Location path) = is_at path view.path
 reaches view (LocationGlob pattern) = is_found pattern view.path
 reaches view (LocationSearch pattern) = is_found pattern view.path
 reaches view (When test) = holds view test
+reaches view (Otherwise test) = holds view test
 
 -- Those of the first group apply where they stand.
 abbrev pub applies : View → Option Reach → Bool
 applies view None = true
 applies view (Some reach) = reaches view reach
+
+-- ---- chains of conditions
+
+-- The expressions of the chain right before a section.
+abbrev pub Chain : Type 0
+Chain = List Expr
+
+-- None of those before holds, and this one does. For `b` and `c` before `e` it is `!b && !c && e`.
+abbrev pub behind_each : Expr → Chain → Expr → Expr
+behind_each none [] expr = And none expr
+behind_each none (before ∷ chain) expr = behind_each (And none (Not before)) chain expr
+
+abbrev pub chained : Chain → Expr → Expr
+chained [] expr = expr
+chained (first ∷ chain) expr = behind_each (Not first) chain expr
+
+-- An ElseIf or an Else also says that what stands before it in its chain does not hold.
+abbrev pub resolved : Chain → Reach → Reach
+resolved before (Otherwise test) = When (chained before test)
+resolved before (Dir pattern) = Dir pattern
+resolved before (DirSearch pattern) = DirSearch pattern
+resolved before (Files pattern) = Files pattern
+resolved before (Location path) = Location path
+resolved before (LocationGlob pattern) = LocationGlob pattern
+resolved before (LocationSearch pattern) = LocationSearch pattern
+resolved before (When test) = When test
+
+-- The chain right before what follows a section.
+abbrev pub chain_of : Chain → Reach → Chain
+chain_of before (When test) = test ∷ []
+chain_of before (Otherwise test) = before ++ test ∷ []
+chain_of before (Dir pattern) = []
+chain_of before (DirSearch pattern) = []
+chain_of before (Files pattern) = []
+chain_of before (Location path) = []
+chain_of before (LocationGlob pattern) = []
+chain_of before (LocationSearch pattern) = []
+
+abbrev pub chain_behind : Chain → Option Reach → Chain
+chain_behind before None = []
+chain_behind before (Some reach) = chain_of before reach
 
 -- ---- the sections that are kept
 
@@ -52,15 +96,16 @@ holds_at marks None = true
 holds_at marks (Some parent) = unwrap_or (slice_get marks parent) false
 
 -- It applies by its own test, and only where the section around it does.
-abbrev pub is_kept : View → List Bool → Candidate → Bool
-is_kept view marks candidate = holds_at marks candidate.parent && applies view candidate.reach
+abbrev pub is_kept : View → List Bool → Chain → Candidate → Bool
+is_kept view marks before candidate =
+    holds_at marks candidate.parent && applies view (option_map (resolved before) candidate.reach)
 
 -- Those that apply, where `marks` says it of those before.
-abbrev pub kept_behind : View → List Bool → List Candidate → List Candidate
-kept_behind view marks [] = []
-kept_behind view marks (candidate ∷ candidates) =
-    (if is_kept view marks candidate then candidate ∷ [] else [])
-    ++ kept_behind view (marks ++ is_kept view marks candidate ∷ []) candidates
+abbrev pub kept_behind : View → List Bool → Chain → List Candidate → List Candidate
+kept_behind view marks before [] = []
+kept_behind view marks before (candidate ∷ candidates) =
+    (if is_kept view marks before candidate then candidate ∷ [] else [])
+    ++ kept_behind view (marks ++ is_kept view marks before candidate ∷ []) (chain_behind before candidate.reach) candidates
 
 abbrev pub kept_by : View → List Candidate → List Candidate
-kept_by view candidates = kept_behind view [] candidates
+kept_by view candidates = kept_behind view [] [] candidates

@@ -15,7 +15,7 @@ pub(crate) enum Group {
     Components,
     /// `<Location>`: URL paths.
     Urls,
-    /// `<If>`.
+    /// `<If>`, `<ElseIf>` and `<Else>`.
     Conditions,
 }
 
@@ -30,6 +30,7 @@ pub(crate) fn is_in(group: Group, reach: &Reach) -> bool
         (Group::Urls, Reach::LocationGlob(_)) => true,
         (Group::Urls, Reach::LocationSearch(_)) => true,
         (Group::Conditions, Reach::When(_)) => true,
+        (Group::Conditions, Reach::Otherwise(_)) => true,
         _ => false,
     }
 }
