@@ -1,11 +1,13 @@
 -- Whether a request is let in.
 -- Apache manual, mod_authz_core: Require, RequireAll, RequireAny, RequireNone; mod_authz_host.
-use Rattle.std.specs.Prelude.{ℕ, ◌==◌, List, Bool, true, false, ◌||◌, codes, if◌then◌else◌}
+use Rattle.std.specs.Prelude.{ℕ, ◌==◌, List, [], ◌∷◌, Bool, true, false, ◌||◌, codes, if◌then◌else◌, Option, Some, None}
 use Rattle.std.specs.List.{list_any}
 use Rattle.std.specs.Str.{bytes_eq}
 use Rattle.hc_addr.specs.Networks.{holds_in}
 use Rattle.hc_addr.specs.declared.addr.Addr.{Addr}
 use Rattle.hc_addr.specs.declared.addr.Addr.TheVariants.{V4, V6}
+use Rattle.hc_model.specs.declared.authorization.Merging.{Merging}
+use Rattle.hc_model.specs.declared.authorization.Merging.TheVariants.{Off, And, Or}
 use Rattle.hc_model.specs.declared.authorization.Need.{Need}
 use Rattle.hc_model.specs.declared.authorization.Need.TheVariants as need
 use Rattle.hc_model.specs.declared.authorization.ReqTree.{ReqTree, fold-ReqTree}
@@ -82,6 +84,17 @@ none_value false denied = Neutral
 
 abbrev pub of_members : (Bool → Bool → Tri) → List Tri → Tri
 of_members container values = container (some_granted values) (some_denied values)
+
+-- ---- two values, joined
+
+abbrev pub value_joined : Tri → Tri → Merging → Tri
+value_joined before own Off = own
+value_joined before own And = of_members all_value (before ∷ own ∷ [])
+value_joined before own Or = of_members any_value (before ∷ own ∷ [])
+
+abbrev pub value_behind : Option Tri → Tri → Merging → Tri
+value_behind None own how = own
+value_behind (Some before) own how = value_joined before own how
 
 -- ---- trees
 

@@ -5,5 +5,5 @@ mod merging;
 mod needs;
 mod tree;
 
-pub use merging::join;
+pub use merging::{join, value_of};
 pub use tree::{Tri, value};

@@ -1,4 +1,4 @@
-ghost use Rattle.std.specs.Prelude.{◌≡◌, ◌||◌, map};
+ghost use Rattle.std.specs.Prelude.{◌≡◌, ◌||◌, false, map};
 ghost use Rattle.hc_authz.specs.Values as definition;
 ghost use Rattle.hc_authz.specs.Values.{all_value, any_value, is_denied, is_granted, line_value, none_value};
 ghost use Rattle.hc_authz.specs.Values.{some_denied, some_granted};
@@ -16,9 +16,9 @@ pub enum Tri {
     Neutral,
 }
 
-/// What the members of a container say.
+//// What the members of a container say.
 #[derive(Clone, Copy)]
-struct Votes {
+pub(crate) struct Votes {
     some_granted: bool,
     some_denied: bool,
 }
@@ -41,10 +41,7 @@ fn votes_of(trees: &List<ReqTree>, caller: &Caller) -> Votes
     ensures granted { result.some_granted ≡ some_granted (map (definition.value caller.now) trees.now) }
     ensures denied { result.some_denied ≡ some_denied (map (definition.value caller.now) trees.now) }
 {
-    let mut votes = Votes {
-        some_granted: false,
-        some_denied: false,
-    };
+    let mut votes = Votes::empty();
     for tree in trees.as_slice() {
         votes = votes.with(value(tree, caller));
     }
@@ -52,7 +49,18 @@ fn votes_of(trees: &List<ReqTree>, caller: &Caller) -> Votes
 }
 
 impl Votes {
-    fn with(self, value: Tri) -> Votes
+    /// No member speaks.
+    pub(crate) fn empty() -> Votes
+        ensures granted { result.some_granted ≡ false }
+        ensures denied { result.some_denied ≡ false }
+    {
+        Votes {
+            some_granted: false,
+            some_denied: false,
+        }
+    }
+
+    pub(crate) fn with(self, value: Tri) -> Votes
         ensures granted { result.some_granted ≡ (self.some_granted || is_granted value) }
         ensures denied { result.some_denied ≡ (self.some_denied || is_denied value) }
     {
@@ -62,7 +70,7 @@ impl Votes {
         }
     }
 
-    fn all(self) -> Tri
+    pub(crate) fn all(self) -> Tri
         ensures { result ≡ all_value self.some_granted self.some_denied }
     {
         match (self.some_granted, self.some_denied) {
@@ -72,7 +80,7 @@ impl Votes {
         }
     }
 
-    fn any(self) -> Tri
+    pub(crate) fn any(self) -> Tri
         ensures { result ≡ any_value self.some_granted self.some_denied }
     {
         match (self.some_granted, self.some_denied) {

@@ -1,3 +1,4 @@
+pub mod Joined
 pub mod Node
 pub mod Overrides
 pub mod PatternCode

@@ -44,6 +44,13 @@ pub enum Merging {
     Or,
 }
 
+/// The tree of a section, and how it stands to those before it.
+#[derive(Drop)]
+pub struct Join {
+    pub how: Merging,
+    pub tree: ReqTree,
+}
+
 impl Clone for Need {
     ghost is_clone = { λ need copy. copy ≡ need };
 
@@ -63,6 +70,17 @@ impl Clone for ReqTree {
 
     fn clone(&self) -> Result<ReqTree, NoMemory> {
         copy_tree(self)
+    }
+}
+
+impl Clone for Join {
+    ghost is_clone = { λ join copy. copy ≡ join };
+
+    fn clone(&self) -> Result<Join, NoMemory> {
+        Ok(Join {
+            how: self.how,
+            tree: self.tree.clone()?,
+        })
     }
 }
 

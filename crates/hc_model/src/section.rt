@@ -1,6 +1,6 @@
 ghost use Rattle.std.specs.Prelude.{◌≡◌, IfOk};
 
-use crate::{Event, Expression, Merging, Redirect, Regex, ReqTree, Rules};
+use crate::{Event, Expression, Merging, Redirect, Regex, ReqTree, Requirement, Rules};
 use hc_base::{List, NoMemory, Place, Span, Text, copy_option};
 
 /// Where a section applies (Apache manual, "Configuration Sections").
@@ -106,7 +106,7 @@ pub struct HtFile {
 pub struct Effective {
     /// FollowSymLinks or SymLinksIfOwnerMatch is in force.
     pub follow: bool,
-    pub require: Option<ReqTree>,
+    pub require: Requirement,
     pub engine: bool,
     /// The directory whose rules run.
     pub dir: Option<Text>,
@@ -211,7 +211,7 @@ impl Clone for Effective {
             rules: self.rules.clone()?,
             redirects: self.redirects.copy()?,
             sections: self.sections.copy()?,
-            require: copy_option(&self.require)?,
+            require: self.require.clone()?,
         })
     }
 }
