@@ -110,3 +110,28 @@ impl Log {
         })
     }
 }
+
+impl Clone for Log {
+    ghost is_clone = { λ log copy. copy ≡ log };
+
+    fn clone(&self) -> Result<Log, NoMemory> {
+        Ok(Log {
+            cap: self.cap,
+            kept: self.kept.copy()?,
+            count: self.count,
+            reads: self.reads.clone()?,
+        })
+    }
+}
+
+impl Clone for Told {
+    ghost is_clone = { λ told copy. copy ≡ told };
+
+    fn clone(&self) -> Result<Told, NoMemory> {
+        Ok(Told {
+            events: self.events.copy()?,
+            count: self.count,
+            reads: self.reads.copy()?,
+        })
+    }
+}
