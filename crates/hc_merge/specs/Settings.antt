@@ -3,7 +3,7 @@
 -- redirects come before the earlier ones' is our own choice.
 use Rattle.std.specs.Prelude.{ℕ, ◌==◌, List, [], ◌∷◌, ◌++◌, map, Bool, true, false, not, ◌&&◌, ◌||◌, Option, None}
 use Rattle.std.specs.List.{fold, list_any}
-use Rattle.hc_authz.specs.Joined.{joined_behind}
+use Rattle.hc_model.specs.Joined.{joined_behind}
 use Rattle.hc_model.specs.declared.authorization.ReqTree.{ReqTree}
 use Rattle.hc_model.specs.declared.config.Config.{Config}
 use Rattle.hc_model.specs.declared.config.HostId.{HostId}

@@ -8,7 +8,7 @@ ghost use Rattle.hc_merge.specs.RewritingView.{rules_in};
 ghost use Rattle.hc_merge.specs.Settings as definition;
 ghost use Rattle.hc_merge.specs.Settings.{event_of, follows, is_among, is_on, merged, on_after, on_at_sections};
 ghost use Rattle.hc_merge.specs.Settings.{on_at_servers, redirects_of, require_of, still_on};
-ghost use Rattle.hc_authz.specs.Joined.{joined_behind};
+ghost use Rattle.hc_model.specs.Joined.{joined_behind};
 ghost use Rattle.hc_vhost.specs.Servers.{IsHostOf};
 
 use crate::candidate::Candidate;
@@ -18,8 +18,8 @@ use crate::rewriting::rewriting_of;
 use hc_authz::join;
 use hc_base::{List, NoMemory, Text};
 use hc_model::{
-    Config, Effective, Event, HostId, Merging, OptStep, Overrides, Redirect, ReqTree, Rules, View,
-    Walk,
+    Config, Effective, Event, HostId, Merging, OptStep, Overrides, Redirect, ReqTree, Requirement,
+    Rules, View, Walk,
 };
 use hc_vhost::server_at;
 use std::alloc::Global;
@@ -141,32 +141,27 @@ fn is_among(option: u8, options: &[u8]) -> bool
     options.iter().any(|other| option == *other)
 }
 
-fn require_of(alloc: Global, kept: &[Candidate<'_>]) -> Result<Option<ReqTree>, NoMemory>
-    ensures { IfOk result (λ tree. tree ≡ require_of (map candidate_of kept.now)) }
+fn require_of(alloc: Global, kept: &[Candidate<'_>]) -> Result<Requirement, NoMemory>
+    ensures { IfOk result (λ require. require ≡ require_of (map candidate_of kept.now)) }
 {
-    let mut tree = None;
+    let mut require = Requirement::none(alloc);
     for candidate in kept {
-        tree = joined_behind(alloc, tree, &candidate.body.require, candidate.body.merging)?;
+        require = joined_behind(require, &candidate.body.require, candidate.body.merging)?;
     }
-    Ok(tree)
+    Ok(require)
 }
 
 // A section without Require changes nothing.
 fn joined_behind(
-    alloc: Global,
-    so_far: Option<ReqTree>,
+    before: Requirement,
     own: &Option<ReqTree>,
     how: Merging,
-) -> Result<Option<ReqTree>, NoMemory>
-    ensures { IfOk result (λ tree. tree ≡ joined_behind so_far own.now how) }
+) -> Result<Requirement, NoMemory>
+    ensures { IfOk result (λ require. require ≡ joined_behind before own.now how) }
 {
-    let Some(own) = own else {
-        return Ok(so_far);
-    };
-    let own = own.clone()?;
-    match so_far {
-        Some(before) => Ok(Some(join(alloc, before, own, how)?)),
-        None => Ok(Some(own)),
+    match own {
+        Some(tree) => join(before, tree.clone()?, how),
+        None => Ok(before),
     }
 }
 
