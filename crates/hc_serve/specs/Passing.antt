@@ -2,6 +2,7 @@
 -- Apache manual: "Mapping URLs to Filesystem Locations"; core, DocumentRoot, AcceptPathInfo; mod_alias.
 -- What is outside is our own choice.
 use Rattle.std.specs.Prelude.{ℕ, List, [], ◌∷◌, Bool, true, false, if◌then◌else◌, Option, Some, None}
+use Rattle.std.specs.Option.{option_map}
 use Rattle.std.specs.Str.{bytes_eq}
 use Rattle.hc_alias.specs.Mapping.{away, map_url}
 use Rattle.hc_alias.specs.declared.mapping.Away.{Away}
@@ -119,14 +120,14 @@ in_force site there = do
   files ← files_looked site.config (wanted_by site.config site.host there.walk.dirs)
   sections_told (with_force there (force_at site there files))
 
-abbrev pub said : Tri → Authorized
-said tri.Granted = Granted
-said tri.Denied = Denied
-said tri.Neutral = Neutral
+abbrev pub said : Option Tri → Authorized
+said None = Unasked
+said (Some tri.Granted) = Granted
+said (Some tri.Denied) = Denied
+said (Some tri.Neutral) = Neutral
 
 abbrev pub authorized : Caller → Option ReqTree → Authorized
-authorized caller None = Unasked
-authorized caller (Some tree) = said (value caller tree)
+authorized caller require = said (option_map (value caller) require)
 
 -- No tree lets everyone in; one that says nothing lets nobody in.
 abbrev pub lets_in : Authorized → Bool

@@ -1,29 +1,27 @@
 ghost use Rattle.std.specs.Prelude.{◌≡◌};
 ghost use Rattle.hc_serve.specs.Passing.{authorized, lets_in, said};
 
-use hc_authz::{Tri, value};
-use hc_model::{Authorized, Caller, ReqTree};
+use hc_authz::{Tri, value_of};
+use hc_model::{Authorized, Caller, Requirement};
 
 /// The status of a request that may not pass.
 pub(crate) const FORBIDDEN: u16 = 403;
 
 /// What authorization gives.
-pub(crate) fn authorized(caller: &Caller, require: &Option<ReqTree>) -> Authorized
+pub(crate) fn authorized(caller: &Caller, require: &Requirement) -> Authorized
     ensures { result ≡ authorized caller.now require.now }
 {
-    match require {
-        Some(tree) => said(value(tree, caller)),
-        None => Authorized::Unasked,
-    }
+    said(value_of(require, caller))
 }
 
-fn said(value: Tri) -> Authorized
+fn said(value: Option<Tri>) -> Authorized
     ensures { result ≡ said value }
 {
     match value {
-        Tri::Granted => Authorized::Granted,
-        Tri::Denied => Authorized::Denied,
-        Tri::Neutral => Authorized::Neutral,
+        None => Authorized::Unasked,
+        Some(Tri::Granted) => Authorized::Granted,
+        Some(Tri::Denied) => Authorized::Denied,
+        Some(Tri::Neutral) => Authorized::Neutral,
     }
 }
 

@@ -9,7 +9,7 @@ ghost use Rattle.hc_serve.specs.Request.{IsAnswer, IsWholeRun, way};
 use crate::needs::needs_of;
 use crate::way::way;
 use hc_base::{Fault, List, NoMemory, Place, Steps};
-use hc_model::{Config, Event, LimitKind, Outcome, Overrides, Read, ReqTree, Request};
+use hc_model::{Config, Event, LimitKind, Outcome, Overrides, Read, Request, Requirement};
 use hc_steps::Log;
 use hc_world::World;
 use std::alloc::Global;
@@ -135,7 +135,7 @@ pub fn whole_run<O: Overrides, L: Ledger>(
 #[derive(Drop)]
 struct Served {
     outcome: Outcome,
-    require: Option<ReqTree>,
+    require: Requirement,
     log: Log,
 }
 

@@ -1,4 +1,4 @@
-ghost use Rattle.std.specs.Prelude.{◌≡◌, IfOk};
+ghost use Rattle.std.specs.Prelude.{◌≡◌, None, IfOk};
 ghost use Rattle.hc_vhost.specs.Servers.{IsHostOf};
 ghost use Rattle.hc_htaccess.specs.Reading.{reading_in, size_in};
 ghost use Rattle.hc_model.specs.Overrides.{Kept};
@@ -24,10 +24,11 @@ use crate::stage::{Ended, Here, Named, Pass, Placed, Restarted, Stop, Walked};
 use hc_alias::{Away, directory_redirect, map_url};
 use hc_base::paths::{has_dots, merge_slashes};
 use hc_base::{Fault, NoMemory, Text, copy_option};
-use hc_model::{Authorized, Effective, Event, Kind, Outcome, Overrides, Reason, ReqTree, Walk};
+use hc_model::{Authorized, Effective, Event, Kind, Outcome, Overrides, Reason, Requirement, Walk};
 use hc_rw_expand::RwState;
 use hc_steps::Log;
 use hc_world::{World, follow};
+use std::alloc::Global;
 
 /// A pass: it ends the request, or leaves the pass that follows it.
 #[tactic(auto, unfolding(crate::specs::Passing::passed), using(crate::proofs::Trees::treed))]
@@ -49,18 +50,25 @@ pub(crate) fn passed<O: Overrides>(
 {
     match reached(asked, log, over, pass) {
         Ok(here) => passed_from(asked, log, here),
-        Err(fault) => Err(stopped(None, fault)),
+        Err(fault) => Err(stopped_before(log.allocator(), fault)),
     }
 }
 
 // What ends a pass, with the tree that was in force.
-pub(crate) fn stopped(require: Option<ReqTree>, fault: Stop) -> Fault<Ended>
+pub(crate) fn stopped(require: Requirement, fault: Stop) -> Fault<Ended>
     ensures { result ≡ stopped require fault }
 {
     match fault {
         Fault::Refused(outcome) => Fault::Refused(Ended { outcome, require }),
         Fault::NoMemory => Fault::NoMemory,
     }
+}
+
+// What ends a request before a tree is in force.
+pub(crate) fn stopped_before(alloc: Global, fault: Stop) -> Fault<Ended>
+    ensures { result ≡ stopped None fault }
+{
+    stopped(Requirement::none(alloc), fault)
 }
 
 #[tactic(auto, unfolding(crate::specs::Passing::passed_from), using(crate::proofs::Trees::treed))]
@@ -78,7 +86,7 @@ fn passed_from(asked: &Asked<'_>, log: &mut Log, here: Here) -> Result<Restarted
     }
 }
 
-fn tree_of(here: Here) -> Option<ReqTree>
+fn tree_of(here: Here) -> Requirement
     ensures { result ≡ here.force.require }
 {
     let Here { force, .. } = here;

@@ -1,8 +1,10 @@
-ghost use Rattle.std.specs.Prelude.{◌≡◌, IfOk};
+ghost use Rattle.std.specs.Prelude.{◌≡◌, None, IfOk};
+ghost use Rattle.hc_serve.specs.Passing.{followed_by};
 ghost use Rattle.hc_serve.specs.ServerRules.{pass_at};
 
 use hc_base::{Fault, List, NoMemory, Text};
-use hc_model::{Effective, Header, HostId, Outcome, ReqTree, Spot, Walk};
+use hc_model::{Effective, Header, HostId, Outcome, Requirement, Spot, Walk};
+use std::alloc::Global;
 
 /// Why a step does not go on: the request is answered, or memory was refused.
 pub(crate) type Stop = Fault<Outcome>;
@@ -89,12 +91,24 @@ pub(crate) struct Here {
 #[derive(Drop)]
 pub(crate) struct Ended {
     pub outcome: Outcome,
-    pub require: Option<ReqTree>,
+    pub require: Requirement,
 }
 
 /// A pass that follows another one, and the tree of Require lines that was in force in that one.
 #[derive(Drop)]
 pub(crate) struct Restarted {
     pub pass: Pass,
-    pub require: Option<ReqTree>,
+    pub require: Requirement,
+}
+
+impl Restarted {
+    /// The first pass, which follows none.
+    pub(crate) fn first(alloc: Global, pass: Pass) -> Restarted
+        ensures { result ≡ followed_by None pass }
+    {
+        Restarted {
+            pass,
+            require: Requirement::none(alloc),
+        }
+    }
 }

@@ -11,7 +11,7 @@ ghost use Rattle.hc_steps.specs.Run.{run};
 ghost use Rattle.hc_steps.specs.Shown.{shown_by};
 ghost use Rattle.hc_target.specs.Targets.{read};
 
-use crate::pass::{passed, stopped};
+use crate::pass::{passed, stopped_before};
 use crate::site::{Asked, caller_at, most_passes};
 use crate::stage::{Ended, Opened, Pass, Restarted, Stop};
 use hc_base::{Fault, List};
@@ -45,7 +45,7 @@ pub(crate) fn way<O: Overrides>(
 {
     match opened(config, world, log, request) {
         Ok(opened) => passes_of(config, world, log, over, request, opened),
-        Err(fault) => Err(stopped(None, fault)),
+        Err(fault) => Err(stopped_before(log.allocator(), fault)),
     }
 }
 
@@ -154,10 +154,7 @@ fn passes_at<O: Overrides>(
     ensures counted { Costs result asked.now.world.now.files (passes_at (site_of asked.now) pass)
         (O.counted over.old) (O.counted over.new) }
 {
-    let first = Restarted {
-        pass,
-        require: None,
-    };
+    let first = Restarted::first(log.allocator(), pass);
     passes(
         asked,
         log,

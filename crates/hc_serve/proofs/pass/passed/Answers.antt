@@ -13,4 +13,4 @@ returns-in-Ok-clause-counted g c = costs_treed _ _ _ _ _ _ _ _ c.in-Ok.ensures.c
 
 pub returns-in-Err-clause-counted : goal.returns-in-Err-clause-counted
 unfolding passed
-returns-in-Err-clause-counted g c = rw c.stopped.ensures (costs_stopped _ _ _ _ _ _ _ c.in-Err.ensures.counted)
+returns-in-Err-clause-counted g c = rw c.stopped_before.ensures (costs_stopped _ _ _ _ _ _ _ c.in-Err.ensures.counted)
