@@ -2,9 +2,9 @@
 
 use crate::expressions::request;
 use hc_addr::Addr;
-use hc_authz::{Tri, join, value};
+use hc_authz::{Tri, join, value, value_of};
 use hc_base::{List, NoMemory, Place, Text};
-use hc_model::{Caller, Merging, Need, ReqTree};
+use hc_model::{Caller, Merging, Need, ReqTree, Requirement};
 use std::alloc::Global;
 use std::test::Fail;
 
@@ -110,18 +110,112 @@ static JOINED: &[(Merging, Shape, Shape, Tri)] = &[
     (Merging::Or, Unmet, NotUnmet, Tri::Denied),
 ];
 
-fn joined(alloc: Global, how: Merging, before: &Shape, own: &Shape) -> Result<ReqTree, NoMemory> {
-    let before = made(alloc, before)?;
-    let own = made(alloc, own)?;
-    join(alloc, before, own, how)
+fn joined(
+    alloc: Global,
+    how: Merging,
+    before: &Shape,
+    own: &Shape,
+) -> Result<Requirement, NoMemory> {
+    let first = join(Requirement::none(alloc), made(alloc, before)?, Merging::And)?;
+    join(first, made(alloc, own)?, how)
 }
 
 #[test]
 fn trees_are_joined(rt: HostRuntime) -> Result<(), Fail> {
     let caller = caller(rt.alloc())?;
+    assert!(&rt; value_of(&Requirement::none(rt.alloc()), &caller) == None);
     for (how, before, own, wanted) in JOINED {
-        let tree = joined(rt.alloc(), *how, before, own)?;
+        let require = joined(rt.alloc(), *how, before, own)?;
+        assert!(&rt; value_of(&require, &caller) == Some(*wanted));
+    }
+    Ok(())
+}
+
+// What 3,000 trees say, which are these over and over.
+static MANY: &[(&[(Merging, Shape)], Tri)] = &[
+    (&[(Merging::And, Met), (Merging::Or, Unmet)], Tri::Granted),
+    (&[(Merging::And, Unmet), (Merging::Or, Met)], Tri::Granted),
+    (&[(Merging::Or, Met), (Merging::And, Unmet)], Tri::Denied),
+    (
+        &[(Merging::And, NotUnmet), (Merging::Or, NotUnmet)],
+        Tri::Neutral,
+    ),
+    (
+        &[
+            (Merging::Off, Met),
+            (Merging::And, NotUnmet),
+            (Merging::Or, Unmet),
+        ],
+        Tri::Granted,
+    ),
+    (
+        &[
+            (Merging::Or, Met),
+            (Merging::And, Met),
+            (Merging::Off, Unmet),
+        ],
+        Tri::Denied,
+    ),
+];
+
+fn with_each(
+    alloc: Global,
+    before: Requirement,
+    rows: &[(Merging, Shape)],
+) -> Result<Requirement, NoMemory> {
+    let mut require = before;
+    for (how, own) in rows {
+        require = join(require, made(alloc, own)?, *how)?;
+    }
+    Ok(require)
+}
+
+fn many(alloc: Global, rows: &[(Merging, Shape)]) -> Result<Requirement, NoMemory> {
+    let mut require = Requirement::none(alloc);
+    for _ in 0..3000 / rows.len().max(1) {
+        require = with_each(alloc, require, rows)?;
+    }
+    Ok(require)
+}
+
+#[test]
+fn many_trees_are_joined(rt: HostRuntime) -> Result<(), Fail> {
+    let caller = caller(rt.alloc())?;
+    for (rows, wanted) in MANY {
+        let require = many(rt.alloc(), rows)?;
+        let copy = require.clone()?;
+        assert!(&rt; value_of(&require, &caller) == Some(*wanted));
+        assert!(&rt; value_of(&copy, &caller) == Some(*wanted));
+    }
+    Ok(())
+}
+
+// A tree within so many containers, in turn of both kinds that say what their only member says.
+fn nested(alloc: Global, depth: u32, innermost: &Shape) -> Result<ReqTree, NoMemory> {
+    let mut tree = made(alloc, innermost)?;
+    for level in 0..depth {
+        tree = container(alloc, level, tree)?;
+    }
+    Ok(tree)
+}
+
+fn container(alloc: Global, level: u32, member: ReqTree) -> Result<ReqTree, NoMemory> {
+    let mut members = List::new(alloc);
+    members.push(member)?;
+    match level % 2 {
+        0 => Ok(ReqTree::All(members)),
+        _ => Ok(ReqTree::AnyOf(members)),
+    }
+}
+
+#[test]
+fn containers_nest(rt: HostRuntime) -> Result<(), Fail> {
+    let caller = caller(rt.alloc())?;
+    for (innermost, wanted) in TREES {
+        let tree = nested(rt.alloc(), 64, innermost)?;
+        let copy = tree.clone()?;
         assert!(&rt; value(&tree, &caller) == *wanted);
+        assert!(&rt; value(&copy, &caller) == *wanted);
     }
     Ok(())
 }
