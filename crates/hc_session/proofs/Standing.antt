@@ -90,7 +90,7 @@ module _ (flat : Flat) where
 
 -- ---- worlds that agree
 
-answers_agree : (config : Config) (request : Request) (one other : World) → AgreeOn (shown_by one) (shown_by other) (reads_of one config request) → answer_of one config request ≡ answer_of other config request
+pub answers_agree : (config : Config) (request : Request) (one other : World) → AgreeOn (shown_by one) (shown_by other) (reads_of one config request) → answer_of one config request ≡ answer_of other config request
 answers_agree config request one other same =
     let alike = agreement (way config request) (shown_by one) (shown_by other)
     (λ read is. same read (each_is_kept _ read (Contains-append_right config.reads (whole_run one config request).reads read is))) in
@@ -101,7 +101,7 @@ answers_agree config request one other same =
       reads = each_once (config.reads ++ (alike i).reads);
     }
 
-configurations_agree : (main : Path) (config : Config) (request : Request) (one other : World) → configuration one main ≡ Ok config
+pub configurations_agree : (main : Path) (config : Config) (request : Request) (one other : World) → configuration one main ≡ Ok config
     → AgreeOn (shown_by one) (shown_by other) (reads_of one config request) → configuration other main ≡ Ok config
 unfolding configuration
 configurations_agree main config request one other is same =

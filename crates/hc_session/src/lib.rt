@@ -5,6 +5,7 @@
 mod asking;
 mod changes;
 mod conversation;
+pub mod laws;
 mod limits;
 mod line_buffer;
 mod replies;
