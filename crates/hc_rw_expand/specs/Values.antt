@@ -1,11 +1,9 @@
 -- What the variables of rules and conditions stand for.
 -- Apache manual, mod_rewrite, RewriteCond. Where SERVER_NAME comes from, and what `HTTP:Host` gives, is our own choice.
-use Rattle.std.specs.Prelude.{ℕ, List, [], ◌∷◌, ◌++◌, if◌then◌else◌, option_map, unwrap_or, codes}
-use Rattle.std.specs.List.{find}
-use Rattle.std.specs.Str.{bytes_eq, str_eq_ignore_ascii_case}
+use Rattle.std.specs.Prelude.{ℕ, List, [], ◌∷◌, ◌++◌, if◌then◌else◌, unwrap_or, codes}
+use Rattle.std.specs.Str.{str_eq_ignore_ascii_case}
 use Rattle.hc_addr.specs.Printed.{printed}
 use Rattle.hc_base.specs.Bytes.{space}
-use Rattle.hc_model.specs.declared.request.Header.{Header}
 use Rattle.hc_model.specs.declared.request.Request.{Request}
 use Rattle.hc_model.specs.declared.template.Var.{Var}
 use Rattle.hc_model.specs.declared.template.Var.TheVariants as var
@@ -15,6 +13,7 @@ use Rattle.hc_template.specs.Filled.{Filling}
 use Rattle.hc_template.specs.Variables.{Seen, header_value, host_with_port, value_among, values_of}
 use Rattle.hc_rw_expand.specs.Contexts.{Context}
 use Rattle.hc_rw_expand.specs.Groups.{group_of}
+use Rattle.hc_rw_expand.specs.Variables.{variable_set}
 use Rattle.hc_rw_expand.specs.declared.state.RwState.{RwState}
 
 -- The text that is rewritten stands for the file name.
@@ -44,10 +43,6 @@ rule_values context state = further_values context state ++ values_of (seen_in c
 abbrev pub header_named : Request → List ℕ → List ℕ
 header_named request name =
     if str_eq_ignore_ascii_case name (codes "Host") then host_with_port request else header_value request.headers name
-
--- A variable that rules set, by its name, with case; empty where there is none.
-abbrev pub variable_set : List Header → List ℕ → List ℕ
-variable_set vars name = unwrap_or (option_map (λ each. each.value) (find (λ each. bytes_eq each.name name) vars)) []
 
 abbrev pub rule_value : Context → RwState → Var → List ℕ
 rule_value context state (var.Header name) = header_named context.caller.request name

@@ -1,7 +1,7 @@
 ghost use Rattle.std.specs.Prelude.{◌≡◌, [], ◌++◌, unwrap_or, OnOk};
 ghost use Rattle.hc_rw_expand.specs.Contexts.{context_of};
 ghost use Rattle.hc_rw_expand.specs.Values.{filling_in, header_named, request_line, rule_values};
-ghost use Rattle.hc_rw_expand.specs.Values.{seen_in, variable_set};
+ghost use Rattle.hc_rw_expand.specs.Values.{seen_in};
 ghost use Rattle.hc_template.specs.SeenView.{seen_of};
 ghost use Rattle.hc_template.specs.Variables.{value_among};
 
@@ -9,7 +9,7 @@ use crate::context::RwContext;
 use crate::groups::group_of;
 use crate::state::RwState;
 use hc_base::NoMemory;
-use hc_model::{Header, Request, Var};
+use hc_model::{Request, Var};
 use hc_table::variable::{
     DOCUMENT_ROOT, HTTP_ACCEPT, HTTP_COOKIE, PATH_INFO, SCRIPT_FILENAME, SERVER_ADDR, THE_REQUEST,
 };
@@ -37,9 +37,7 @@ impl<'s> Fills for StateFilling<'s> {
     fn push_variable(&self, out: &mut Vec<u8>, var: &Var) -> Result<(), NoMemory> {
         match var {
             Var::Header(name) => push_header(out, &self.context.caller.request, name.as_bytes()),
-            Var::Env(name) => {
-                out.extend_from_slice(variable_set(self.state.vars.as_slice(), name.as_bytes()))
-            }
+            Var::Env(name) => out.extend_from_slice(self.state.vars.value(name)),
             Var::Named(number) => push_value(self.context, self.state, out, *number),
         }
     }
@@ -108,15 +106,5 @@ fn push_header(out: &mut Vec<u8>, request: &Request, name: &[u8]) -> Result<(), 
         push_host(out, request)
     } else {
         out.extend_from_slice(header_value(request.headers.as_slice(), name))
-    }
-}
-
-// A variable that rules set, by its name, with case; empty where there is none.
-fn variable_set<'v>(vars: &'v [Header], name: &[u8]) -> &'v [u8]
-    ensures { result.now ≡ variable_set vars.now name.now }
-{
-    match vars.iter().find(|each| each.name.as_bytes() == name) {
-        Some(each) => each.value.as_bytes(),
-        None => &[],
     }
 }

@@ -8,10 +8,12 @@ mod groups;
 mod lookups;
 mod query;
 mod state;
+mod variables;
 
 pub use context::{Engine, RwContext};
 pub use filling::StateFilling;
 pub use groups::Matched;
-pub use lookups::{expand, expanded};
+pub use lookups::{expand, looks_of};
 pub use query::{Split, split_query};
 pub use state::RwState;
+pub use variables::Variables;

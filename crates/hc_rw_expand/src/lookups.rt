@@ -1,20 +1,15 @@
 ghost use Rattle.std.specs.Prelude.{◌≡◌, ◌++◌, IfOk, OnOk};
 ghost use Rattle.hc_rw_expand.specs.Contexts.{context_of};
 ghost use Rattle.hc_rw_expand.specs.LookReads.{piece_reads, reads_in};
-ghost use Rattle.hc_rw_expand.specs.Lookups.{Looks, Stands, expanded, filled_with, looked_up, piece_with};
+ghost use Rattle.hc_rw_expand.specs.Lookups.{filled_with, looked_up, piece_with};
 ghost use Rattle.hc_rw_expand.specs.Values.{filling_in};
-ghost use Rattle.hc_steps.specs.Ran.{Ran, with_reads};
-ghost use Rattle.hc_steps.specs.Run.{run};
-ghost use Rattle.hc_steps.specs.Shown.{shown_by};
 
 use crate::context::RwContext;
 use crate::filling::StateFilling;
 use crate::state::RwState;
-use hc_base::{Fault, NoMemory, Text};
+use hc_base::{NoMemory, Text};
 use hc_model::{Lookups, Piece, Read, Template};
-use hc_steps::Log;
 use hc_template::Fills;
-use hc_world::World;
 use std::alloc::Global;
 
 /// A template with its parts filled in, which are not escaped (Apache manual, mod_rewrite, "Test String",
@@ -33,24 +28,16 @@ pub fn expand<P: Lookups>(
     fill(alloc, template.as_slice(), &fills, look)
 }
 
-/// What `expand` gives, with each look at the text of the file of a map told (Apache manual, mod_rewrite,
-/// RewriteMap): the maps look themselves. `NoMemory` where memory is refused.
-#[tactic(auto, using(hc_steps::proofs::Going::ran_no_memory))]
-pub fn expanded<P: Lookups, E>(
-    world: &World,
-    log: &mut Log,
+/// What the look-ups of a template look at (Apache manual, mod_rewrite, RewriteMap): the maps look themselves.
+/// `NoMemory` where memory is refused.
+pub fn looks_of<P: Lookups>(
+    alloc: Global,
     template: &Template,
-    context: &RwContext<'_>,
-    state: &RwState,
     look: &P,
-) -> Result<Text, Fault<E>>
-    ensures { (looks : Looks) → Stands (P.files look.now) (P.values look.now) looks (shown_by world.now.files)
-        → Ran result log.old log.new (run
-        (expanded looks (filling_in (context_of context.now) state.now) template.now)
-        (shown_by world.now.files)) }
+) -> Result<Vec<Read>, NoMemory>
+    ensures { IfOk result (λ reads. reads.items ≡ reads_in (P.files look.now) template.now) }
 {
-    tell_looks(log, template.as_slice(), look)?;
-    Ok(expand(log.allocator(), template, context, state, look)?)
+    looks_in(alloc, template.as_slice(), look)
 }
 
 fn fill<F: Fills, P: Lookups>(
@@ -110,24 +97,25 @@ fn push_looked_up<F: Fills, P: Lookups>(
     out.extend_from_slice(text.as_bytes())
 }
 
-// Tells the looks of a template.
-fn tell_looks<P: Lookups>(log: &mut Log, pieces: &[Piece], look: &P) -> Result<(), NoMemory>
-    ensures { OnOk result (log.new ≡ with_reads log.old (reads_in (P.files look.now) pieces.now)) }
+fn looks_in<P: Lookups>(alloc: Global, pieces: &[Piece], look: &P) -> Result<Vec<Read>, NoMemory>
+    ensures { IfOk result (λ reads. reads.items ≡ reads_in (P.files look.now) pieces.now) }
 {
+    let mut reads = Vec::new(alloc);
     for piece in pieces {
-        tell_look(log, piece, look)?;
+        push_look(&mut reads, piece, look)?;
     }
-    Ok(())
+    Ok(reads)
 }
 
-fn tell_look<P: Lookups>(log: &mut Log, piece: &Piece, look: &P) -> Result<(), NoMemory>
-    ensures { OnOk result (log.new ≡ with_reads log.old (piece_reads (P.files look.now) piece.now)) }
+fn push_look<P: Lookups>(reads: &mut Vec<Read>, piece: &Piece, look: &P) -> Result<(), NoMemory>
+    ensures { OnOk result (reads.new.items ≡ reads.old.items ++ piece_reads (P.files look.now) piece.now) }
 {
-    match piece {
-        Piece::Lookup { map, .. } => match look.file(map.get().as_bytes()) {
-            Some(path) => log.look(Read::TextOf(Text::copy_of(log.allocator(), path)?)),
-            None => Ok(()),
-        },
-        _ => Ok(()),
-    }
+    let Piece::Lookup { map, .. } = piece else {
+        return Ok(());
+    };
+    let Some(path) = look.file(map.get().as_bytes()) else {
+        return Ok(());
+    };
+    let path = Text::copy_of(*reads.allocator(), path)?;
+    Ok(reads.push(Read::TextOf(path))?)
 }

@@ -1,8 +1,8 @@
 ghost use Rattle.std.specs.Prelude.{◌≡◌};
 
 use crate::groups::Matched;
-use hc_base::{List, NoMemory, Text, copy_option};
-use hc_model::Header;
+use crate::variables::Variables;
+use hc_base::{NoMemory, Text, copy_option};
 
 /// What a list of rules has come to (Apache manual, mod_rewrite, RewriteRule).
 #[derive(Drop)]
@@ -12,8 +12,7 @@ pub struct RwState {
     pub query: Text,
     /// The path information.
     pub info: Text,
-    /// The variables that rules set.
-    pub vars: List<Header>,
+    pub vars: Variables,
     /// No list of rules runs again.
     pub end: bool,
     /// What the groups of the rule's pattern hold.
@@ -31,7 +30,7 @@ impl Clone for RwState {
             query: self.query.clone()?,
             info: self.info.clone()?,
             end: self.end,
-            vars: self.vars.copy()?,
+            vars: self.vars.clone()?,
             groups: copy_option(&self.groups)?,
             cond_groups: copy_option(&self.cond_groups)?,
         })
