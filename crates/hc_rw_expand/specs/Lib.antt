@@ -1,5 +1,6 @@
 pub mod Contexts
 pub mod Groups
+pub mod Kept
 pub mod Variables
 pub mod Values
 pub mod Lookups
