@@ -1,4 +1,5 @@
 pub mod Common
+pub mod Expanding
 pub mod Finishing
 pub mod Fronts
 pub mod Groups

@@ -1,5 +1,7 @@
 -- What a frame of the code is to the definitions.
-use Rattle.std.specs.Prelude.{ℕ, List, Option}
+use Rattle.std.specs.Prelude.{ℕ, List, Option, Result, Ok, Err}
+use Rattle.hc_base.specs.declared.fault.Fault.{Fault}
+use Rattle.hc_base.specs.declared.fault.Fault.TheVariants.{Refused}
 use Rattle.hc_rw_eval.specs.declared.frame.Frame.{Frame}
 use Rattle.hc_rw_expand.specs.Contexts.{Context, context_of}
 use Rattle.hc_rw_expand.specs.Lookups.{Looks, Values}
@@ -18,3 +20,8 @@ looks_in files values = record { file = files; value = λ name key text. values 
 
 abbrev pub looks_at : {P : Type 0} → (P → List ℕ → Option (List ℕ)) → (P → Values) → Frame P → Looks
 looks_at files values frame = looks_in (files frame.look.now) (values frame.look.now)
+
+-- What a run came to, as a step answers it.
+abbrev pub as_step : {A E : Type 0} → Result A E → Result A (Fault E)
+as_step (Ok left) = Ok left
+as_step (Err end) = Err (Refused end)

@@ -43,24 +43,30 @@ abbrev pub is_port : Scheme → ℕ → List ℕ → Bool
 is_port scheme port [] = port == default_port scheme
 is_port scheme port (b ∷ digits) = (b == colon) && is_number port (at_most HIGHEST_PORT (decimal_of digits))
 
-abbrev pub own_front : Caller → List ℕ
-own_front caller = scheme_name caller.request.scheme ++ codes "://" ++ caller.name
+abbrev pub own_front : Scheme → List ℕ
+own_front scheme = scheme_name scheme ++ codes "://"
+
+-- An authority of the server: its name without case, alone where the port is the scheme's default one, or with `:port`.
+abbrev pub is_own : Caller → List ℕ → Bool
+is_own caller authority =
+    begins_without_case caller.name authority
+    && is_port caller.request.scheme caller.request.port (drop (length caller.name) authority)
 
 -- Nothing stands for `/`.
 abbrev pub or_slash : List ℕ → List ℕ
 or_slash [] = codes "/"
 or_slash (b ∷ bs) = b ∷ bs
 
--- What follows the port.
+-- What follows the authority, which ends before the first slash.
 abbrev pub path_behind : Caller → List ℕ → Option (List ℕ)
 path_behind caller rest =
-    if is_port caller.request.scheme caller.request.port (before_first is_slash rest)
-    then Some (or_slash (drop (length (before_first is_slash rest)) rest)) else None
+    if is_own caller (before_first is_slash rest) then Some (or_slash (drop (length (before_first is_slash rest)) rest)) else None
 
--- The path of a URL of the server's own: its scheme and name without case, and its port.
+-- The path of a URL of the server's own: the scheme of the request without case, and an authority of the server.
 abbrev pub own_path : Caller → List ℕ → Option (List ℕ)
 own_path caller text =
-    if begins_without_case (own_front caller) text then path_behind caller (drop (length (own_front caller)) text) else None
+    if begins_without_case (own_front caller.request.scheme) text
+    then path_behind caller (drop (length (own_front caller.request.scheme)) text) else None
 
 -- ---- locations
 

@@ -2,15 +2,13 @@
 -- Apache manual, mod_rewrite: RewriteRule; RewriteBase; "RewriteRule Flags". The order of variables and substitution, the longest text,
 -- and what is outside, are our own choice.
 use Rattle.std.specs.Prelude.{ℕ, ◌==◌, List, [], ◌∷◌, ◌++◌, length, Bool, true, false, not, ◌&&◌, ◌||◌, nat_lt, if◌then◌else◌}
-use Rattle.std.specs.Prelude.{Option, Some, None, is_some, filter, Result, Ok, Err}
-use Rattle.std.specs.Str.{bytes_eq}
+use Rattle.std.specs.Prelude.{Option, Some, None, is_some, Result, Ok, Err}
 use Rattle.hc_base.specs.Paths.{begins_with_slash}
 use Rattle.hc_model.specs.declared.event.Event.TheVariants as event
 use Rattle.hc_model.specs.declared.outcome.Outcome.{Outcome}
 use Rattle.hc_model.specs.declared.outcome.Outcome.TheVariants as outcome
 use Rattle.hc_model.specs.declared.outcome.Reason.{Reason}
 use Rattle.hc_model.specs.declared.outcome.Reason.TheVariants.{LongText, RelativeRedirect, RelativeUnderAlias, Scheme}
-use Rattle.hc_model.specs.declared.request.Header.{Header}
 use Rattle.hc_model.specs.declared.rewrite.EnvSet.{EnvSet}
 use Rattle.hc_model.specs.declared.rewrite.Flags.{Flags}
 use Rattle.hc_model.specs.declared.rewrite.Rule.{Rule}
@@ -23,6 +21,7 @@ use Rattle.hc_rw_expand.specs.Contexts.{Context, Engine}
 use Rattle.hc_rw_expand.specs.Lookups.{Looks, expanded}
 use Rattle.hc_rw_expand.specs.Queries.{split}
 use Rattle.hc_rw_expand.specs.Values.{filling_in}
+use Rattle.hc_rw_expand.specs.Variables.{with_value}
 use Rattle.hc_rw_expand.specs.declared.query.Split.{Split}
 use Rattle.hc_rw_expand.specs.declared.state.RwState.{RwState}
 use Rattle.hc_steps.specs.Step.{Step, ends, in_order, leaves, told, ◌>>=◌}
@@ -34,15 +33,12 @@ use Rattle.hc_template.specs.Variables.{origin}
 abbrev pub is_long : List ℕ → Bool
 is_long text = nat_lt LONGEST_TEXT (length text)
 
--- A variable by its name, with case.
-abbrev pub without : List ℕ → List Header → List Header
-without name vars = filter (λ each. not (bytes_eq each.name name)) vars
-
 abbrev pub with_variable : List ℕ → List ℕ → RwState → RwState
-with_variable name value state = record state { vars = without name state.vars ++ record { name = name; value = value } ∷ [] }
+with_variable name value state = record state { vars = with_value state.vars name value }
 
+-- An empty value stands for a variable that is unset: no template can tell it from one that is not there.
 abbrev pub without_variable : List ℕ → RwState → RwState
-without_variable name state = record state { vars = without name state.vars }
+without_variable name state = with_variable name [] state
 
 unfoldable pub set_to : RwState → List ℕ → List ℕ → Step Outcome RwState
 set_to state name value = if is_long value then ends (outcome.Outside LongText) else leaves (with_variable name value state)

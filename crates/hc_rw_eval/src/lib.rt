@@ -18,4 +18,4 @@ mod variables;
 
 pub use attempt::Rewritten;
 pub use directories::url_path;
-pub use run::{Finished, run_rules};
+pub use run::{Finished, RulesRun, run_rules};

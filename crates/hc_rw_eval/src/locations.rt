@@ -3,14 +3,14 @@ ghost use Rattle.std.specs.Prelude.{◌≡◌, ◌≤◌, ◌++◌, IfOk, OnOk, 
 ghost use Rattle.std.specs.List.{prefix_len};
 ghost use Rattle.hc_addr.specs.Numbers.{at_most, decimal_of};
 ghost use Rattle.hc_base.specs.Paths.{is_slash};
-ghost use Rattle.hc_rw_eval.specs.Locations.{has_scheme, is_number, is_port, is_scheme_byte, location, or_slash, own_front, own_path, path_behind};
+ghost use Rattle.hc_rw_eval.specs.Locations.{has_scheme, is_number, is_own, is_port, is_scheme_byte, location, or_slash, own_front, own_path, path_behind};
 ghost use Rattle.hc_rw_eval.specs.Locations.{query_part, scheme_ends, unless_kept};
 
 use hc_addr::{HIGHEST_PORT, number_up_to};
 use hc_base::{NoMemory, Text};
 use hc_model::{Caller, Scheme};
 use hc_target::{begins_without_case, escape_path};
-use hc_template::{default_port, scheme_name};
+use hc_template::default_port;
 use std::alloc::Global;
 
 fn is_scheme_byte(byte: u8) -> bool
@@ -63,18 +63,30 @@ fn is_number(port: u16, digits: &[u8]) -> bool
     }
 }
 
-// The scheme and the name of the server, as a URL begins with them.
-fn own_front(alloc: Global, caller: &Caller) -> Result<Vec<u8>, NoMemory>
-    ensures { IfOk result (λ front. front.items ≡ own_front caller.now) }
+// What stands before the authority of a URL of the server's own.
+fn own_front(scheme: Scheme) -> &'static [u8]
+    ensures { result.now ≡ own_front scheme }
 {
-    let mut front = scheme_name(caller.request.scheme).to_vec(alloc)?;
-    front.extend_from_slice(b"://")?;
-    front.extend_from_slice(caller.name.as_bytes())?;
-    Ok(front)
+    match scheme {
+        Scheme::Http => b"http://",
+        Scheme::Https => b"https://",
+    }
+}
+
+// The server's name without case, and its port.
+fn is_own(caller: &Caller, authority: &[u8]) -> bool
+    ensures { result ≡ is_own caller.now authority.now }
+{
+    let name = caller.name.as_bytes();
+    if !begins_without_case(name, authority) {
+        return false;
+    }
+    let (_, port) = authority.split_at(name.len());
+    is_port(caller.request.scheme, caller.request.port, port)
 }
 
 // How many bytes stand before the first slash.
-fn port_length(rest: &[u8]) -> usize
+fn authority_length(rest: &[u8]) -> usize
     ensures value { result ≡ prefix_len (λ b. not (is_slash b)) rest.now }
     ensures within { result ≤ length rest.now }
 {
@@ -88,12 +100,12 @@ fn or_slash(rest: &[u8]) -> &[u8]
     if rest.is_empty() { b"/" } else { rest }
 }
 
-// The path behind the server's port.
+// The path behind the server's own authority.
 fn path_behind<'t>(caller: &Caller, rest: &'t [u8]) -> Option<&'t [u8]>
     ensures { option_map (λ path. path.now) result ≡ path_behind caller.now rest.now }
 {
-    let (port, path) = rest.split_at(port_length(rest));
-    if is_port(caller.request.scheme, caller.request.port, port) {
+    let (authority, path) = rest.split_at(authority_length(rest));
+    if is_own(caller, authority) {
         Some(or_slash(path))
     } else {
         None
@@ -108,11 +120,11 @@ pub(crate) fn own_path(
 ) -> Result<Option<Text>, NoMemory>
     ensures { IfOk result (λ path. path ≡ own_path caller.now text.now) }
 {
-    let front = own_front(alloc, caller)?;
-    if !begins_without_case(&front, text) {
+    let front = own_front(caller.request.scheme);
+    if !begins_without_case(front, text) {
         return Ok(None);
     }
-    match path_behind(caller, &text[front.len()..]) {
+    match path_behind(caller, text.split_at(front.len()).1) {
         Some(path) => Ok(Some(Text::copy_of(alloc, path)?)),
         None => Ok(None),
     }

@@ -1,6 +1,6 @@
 //! The run of a list of rules (Apache manual, "Apache mod_rewrite Technical Details", "Ruleset Processing").
-ghost use Rattle.std.specs.Prelude.{◌≡◌, ◌+◌, OnOk};
-ghost use Rattle.hc_rw_eval.specs.Frames.{context_at, looks_at, shown_at};
+ghost use Rattle.std.specs.Prelude.{◌≡◌, ◌+◌, IfOk, OnOk};
+ghost use Rattle.hc_rw_eval.specs.Frames.{as_step, context_at, looks_at, shown_at};
 ghost use Rattle.hc_rw_eval.specs.Lists.{begun, most_rounds, next_round, rounds_from, run_rules};
 ghost use Rattle.hc_rw_expand.specs.Contexts.{context_of};
 ghost use Rattle.hc_rw_expand.specs.Lookups.{Looks, Stands};
@@ -22,6 +22,13 @@ use hc_world::World;
 pub struct Finished {
     pub left: Rewritten,
     pub passed: bool,
+}
+
+/// What a run came to, an outcome where the rules answer the request, and the log of the run.
+#[derive(Drop)]
+pub struct RulesRun {
+    pub log: Log,
+    pub came: Result<Finished, Outcome>,
 }
 
 /// What a round comes to: the run is over, or N begins the list again.
@@ -99,25 +106,44 @@ fn rounds_from<P: Lookups>(
     Err(Fault::Refused(Outcome::Limit(LimitKind::Rounds)))
 }
 
+// A run with its log.
+fn with_log(log: Log, ended: Result<Finished, Stop>) -> Result<RulesRun, NoMemory>
+    ensures { IfOk result (λ ran. (ran.log ≡ log) × (as_step ran.came ≡ ended)) }
+{
+    match ended {
+        Ok(finished) => Ok(RulesRun {
+            log,
+            came: Ok(finished),
+        }),
+        Err(Fault::Refused(outcome)) => Ok(RulesRun {
+            log,
+            came: Err(outcome),
+        }),
+        Err(Fault::NoMemory) => Err(NoMemory),
+    }
+}
+
 /// Runs a list of rules on a state, and tells each attempt, what was looked at, and each round. A request
-/// that the rules answer does not go on, and neither does one at its last round; `NoMemory` where memory is
-/// refused.
+/// that the rules answer does not go on, and neither does one at its last round. Where memory is refused the
+/// log is dropped.
 pub fn run_rules<P: Lookups>(
     world: &World,
-    log: &mut Log,
+    log: Log,
     context: &RwContext<'_>,
     look: &P,
     rules: &[Rule],
     state: RwState,
-) -> Result<Finished, Fault<Outcome>>
+) -> Result<RulesRun, NoMemory>
     ensures { (looks : Looks) → Stands (P.files look.now) (P.values look.now) looks (shown_by world.now.files)
-        → Ran result log.old log.new
-        (run (run_rules (context_of context.now) looks rules.now state) (shown_by world.now.files)) }
+        → IfOk result (λ ran. Ran (as_step ran.came) log ran.log
+        (run (run_rules (context_of context.now) looks rules.now state) (shown_by world.now.files))) }
 {
     let frame = Frame {
         world,
         context,
         look,
     };
-    rounds_from(&frame, log, most_rounds(rules), rules, begun(state))
+    let mut log = log;
+    let ended = rounds_from(&frame, &mut log, most_rounds(rules), rules, begun(state));
+    with_log(log, ended)
 }

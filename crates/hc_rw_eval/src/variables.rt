@@ -2,45 +2,36 @@
 ghost use Rattle.std.specs.Prelude.{◌≡◌, IfOk};
 ghost use Rattle.hc_rw_eval.specs.Frames.{context_at, looks_at, shown_at};
 ghost use Rattle.hc_rw_eval.specs.Substitutions.{is_long, set_by, set_to, variable_set, variables_set};
-ghost use Rattle.hc_rw_eval.specs.Substitutions.{with_variable, without, without_variable};
+ghost use Rattle.hc_rw_eval.specs.Substitutions.{with_variable, without_variable};
 ghost use Rattle.hc_steps.specs.Ran.{Ran};
 ghost use Rattle.hc_steps.specs.Run.{run};
 
 use crate::frame::{Frame, Stop, filled};
 use crate::substitution::is_long;
-use hc_base::{Fault, List, NoMemory, Text};
-use hc_model::{EnvSet, Header, Lookups, Outcome, Reason, Template};
+use hc_base::{Fault, NoMemory, Text};
+use hc_model::{EnvSet, Lookups, Outcome, Reason, Template};
 use hc_rw_expand::RwState;
 use hc_steps::Log;
 use std::alloc::Global;
 
-// The variables but for those of a name.
-fn without(alloc: Global, name: &Text, vars: &[Header]) -> Result<List<Header>, NoMemory>
-    ensures { IfOk result (λ kept. kept ≡ without name.now vars.now) }
-{
-    let mut kept = List::new(alloc);
-    for each in vars {
-        if each.name.as_bytes() != name.as_bytes() {
-            kept.push(each.clone()?)?;
-        }
-    }
-    Ok(kept)
-}
-
-fn without_variable(name: &Text, state: RwState) -> Result<RwState, NoMemory>
-    ensures { IfOk result (λ left. left ≡ without_variable name.now state) }
-{
-    let vars = without(state.vars.allocator(), name, state.vars.as_slice())?;
-    Ok(RwState { vars, ..state })
-}
-
-fn with_variable(name: &Text, value: Text, state: RwState) -> Result<RwState, NoMemory>
+fn with_variable(
+    alloc: Global,
+    name: &Text,
+    value: Text,
+    state: RwState,
+) -> Result<RwState, NoMemory>
     ensures { IfOk result (λ left. left ≡ with_variable name.now value state) }
 {
-    let name = name.clone()?;
-    let mut vars = without(state.vars.allocator(), &name, state.vars.as_slice())?;
-    vars.push(Header { name, value })?;
-    Ok(RwState { vars, ..state })
+    let mut state = state;
+    state.vars.set(alloc, name.clone()?, value)?;
+    Ok(state)
+}
+
+// No template can tell an empty variable from one that is not there.
+fn without_variable(alloc: Global, name: &Text, state: RwState) -> Result<RwState, NoMemory>
+    ensures { IfOk result (λ left. left ≡ without_variable name.now state) }
+{
+    with_variable(alloc, name, Text::new(alloc), state)
 }
 
 #[tactic(auto, unfolding(crate::specs::Substitutions::set_to), using(hc_steps::proofs::Going::telling))]
@@ -56,7 +47,7 @@ fn set_to<P: Lookups>(
     if is_long(value.as_bytes()) {
         return Err(Fault::Refused(Outcome::Outside(Reason::LongText)));
     }
-    Ok(with_variable(name, value, state)?)
+    Ok(with_variable(log.allocator(), name, value, state)?)
 }
 
 #[tactic(auto, unfolding(crate::specs::Substitutions::set_by), using(crate::proofs::Leading::stepping))]
@@ -72,7 +63,7 @@ fn set_by<P: Lookups>(
         (shown_at frame.now)) }
 {
     let Some(value) = value else {
-        return Ok(without_variable(name, state)?);
+        return Ok(without_variable(log.allocator(), name, state)?);
     };
     let value = filled(frame, log, &state, value)?;
     set_to(frame, log, state, name, value)
