@@ -2,7 +2,10 @@
 use Rattle.std.specs.Prelude.{ℕ, ◌==◌, List, [], ◌∷◌, length, Bool, true, false, ◌&&◌, ◌||◌, not, nat_le, nat_lt, Option, Some, None, if◌then◌else◌, option_and_then, option_map, unwrap_or, codes}
 use Rattle.std.specs.Char.{is_ascii_alphanumeric, is_ascii_uppercase}
 use Rattle.std.specs.List.{list_all}
-use Rattle.std.specs.Str.{bytes_eq, str_eq_ignore_ascii_case}
+use Rattle.std.specs.BTreeSet.{contains, insert_key}
+use Rattle.std.specs.Cmp.Lexicographic.{slice_cmp}
+use Rattle.std.specs.Ordering.{nat_cmp}
+use Rattle.std.specs.Str.{bytes_eq, str_eq_ignore_ascii_case, str_to_ascii_lowercase}
 use Rattle.serde_json.specs.Data.{Data, Members, no_members, member}
 use Rattle.serde_json.specs.Find.{as_number, as_object, as_str, as_u64}
 use Rattle.hc_addr.specs.Addresses.{addr_of}
@@ -84,20 +87,17 @@ abbrev pub is_value_of : Option (List ℕ) → Bool
 is_value_of None = false
 is_value_of (Some value) = is_value value
 
--- Another name that is equal without case.
-abbrev pub is_alike : List ℕ → List ℕ → Bool
-is_alike name other = str_eq_ignore_ascii_case name other && not (bytes_eq name other)
+-- Among these names, which stand in order.
+abbrev pub is_taken : List (List ℕ) → List ℕ → Bool
+is_taken names name = contains (slice_cmp nat_cmp) (record { keys = names }) name
 
-abbrev pub has_alike : List ℕ → Members → Bool
-has_alike name no_members = false
-has_alike name (member other d rest) = is_alike name other || has_alike name rest
-
--- Each member is a header, and none has a name that another of them all has without case. The keys of an
--- object differ.
-abbrev pub are_headers : Members → Members → Bool
-are_headers all no_members = true
-are_headers all (member name d rest) =
-    is_name name && is_value_of (as_str d) && not (has_alike name all) && are_headers all rest
+-- Each member is a header, and no two names are equal without case: put one after another in lower case into the ordered
+-- set of those before, none is there already.
+abbrev pub are_headers : List (List ℕ) → Members → Bool
+are_headers names no_members = true
+are_headers names (member name d rest) =
+    is_name name && is_value_of (as_str d) && not (is_taken names (str_to_ascii_lowercase name))
+    && are_headers (insert_key (slice_cmp nat_cmp) names (str_to_ascii_lowercase name)) rest
 
 abbrev pub header_of : List ℕ → Data → Header
 header_of name d = record { name = name; value = unwrap_or (as_str d) [] }
@@ -108,7 +108,7 @@ headers_of no_members = []
 headers_of (member name d rest) = header_of name d ∷ headers_of rest
 
 abbrev pub members_from : Data → Option Members
-members_from d = such_that (λ members. are_headers members members) (as_object d)
+members_from d = such_that (are_headers []) (as_object d)
 
 abbrev pub headers_from : Data → Option (List Header)
 headers_from d = option_map headers_of (members_from d)

@@ -45,7 +45,23 @@ pub struct Asked<'v> {
 }
 
 /// What a value asks, or its first wrong field.
-pub(crate) fn read_asked(value: &Value) -> Result<Asked<'_>, BadField<'_>>
+pub(crate) fn read_asked(
+    alloc: Global,
+    value: &Value,
+) -> Result<Result<Asked<'_>, BadField<'_>>, NoMemory>
+    ensures asked { IfOk result (λ read. asked_view read ≡ asked_in (view value.now)) }
+    ensures slash { IfOk result (λ read. IfOk read (λ asked. begins_with_slash asked.target.now ≡ true)) }
+{
+    let headers = headers_in(alloc, value)?;
+    Ok(asked_with(value, headers))
+}
+
+// The same with what its headers are read as.
+fn asked_with<'v>(
+    value: &'v Value,
+    headers: Result<Option<&'v Map<String, Value>>, BadField<'v>>,
+) -> Result<Asked<'v>, BadField<'v>>
+    requires headers { members_field_view headers ≡ headers_in (view value.now) }
     ensures asked { asked_view result ≡ asked_in (view value.now) }
     ensures slash { IfOk result (λ asked. begins_with_slash asked.target.now ≡ true) }
 {
@@ -56,7 +72,7 @@ pub(crate) fn read_asked(value: &Value) -> Result<Asked<'_>, BadField<'_>>
     let port = port_in(value, scheme)?;
     let host = host_in(value)?;
     let client = addr_in(value, "client", CLIENT)?;
-    let headers = headers_in(value)?;
+    let headers = headers?;
     let trail = trail_in(value)?;
     Ok(Asked {
         target,
@@ -168,15 +184,22 @@ fn host_in(value: &Value) -> Result<&str, BadField<'_>>
     }
 }
 
-fn headers_in(value: &Value) -> Result<Option<&Map<String, Value>>, BadField<'_>>
-    ensures { members_field_view result ≡ headers_in (view value.now) }
+fn headers_in(
+    alloc: Global,
+    value: &Value,
+) -> Result<Result<Option<&Map<String, Value>>, BadField<'_>>, NoMemory>
+    ensures { IfOk result (λ read. members_field_view read ≡ headers_in (view value.now)) }
 {
     let Some(given) = value.get("headers") else {
-        return Ok(None);
+        return Ok(Ok(None));
     };
-    match given.as_object() {
-        Some(members) if are_headers(members) => Ok(Some(members)),
-        _ => Err(BadField("headers")),
+    let Some(members) = given.as_object() else {
+        return Ok(Err(BadField("headers")));
+    };
+    if are_headers(alloc, members)? {
+        Ok(Ok(Some(members)))
+    } else {
+        Ok(Err(BadField("headers")))
     }
 }
 

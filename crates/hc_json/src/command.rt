@@ -84,16 +84,19 @@ pub fn parse(alloc: Global, line: &[u8]) -> Result<Option<Value>, NoMemory>
 }
 
 /// The command of a line that was parsed.
-pub fn command_in(value: &Option<Value>) -> Result<Command<'_>, NoCommand<'_>>
-    ensures command { line_view result ≡ command_of_json (option_map view value.now) }
-    ensures askable { IfOk result IsAskable }
+pub fn command_in(
+    alloc: Global,
+    value: &Option<Value>,
+) -> Result<Result<Command<'_>, NoCommand<'_>>, NoMemory>
+    ensures command { IfOk result (λ read. line_view read ≡ command_of_json (option_map view value.now)) }
+    ensures askable { IfOk result (λ read. IfOk read IsAskable) }
 {
     let Some(value) = value else {
-        return Err(NoCommand::BadJson);
+        return Ok(Err(NoCommand::BadJson));
     };
-    match read_command(value) {
-        Ok(command) => Ok(command),
-        Err(BadField(field)) => Err(NoCommand::BadField(field)),
+    match read_command(alloc, value)? {
+        Ok(command) => Ok(Ok(command)),
+        Err(BadField(field)) => Ok(Err(NoCommand::BadField(field))),
     }
 }
 
@@ -115,28 +118,35 @@ pub fn bad_line(alloc: Global, code: u8, field: &str) -> Result<Refusal, NoMemor
 
 // ---- commands
 
-fn read_command(value: &Value) -> Result<Command<'_>, BadField<'_>>
-    ensures command { read_view result ≡ command_in (view value.now) }
-    ensures askable { IfOk result IsAskable }
+fn read_command(alloc: Global, value: &Value) -> Result<Result<Command<'_>, BadField<'_>>, NoMemory>
+    ensures command { IfOk result (λ read. read_view read ≡ command_in (view value.now)) }
+    ensures askable { IfOk result (λ read. IfOk read IsAskable) }
 {
-    command_named(required(value, "do")?, value)
+    match required(value, "do") {
+        Ok(name) => command_named(alloc, name, value),
+        Err(bad) => Ok(Err(bad)),
+    }
 }
 
-fn command_named<'v>(name: &'v str, value: &'v Value) -> Result<Command<'v>, BadField<'v>>
-    ensures command { read_view result ≡ command_named name.now (view value.now) }
-    ensures askable { IfOk result IsAskable }
+fn command_named<'v>(
+    alloc: Global,
+    name: &'v str,
+    value: &'v Value,
+) -> Result<Result<Command<'v>, BadField<'v>>, NoMemory>
+    ensures command { IfOk result (λ read. read_view read ≡ command_named name.now (view value.now)) }
+    ensures askable { IfOk result (λ read. IfOk read IsAskable) }
 {
     match name {
-        "put" => read_put(value),
-        "list" => read_list(value),
-        "drop" => read_drop(value),
-        "edit" => read_edit(value),
-        "main" => read_main(value),
-        "check" => without_fields(Command::Check, value),
-        "ask" => read_ask(value),
-        "stats" => without_fields(Command::Stats, value),
-        "end" => without_fields(Command::End, value),
-        _ => Err(BadField("do")),
+        "put" => Ok(read_put(value)),
+        "list" => Ok(read_list(value)),
+        "drop" => Ok(read_drop(value)),
+        "edit" => Ok(read_edit(value)),
+        "main" => Ok(read_main(value)),
+        "check" => Ok(without_fields(Command::Check, value)),
+        "ask" => read_ask(alloc, value),
+        "stats" => Ok(without_fields(Command::Stats, value)),
+        "end" => Ok(without_fields(Command::End, value)),
+        _ => Ok(Err(BadField("do"))),
     }
 }
 
@@ -243,14 +253,17 @@ fn read_main(value: &Value) -> Result<Command<'_>, BadField<'_>>
     Ok(Command::Main { path })
 }
 
-fn read_ask(value: &Value) -> Result<Command<'_>, BadField<'_>>
-    ensures command { read_view result ≡ with_fields ask_fields ask_in (view value.now) }
-    ensures askable { IfOk result IsAskable }
+fn read_ask(alloc: Global, value: &Value) -> Result<Result<Command<'_>, BadField<'_>>, NoMemory>
+    ensures command { IfOk result (λ read. read_view read ≡ with_fields ask_fields ask_in (view value.now)) }
+    ensures askable { IfOk result (λ read. IfOk read IsAskable) }
 {
     if let Some(field) = unknown_ask_field(value) {
-        return Err(BadField(field));
+        return Ok(Err(BadField(field)));
     }
-    Ok(Command::Ask(read_asked(value)?))
+    match read_asked(alloc, value)? {
+        Ok(asked) => Ok(Ok(Command::Ask(asked))),
+        Err(bad) => Ok(Err(bad)),
+    }
 }
 
 fn unknown_ask_field(value: &Value) -> Option<&str>

@@ -1,24 +1,36 @@
-ghost use Rattle.std.specs.Prelude.{◌≡◌, IfOk};
+ghost use Rattle.std.specs.Prelude.{◌≡◌, [], IfOk};
+ghost use Rattle.std.specs.Str.{str_to_ascii_lowercase};
 ghost use Rattle.serde_json.specs.Find.{as_str};
 ghost use Rattle.serde_json.specs.View.{members_view, view};
-ghost use Rattle.hc_json.specs.Forms.{are_headers, has_alike, header_of, headers_of, is_alike, is_value_of};
+ghost use Rattle.hc_json.specs.Forms.{are_headers, header_of, headers_of, is_value_of};
 
-use crate::forms::{is_name, is_same_name, is_value};
+use crate::forms::{is_name, is_value};
 use hc_base::{List, NoMemory, Text};
 use hc_model::Header;
 use serde_json::{Map, Value};
 use std::alloc::Global;
+use std::collections::BTreeSet;
 
 /// Each member is a header, and no two names are equal without case.
-pub(crate) fn are_headers(members: &Map<String, Value>) -> bool
-    ensures { result ≡ are_headers (members_view members.now.entries) (members_view members.now.entries) }
+pub(crate) fn are_headers(alloc: Global, members: &Map<String, Value>) -> Result<bool, NoMemory>
+    ensures { IfOk result (λ are. are ≡ are_headers [] (members_view members.now.entries)) }
 {
+    let mut names = BTreeSet::new(alloc);
     for (name, value) in members.iter() {
-        if !is_name(name.as_bytes()) || !is_value_of(value) || has_alike(members, name.as_bytes()) {
-            return false;
+        if !is_name(name.as_bytes()) || !is_value_of(value) {
+            return Ok(false);
+        }
+        if !names.insert(lower_name(alloc, name.as_bytes())?)? {
+            return Ok(false);
         }
     }
-    true
+    Ok(true)
+}
+
+fn lower_name(alloc: Global, name: &[u8]) -> Result<Text, NoMemory>
+    ensures { IfOk result (λ lower. lower ≡ str_to_ascii_lowercase name.now) }
+{
+    Ok(Text::from(name.to_ascii_lowercase(alloc)?))
 }
 
 // A text that the value of a header may be.
@@ -29,24 +41,6 @@ fn is_value_of(value: &Value) -> bool
         Some(text) => is_value(text.as_bytes()),
         None => false,
     }
-}
-
-// Another member's name is equal without case.
-fn has_alike(members: &Map<String, Value>, name: &[u8]) -> bool
-    ensures { result ≡ has_alike name.now (members_view members.now.entries) }
-{
-    for (other, _) in members.iter() {
-        if is_alike(name, other.as_bytes()) {
-            return true;
-        }
-    }
-    false
-}
-
-fn is_alike(name: &[u8], other: &[u8]) -> bool
-    ensures { result ≡ is_alike name.now other.now }
-{
-    is_same_name(name, other) && name != other
 }
 
 /// The headers that members are.
