@@ -110,6 +110,31 @@ fn what_is_no_json_is_refused(rt: HostRuntime) -> Result<(), NoMemory> {
     Ok(())
 }
 
+// Arrays within each other: so deep is no JSON, and one less is a value that is no command.
+#[test]
+fn deep_json_is_refused(rt: HostRuntime) -> Result<(), NoMemory> {
+    static ROWS: &[(usize, &str)] = &[
+        (
+            128,
+            r#"{"refused":{"at":0,"code":45,"field":"","file":"","line":0,"name":"BadJson"}}
+"#,
+        ),
+        (
+            127,
+            r#"{"refused":{"at":0,"code":46,"field":"do","file":"","line":0,"name":"BadCommand"}}
+"#,
+        ),
+    ];
+    for &(depth, wanted) in ROWS {
+        let mut input = "[".repeat(rt.alloc(), depth)?;
+        input.push_str(&"]".repeat(rt.alloc(), depth)?)?;
+        input.push('\n')?;
+        let end = session_over(rt.alloc(), input.as_bytes(), &[], &[], 4096)?;
+        check(&rt, &end, Status::Done, wanted.as_bytes(), "depth");
+    }
+    Ok(())
+}
+
 static GOES_ON: &str = r##"ask /a
 {"refused":{"at":0,"code":8,"field":"","file":"/etc/httpd/conf/httpd.conf","line":0,"name":"IncludeMissing"}}
 main # a comment\n\nNonsense 80\nListen 80\n

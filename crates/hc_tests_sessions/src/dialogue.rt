@@ -1,13 +1,10 @@
 //! Dialogues with a session: its commands, most of them in short, and behind each the reply that is wanted.
 
-use crate::session::{check, session_over};
+use crate::session::{LONGEST_REPLIES, check, session_over};
 use hc_base::NoMemory;
 use hc_session::{MAIN_FILE, Status};
 use std::alloc::Global;
 use std::process::Abort;
-
-// The most bytes that a session writes.
-const LONGEST_REPLIES: usize = 65_536;
 
 // What goes into a session, and what it is to write.
 #[derive(Drop)]

@@ -167,7 +167,8 @@ fn the_oldest_answer_leaves(rt: HostRuntime) -> Result<(), NoMemory> {
     // how many asks, and what the stats say after one more of the first
     static ROWS: &[(u32, &str)] = &[
         (100, "{\"stats\":{\"asks\":101,\"evaluations\":100}}\n"),
-        (2000, "{\"stats\":{\"asks\":2001,\"evaluations\":2000}}\n"),
+        (4096, "{\"stats\":{\"asks\":4097,\"evaluations\":4096}}\n"),
+        (4097, "{\"stats\":{\"asks\":4098,\"evaluations\":4098}}\n"),
     ];
     for &(count, wanted) in ROWS {
         let mut dialogue = many_asks(alloc, count)?;

@@ -15,6 +15,8 @@ mod directory_rules;
 #[cfg(test)]
 mod edits;
 #[cfg(test)]
+mod extremes;
+#[cfg(test)]
 mod folder_files;
 #[cfg(test)]
 mod generated;

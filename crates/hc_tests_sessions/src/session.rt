@@ -9,6 +9,9 @@ use std::marker::Brand;
 use std::process::Abort;
 use std::sync::ledger::{Blank, Ledger};
 
+/// The most bytes that a session writes.
+pub const LONGEST_REPLIES: usize = 262_144;
+
 /// A session over memory: how it ended, and what was written.
 #[derive(Drop)]
 pub struct Finished {
@@ -49,7 +52,7 @@ pub fn session_over(
     requires { 1 ≤ most }
 {
     let mut source = VecSource::new(alloc, input, reads)?;
-    let mut sink = VecSink::new(alloc, writes, most, 65_536)?;
+    let mut sink = VecSink::new(alloc, writes, most, LONGEST_REPLIES)?;
     let status = served::<_, _, Brand, Brand>(
         alloc,
         &mut source,
