@@ -31,10 +31,10 @@ module _ (view : View) where
   match_holds : (text : List Piece) (net : Net) → holds view (expr.IpMatch text net) ≡ level_holds view (Expr-F.IpMatch text net)
   match_holds text net = ap (holds view) (sym (rolls-IpMatch text net)) ∙ fold-roll-Expr Bool (level_holds view) (Expr-F.IpMatch text net)
 
-  not_holds : (part : Expr) → holds view (expr.Not part) ≡ not (holds view part)
+  pub not_holds : (part : Expr) → holds view (expr.Not part) ≡ not (holds view part)
   not_holds part = ap (holds view) (sym (rolls-Not part)) ∙ fold-roll-Expr Bool (level_holds view) (Expr-F.Not part)
 
-  and_holds : (first second : Expr) → holds view (expr.And first second) ≡ holds view first && holds view second
+  pub and_holds : (first second : Expr) → holds view (expr.And first second) ≡ holds view first && holds view second
   and_holds first second = ap (holds view) (sym (rolls-And first second)) ∙ fold-roll-Expr Bool (level_holds view) (Expr-F.And first second)
 
   or_holds : (first second : Expr) → holds view (expr.Or first second) ≡ holds view first || holds view second

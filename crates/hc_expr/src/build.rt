@@ -57,7 +57,8 @@ fn join<'t>(
     first: bool,
     second: bool,
 ) -> Result<(), NoMemory>
-    ensures { OnOk result (emitted steps.new.items ≡ joined (step_view step.entry) first second (emitted steps.old.items)) }
+    ensures { OnOk result (emitted steps.new.items
+        ≡ joined (step_view step.entry) first second (emitted steps.old.items)) }
 {
     if first && second {
         steps.push(step)?;

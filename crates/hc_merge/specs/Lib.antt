@@ -1,4 +1,5 @@
 pub mod Candidates
+pub mod Chains
 pub mod Groups
 pub mod Overriding
 pub mod Order

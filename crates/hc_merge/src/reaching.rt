@@ -1,7 +1,8 @@
-ghost use Rattle.std.specs.Prelude.{◌≡◌, ◌∷◌, ◌++◌, [], IfOk, map};
+ghost use Rattle.std.specs.Prelude.{◌≡◌, ◌∷◌, ◌++◌, [], ◌&&◌, IfOk, map, not};
 ghost use Rattle.std.specs.Option.{option_map};
 ghost use Rattle.hc_merge.specs.CandidateView.{candidate_of, candidates_of};
-ghost use Rattle.hc_merge.specs.Reaching.{applies, holds_at, is_at, is_component_found, is_found, is_kept};
+ghost use Rattle.hc_merge.specs.Chains.{held_behind, is_chained};
+ghost use Rattle.hc_merge.specs.Reaching.{applies, holds_at, is_at, is_component_found, is_found};
 ghost use Rattle.hc_merge.specs.Reaching.{kept_by, last_component, reaches};
 
 use crate::candidate::Candidate;
@@ -13,7 +14,9 @@ use hc_match::first_match;
 use hc_model::{Reach, Regex, View};
 use std::alloc::Global;
 
-/// The sections that apply: each by its own test, and only where the section around it does.
+/// The sections that apply: each by its own test, and only where the section around it does; an `<ElseIf>` or
+/// `<Else>` only where none of the chain right before it does.
+#[tactic(auto, using(crate::proofs::Chains::kept_by_bit))]
 pub(crate) fn kept_by<'c>(
     alloc: Global,
     view: &View,
@@ -23,8 +26,12 @@ pub(crate) fn kept_by<'c>(
 {
     let mut kept = Vec::new(alloc);
     let mut marks = Vec::new(alloc);
+    // One of the chain right before the candidate holds.
+    let mut held = false;
     for candidate in candidates {
-        let mark = is_kept(alloc, view, &marks, candidate)?;
+        let found = applies(alloc, view, candidate.reach)?;
+        let mark = is_kept(&marks, candidate, found, held);
+        held = held_behind(held, found, candidate.reach);
         marks.push(mark)?;
         if !mark {
             continue;
@@ -34,18 +41,28 @@ pub(crate) fn kept_by<'c>(
     Ok(kept)
 }
 
-fn is_kept(
-    alloc: Global,
-    view: &View,
-    marks: &[bool],
-    candidate: &Candidate<'_>,
-) -> Result<bool, NoMemory>
-    ensures { IfOk result (λ kept. kept ≡ is_kept view.now marks.now (candidate_of candidate.now)) }
+// By whether its own test is found to hold, and one of the chain right before it does.
+fn is_kept(marks: &[bool], candidate: &Candidate<'_>, found: bool, held: bool) -> bool
+    ensures { result ≡ holds_at marks.now candidate.now.parent
+        && (found && not (held && is_chained (candidate_of candidate.now).reach)) }
 {
-    if !holds_at(marks, candidate.parent) {
-        return Ok(false);
+    holds_at(marks, candidate.parent) && found && !(held && is_chained(candidate.reach))
+}
+
+fn is_chained(reach: Option<&Reach>) -> bool
+    ensures { result ≡ is_chained (option_map (λ reach. reach.now) reach.entry) }
+{
+    matches!(reach, Some(Reach::Otherwise(_)))
+}
+
+fn held_behind(held: bool, found: bool, reach: Option<&Reach>) -> bool
+    ensures { result ≡ held_behind held found (option_map (λ reach. reach.now) reach.entry) }
+{
+    match reach {
+        Some(Reach::When(_)) => found,
+        Some(Reach::Otherwise(_)) => held || found,
+        _ => false,
     }
-    applies(alloc, view, candidate.reach)
 }
 
 fn holds_at(marks: &[bool], parent: Option<u32>) -> bool
@@ -78,6 +95,7 @@ fn reaches(alloc: Global, view: &View, reach: &Reach) -> Result<bool, NoMemory>
         Reach::LocationGlob(pattern) => is_found(alloc, pattern, view.path.as_bytes()),
         Reach::LocationSearch(pattern) => is_found(alloc, pattern, view.path.as_bytes()),
         Reach::When(test) => holds(alloc, test, view),
+        Reach::Otherwise(test) => holds(alloc, test, view),
     }
 }
 
