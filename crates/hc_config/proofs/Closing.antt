@@ -29,7 +29,7 @@ module _ {A B : Type 0} (f : A → B) (x : A) where
 
 -- What is left once an opening is closed.
 abbrev left : Around → Gathered → List definition.Around → definition.Standing
-left around so_far rest = record { so_far = so_far; held = around.held.items; around = rest; otherwise = around.opening.otherwise }
+left around so_far rest = record { so_far = so_far; held = around.held.items; around = rest; chained = around.opening.chained }
 
 abbrev closed_in : Standing → Around → Gathered
 closed_in standing around = with_closed around.opening.spot around.opening.opened standing.so_far around.gathered

@@ -7,7 +7,6 @@ use Rattle.hc_base.specs.declared.fault.Fault.{Fault}
 use Rattle.hc_base.specs.declared.fault.Fault.TheVariants.{NoMemory, Refused}
 use Rattle.hc_base.specs.declared.place.Refusal.{Refusal}
 use Rattle.hc_model.specs.declared.entry.Entry.{Entry}
-use Rattle.hc_model.specs.declared.expression.Expr.{Expr}
 use Rattle.hc_config.specs.Among.{Among}
 use Rattle.hc_config.specs.Configuration.{after_entry, gathered_from, gathered_next, goes_on}
 use Rattle.hc_config.specs.Levels.{Standing, container_of, context_of, wild_of}
@@ -17,15 +16,15 @@ use Rattle.hc_config.specs.declared.effect.Effect.{Effect}
 use Rattle.hc_config.specs.declared.source.Source.{Source}
 use Rattle.hc_config.proofs.Places.{before_more, next_place}
 
-module _ (all rest : List Entry) (place : ℕ) (entry : Entry) (source : Source) (standing : Standing) (context : ℕ) (container : Option Container) (otherwise : Option Expr) (wild : Bool)
-    (here : drop place all ≡ entry ∷ rest) (is_context : context ≡ context_of source standing) (is_container : container ≡ container_of standing) (is_otherwise : otherwise ≡ standing.otherwise) (is_wild : wild ≡ wild_of standing) where
+module _ (all rest : List Entry) (place : ℕ) (entry : Entry) (source : Source) (standing : Standing) (context : ℕ) (container : Option Container) (wild : Bool)
+    (here : drop place all ≡ entry ∷ rest) (is_context : context ≡ context_of source standing) (is_container : container ≡ container_of standing) (is_wild : wild ≡ wild_of standing) where
   abbrev pub among : Among
   among = record {
     before = take place all;
     entry = entry;
     behind = drop (place + 1) all;
     container = container;
-    otherwise = otherwise;
+    chained = standing.chained;
     wild = wild;
   }
 
@@ -33,7 +32,7 @@ module _ (all rest : List Entry) (place : ℕ) (entry : Entry) (source : Source)
       → gathered_from source standing (take place all) (drop place all)
       ≡ gathered_next standing entry (λ later. gathered_from source later (take (place + 1) all) rest) judgment
   gathered_by judgment judged_is =
-      let given = rw (is_context, is_container, is_otherwise, is_wild, next_place all place entry rest here) at judged_is in
+      let given = rw (is_context, is_container, is_wild, next_place all place entry rest here) at judged_is in
       ap (gathered_from source standing (take place all)) here
       ∙ ap (gathered_next standing entry (λ later. gathered_from source later (take place all ++ entry ∷ []) rest)) given
       ∙ ap (λ before. gathered_next standing entry (λ later. gathered_from source later before rest) judgment) (sym (before_more all place entry rest here))

@@ -1,9 +1,7 @@
 -- An entry among the others of its list.
 use Rattle.std.specs.Prelude.{◌+◌, Bool, List, Option, take, drop}
-use Rattle.std.specs.Option.{option_copied}
 use Rattle.hc_flat.specs.EntriesView.{entry_of}
 use Rattle.hc_model.specs.declared.entry.Entry.{Entry}
-use Rattle.hc_model.specs.declared.expression.Expr.{Expr}
 use Rattle.hc_config.specs.declared.among.Among as code
 use Rattle.hc_config.specs.declared.containers.Container.{Container}
 
@@ -14,8 +12,8 @@ pub record Among : Type 0 where
   pub behind : List Entry
   -- the innermost RequireAll, RequireAny or RequireNone that it stands in
   pub container : Option Container
-  -- where none of the chain of conditions right before it applies
-  pub otherwise : Option Expr
+  -- an If or ElseIf is closed right before it
+  pub chained : Bool
   -- it stands right in a Directory with wildcards
   pub wild : Bool
 
@@ -25,6 +23,6 @@ among_of among = record {
   entry = entry_of among.entry;
   behind = drop (among.place + 1) among.entries.now;
   container = among.container;
-  otherwise = option_copied among.otherwise;
+  chained = among.chained;
   wild = among.wild;
 }

@@ -51,7 +51,7 @@ among_standing standing before entry behind = record {
   entry = entry;
   behind = behind;
   container = container_of standing;
-  otherwise = standing.otherwise;
+  chained = standing.chained;
   wild = wild_of standing;
 }
 

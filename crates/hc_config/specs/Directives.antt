@@ -1,6 +1,6 @@
 -- The directives and sections: what words each takes, and what it gives.
 -- Apache manual: core; mod_alias, Alias; mod_rewrite; mod_so, LoadModule; mod_userdir, UserDir.
-use Rattle.std.specs.Prelude.{ℕ, List, [], ◌∷◌, length, Bool, ◌&&◌, false, nat_le, if◌then◌else◌}
+use Rattle.std.specs.Prelude.{ℕ, List, [], ◌∷◌, length, Bool, ◌&&◌, true, false, nat_le, if◌then◌else◌}
 use Rattle.std.specs.Prelude.{Option, Some, None, Result, Ok, Err, codes}
 use Rattle.std.specs.Str.{str_eq_ignore_ascii_case}
 use Rattle.hc_base.specs.Paths.{begins_with_slash, without_final_slash}
@@ -12,9 +12,10 @@ use Rattle.hc_model.specs.declared.authorization.Merging.{Merging}
 use Rattle.hc_model.specs.declared.authorization.Need.{Need}
 use Rattle.hc_model.specs.declared.authorization.ReqTree.TheVariants.{Leaf}
 use Rattle.hc_model.specs.declared.expression.Expr.{Expr}
+use Rattle.hc_model.specs.declared.expression.Expr.TheVariants.{Yes}
 use Rattle.hc_model.specs.declared.mapping.PathTest.{PathTest}
 use Rattle.hc_model.specs.declared.section.Reach.{Reach}
-use Rattle.hc_model.specs.declared.section.Reach.TheVariants.{DirSearch, Files, LocationSearch, When}
+use Rattle.hc_model.specs.declared.section.Reach.TheVariants.{DirSearch, Files, LocationSearch, Otherwise, When}
 use Rattle.hc_model.specs.declared.spot.Spot.{Spot}
 use Rattle.hc_model.specs.declared.template.Piece.{Piece}
 use Rattle.hc_table.specs.declared.meaning.TheConstants.{ACCESS_FILE_NAME, ALIAS, ALIAS_MATCH, DEFINE, DOCUMENT_ROOT}
@@ -29,7 +30,6 @@ use Rattle.hc_table.specs.declared.meaning.TheConstants.{AUTH_MERGING, ELSE, ELS
 use Rattle.hc_pattern.specs.Globs.{has_wildcard}
 use Rattle.hc_rw_parse.specs.Rules.{cond_of}
 use Rattle.hc_config.specs.Among.{Among}
-use Rattle.hc_config.specs.Conditions.{Branch, first_branch, last_branch, next_branch}
 use Rattle.hc_config.specs.Hosts.{host_addrs, name_without_port}
 use Rattle.hc_config.specs.Options.{allowed_by, options_step}
 use Rattle.hc_config.specs.Requires.{Line, asked_by, is_none_of, line_of, merging_named, negated_rule, unless_broken}
@@ -178,7 +178,7 @@ auth_merging words = Err wrong
 -- ---- sections
 
 abbrev pub opens_as : Bool → Among → Opened → Effect
-opens_as wild among opened = Opens (record { spot = among.entry.spot; opened = opened; otherwise = None; wild = wild })
+opens_as wild among opened = Opens (record { spot = among.entry.spot; opened = opened; chained = false; wild = wild })
 
 abbrev pub opens : Among → Opened → Effect
 opens among opened = opens_as false among opened
@@ -225,30 +225,23 @@ recursion words = given_by (λ limit. Gives (given.Recursion limit)) (recursion_
 
 -- ---- sections that apply under a condition
 
-abbrev pub branches : Among → Branch → Effect
-branches among branch =
-    Opens (record { spot = among.entry.spot; opened = Reached (When branch.test); otherwise = branch.otherwise; wild = false })
+-- Behind an If or ElseIf the chain may go on.
+abbrev pub branch : Among → Bool → Reach → Effect
+branch among goes_on reach = Opens (record { spot = among.entry.spot; opened = Reached reach; chained = goes_on; wild = false })
 
 -- One word, which is an expression.
-abbrev pub branch_by : (Expr → Branch) → Giving
-branch_by branch among (text ∷ []) = given_by (λ expr. branches among (branch expr)) (parse_expr text)
-branch_by branch among words = Err wrong
+abbrev pub branch_by : (Expr → Reach) → Giving
+branch_by reach among (text ∷ []) = given_by (λ expr. branch among true (reach expr)) (parse_expr text)
+branch_by reach among words = Err wrong
 
 -- Behind sections of the chain.
-abbrev pub behind_chain : Option Expr → (Expr → Result Effect AtByte) → Result Effect AtByte
-behind_chain None gives = Err (rule WRONG_CONTEXT)
-behind_chain (Some before) gives = gives before
+abbrev pub behind_chain : Giving → Giving
+behind_chain gives among words = if among.chained then gives among words else Err (rule WRONG_CONTEXT)
 
-abbrev pub else_if : Giving
-else_if among words = behind_chain among.otherwise (λ before. branch_by (next_branch before) among words)
-
--- No word.
-abbrev pub last_by : Among → List (List ℕ) → Expr → Result Effect AtByte
-last_by among [] before = Ok (branches among (last_branch before))
-last_by among words before = Err wrong
-
-abbrev pub else_section : Giving
-else_section among words = behind_chain among.otherwise (last_by among words)
+-- No word: where none of the chain before it applies.
+abbrev pub last_branch : Giving
+last_branch among [] = Ok (branch among false (Otherwise Yes))
+last_branch among words = Err wrong
 
 -- ---- by meaning
 
@@ -265,9 +258,9 @@ rewrite_givings =
 
 abbrev pub condition_givings : List (ℕ × Giving)
 condition_givings =
-    (IF, branch_by first_branch) ∷
-    (ELSE_IF, else_if) ∷
-    (ELSE, else_section) ∷
+    (IF, branch_by When) ∷
+    (ELSE_IF, behind_chain (branch_by Otherwise)) ∷
+    (ELSE, behind_chain last_branch) ∷
     rewrite_givings
 
 abbrev pub require_givings : List (ℕ × Giving)

@@ -12,7 +12,7 @@ standing_of standing = record {
   so_far = standing.so_far;
   held = standing.held.items;
   around = map around_of standing.around.items;
-  otherwise = standing.otherwise;
+  chained = standing.chained;
 }
 
 abbrev pub gathered_view : {R : Type 0} → Result Standing R → Result definition.Standing R

@@ -9,11 +9,10 @@ use Rattle.hc_model.specs.declared.authorization.Merging.TheVariants.{Off}
 use Rattle.hc_model.specs.declared.authorization.ReqTree.{ReqTree}
 use Rattle.hc_model.specs.declared.config.HostAddr.{HostAddr}
 use Rattle.hc_model.specs.declared.config.Server.{Server}
-use Rattle.hc_model.specs.declared.expression.Expr.{Expr}
 use Rattle.hc_model.specs.declared.section.Body.{Body, roll-Body}
 use Rattle.hc_model.specs.declared.section.OptStep.{OptStep}
 use Rattle.hc_model.specs.declared.section.Reach.{Reach}
-use Rattle.hc_model.specs.declared.section.Reach.TheVariants.{Dir, DirSearch, Files, Location, LocationGlob, LocationSearch, When}
+use Rattle.hc_model.specs.declared.section.Reach.TheVariants.{Dir, DirSearch, Files, Location, LocationGlob, LocationSearch, Otherwise, When}
 use Rattle.hc_model.specs.declared.section.Section.{Section, roll-Section}
 use Rattle.hc_model.specs.declared.spot.Spot.{Spot}
 use Rattle.hc_table.specs.declared.context.TheConstants as context
@@ -42,6 +41,7 @@ context_of_reach (Location path) = context.LOCATION
 context_of_reach (LocationGlob pattern) = context.LOCATION
 context_of_reach (LocationSearch pattern) = context.LOCATION
 context_of_reach (When test) = context.IF_SECTION
+context_of_reach (Otherwise test) = context.IF_SECTION
 
 abbrev pub context_inside : Opened → ℕ
 context_inside (Host addresses) = context.VIRTUAL_HOST
@@ -160,15 +160,15 @@ pub record Around : Type 0 where
   pub held : List Held
 
 -- What the innermost has so far, and its containers that are open; the openings around an entry, the
--- innermost last; and where none of the chain of conditions right before the entry applies.
+-- innermost last; and whether an If or ElseIf is closed right before the entry.
 pub record Standing : Type 0 where
   pub so_far : Gathered
   pub held : List Held
   pub around : List Around
-  pub otherwise : Option Expr
+  pub chained : Bool
 
 abbrev pub nothing_standing : Standing
-nothing_standing = record { so_far = nothing_gathered; held = []; around = []; otherwise = None }
+nothing_standing = record { so_far = nothing_gathered; held = []; around = []; chained = false }
 
 abbrev pub last_of : {A : Type 0} → List A → Option A
 last_of items = slice_get items (length items - 1)
@@ -205,12 +205,12 @@ closed_by standing (Some around) = record {
   so_far = with_closed around.opening.spot around.opening.opened standing.so_far around.gathered;
   held = around.held;
   around = without_last standing.around;
-  otherwise = around.opening.otherwise;
+  chained = around.opening.chained;
 }
 
 -- A chain of conditions goes on behind the close of one of them alone.
 abbrev pub chain_ended : Standing → Standing
-chain_ended standing = record standing { otherwise = None }
+chain_ended standing = record standing { chained = false }
 
 -- The innermost opening is closed.
 abbrev pub innermost_closed : Standing → Standing

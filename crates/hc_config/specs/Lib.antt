@@ -7,8 +7,6 @@ pub mod Rewrites
 pub mod Requires
 pub mod RequireViews
 pub mod Sources
-pub mod Conditions
-pub mod ConditionViews
 pub mod Among
 pub mod Hosts
 pub mod Options

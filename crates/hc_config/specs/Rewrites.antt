@@ -2,7 +2,7 @@
 -- Apache manual, mod_rewrite: RewriteEngine, RewriteBase, RewriteCond, RewriteRule, RewriteOptions, RewriteMap; core,
 -- LimitInternalRecursion. Which sources of maps there are, the range of a limit, and that a rule which redirects has L or
 -- END where another follows, is our own choice.
-use Rattle.std.specs.Prelude.{ℕ, zero, suc, ◌==◌, List, [], ◌∷◌, length, take, drop, Bool, true, false, not, ◌&&◌, ◌||◌, nat_le, if◌then◌else◌, codes}
+use Rattle.std.specs.Prelude.{ℕ, ◌==◌, List, [], ◌∷◌, length, take, drop, Bool, true, false, not, ◌&&◌, ◌||◌, nat_le, if◌then◌else◌, codes}
 use Rattle.std.specs.Prelude.{Option, Some, None, Result, Ok, Err}
 use Rattle.std.specs.Str.{str_eq_ignore_ascii_case}
 use Rattle.hc_addr.specs.Numbers.{at_most, decimal_of}
@@ -28,7 +28,7 @@ use Rattle.hc_table.specs.declared.meaning.TheConstants.{REWRITE_RULE}
 use Rattle.hc_table.specs.declared.table.RowKind.{RowKind}
 use Rattle.hc_target.specs.Urls.{is_url}
 use Rattle.hc_template.specs.MapNames.{is_map_name}
-use Rattle.hc_config.specs.Kinds.{is_level}
+use Rattle.hc_config.specs.Kinds.{is_transparent}
 use Rattle.hc_config.specs.Targets.{wrong}
 use Rattle.hc_config.specs.declared.rewriting.TheConstants.{MOST_RECURSIONS}
 
@@ -111,22 +111,14 @@ is_directive Close = false
 abbrev pub is_rule : Entry → Bool
 is_rule entry = is_directive entry.form && is_meaning REWRITE_RULE (row_of_entry entry)
 
-abbrev pub one_less : ℕ → Option ℕ
-one_less zero = None
-one_less (suc inside) = Some inside
+-- A section other than IfDefine, IfModule and the containers of Require begins or ends.
+abbrev pub ends_look : Entry → Bool
+ends_look entry = not (is_directive entry.form) && not (is_transparent (row_of_entry entry))
 
--- How many sections inside are open behind an entry: none where it closes what is around.
-abbrev pub open_behind : ℕ → EntryForm → Bool → Option ℕ
-open_behind inside Opening true = Some (suc inside)
-open_behind inside Close true = one_less inside
-open_behind inside form level = Some inside
-
--- Another RewriteRule follows in the same server or section.
-abbrev pub rule_follows : ℕ → List Entry → Bool
-rule_follows inside [] = false
-rule_follows inside (entry ∷ entries) =
-    (is_rule entry && (inside == 0))
-    || (elim (open_behind inside entry.form (is_level (row_of_entry entry))) [ None ↦ false | Some left ↦ rule_follows left entries ])
+-- Another RewriteRule follows, before any other section begins or the one around ends.
+abbrev pub rule_follows : List Entry → Bool
+rule_follows [] = false
+rule_follows (entry ∷ entries) = is_rule entry || (not (ends_look entry) && rule_follows entries)
 
 -- R, or a substitution that is a URL.
 abbrev pub may_redirect : Flags → List ℕ → Bool
@@ -139,7 +131,7 @@ goes_on_behind rule substitution =
 
 abbrev pub unless_followed : List ℕ → List Entry → Rule → Result Rule AtByte
 unless_followed substitution behind made =
-    if goes_on_behind made substitution && rule_follows 0 behind then Err (rule REDIRECT_WITHOUT_LAST) else Ok made
+    if goes_on_behind made substitution && rule_follows behind then Err (rule REDIRECT_WITHOUT_LAST) else Ok made
 
 abbrev pub substitution_of : List (List ℕ) → List ℕ
 substitution_of (pattern ∷ substitution ∷ words) = substitution

@@ -61,11 +61,11 @@ unknown_kind (Err broken) = false
 unknown_kind (Ok words) = has_unknown_kind (line_of words).words
 
 -- ElseIf and Else stand right behind a section of their chain.
-abbrev pub chained : List ℕ
-chained = ELSE_IF ∷ ELSE ∷ []
+abbrev pub later_branches : List ℕ
+later_branches = ELSE_IF ∷ ELSE ∷ []
 
 abbrev pub follows_its_chain : RowKind → Among → Bool
-follows_its_chain kind among = not (list_any (λ later. kind.meaning == later) chained) || is_some among.otherwise
+follows_its_chain kind among = not (list_any (λ later. kind.meaning == later) later_branches) || among.chained
 
 -- A Require line of a kind that is not known is refused for this first.
 abbrev pub misplaced : RowKind → Among → ℕ

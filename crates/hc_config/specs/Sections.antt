@@ -37,9 +37,13 @@ location word = if has_wildcard word then path_glob LocationGlob word else Ok (L
 abbrev pub behind_tilde : (Pattern → Reach) → List ℕ → List ℕ → Result Reach AtByte
 behind_tilde reach sign word = if bytes_eq sign (codes "~") then searched reach word else Err wrong
 
+-- One word that is not `~` alone.
+abbrev pub unless_tilde : (List ℕ → Result Reach AtByte) → List ℕ → Result Reach AtByte
+unless_tilde plain word = if bytes_eq word (codes "~") then Err wrong else plain word
+
 -- One word, or `~` and a pattern.
 abbrev pub plain_or_tilde : (List ℕ → Result Reach AtByte) → (Pattern → Reach) → List (List ℕ) → Result Reach AtByte
-plain_or_tilde plain reach (word ∷ []) = plain word
+plain_or_tilde plain reach (word ∷ []) = unless_tilde plain word
 plain_or_tilde plain reach (sign ∷ word ∷ []) = behind_tilde reach sign word
 plain_or_tilde plain reach words = Err wrong
 

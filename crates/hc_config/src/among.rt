@@ -5,13 +5,13 @@ use crate::containers::Container;
 use crate::source::Source;
 use hc_base::{NoMemory, Place};
 use hc_flat::{Entries, EntryView};
-use hc_model::{Expr, Spot};
+use hc_model::Spot;
 use hc_table::Row;
 use std::alloc::Global;
 
 /// An entry among the others of its list: a rule may look at those before it and those behind it.
 #[derive(Clone, Copy)]
-pub(crate) struct Among<'e, 's> {
+pub(crate) struct Among<'e> {
     pub alloc: Global,
     /// The rows of the table of directives.
     pub names: &'e [Row],
@@ -21,8 +21,8 @@ pub(crate) struct Among<'e, 's> {
     pub context: u16,
     /// The innermost container of Require lines that it stands in.
     pub container: Option<Container>,
-    /// Where none of the chain of `<If>` and `<ElseIf>` right before it applies.
-    pub otherwise: Option<&'s Expr>,
+    /// An `<If>` or `<ElseIf>` is closed right before it.
+    pub chained: bool,
     /// It stands right in a `<Directory>` with wildcards.
     pub wild: bool,
     pub entries: &'e Entries,

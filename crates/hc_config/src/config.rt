@@ -111,14 +111,13 @@ fn gather(alloc: Global, source: Source, entries: &Entries) -> Result<Standing, 
     let names = directives();
     let mut standing = Standing::nothing(alloc, entries.len());
     for (place, entry) in entries.iter().enumerate() {
-        let otherwise = standing.otherwise.as_ref();
         let among = Among {
             alloc,
             names: names.rows,
             source,
             context: standing.context(source),
             container: standing.container(),
-            otherwise,
+            chained: standing.chained,
             wild: standing.is_wild(),
             entries,
             place,
@@ -137,7 +136,7 @@ fn gather(alloc: Global, source: Source, entries: &Entries) -> Result<Standing, 
 fn perform(alloc: Global, standing: &mut Standing, effect: Effect) -> Result<(), BuildFault>
     ensures { Gives (left_by result standing.new) (after_entry (standing_of standing.old) effect) }
 {
-    standing.otherwise = None;
+    standing.chained = false;
     match effect {
         Effect::Nothing => {}
         Effect::Gives(given) => standing.take(given)?,

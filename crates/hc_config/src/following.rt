@@ -1,14 +1,14 @@
 //! A rule that redirects and goes on, and what stands behind it.
-ghost use Rattle.std.specs.Prelude.{◌≡◌, ◌<◌, ◌+◌, ◌&&◌, ◌||◌, ◌==◌, drop, map};
+ghost use Rattle.std.specs.Prelude.{◌≡◌, ◌+◌, ◌&&◌, ◌||◌, drop, map, not};
 ghost use Rattle.hc_table.specs.Directives.{directive_rows};
 ghost use Rattle.hc_table.specs.Table.{row_of};
 ghost use Rattle.hc_table.specs.declared.meaning.TheConstants.{REWRITE_RULE};
 ghost use Rattle.hc_config.specs.Among.{among_of};
-ghost use Rattle.hc_config.specs.Rewrites.{goes_on_behind, is_directive, is_meaning, may_redirect, open_behind};
-ghost use Rattle.hc_config.specs.Rewrites.{rule_follows};
+ghost use Rattle.hc_config.specs.Kinds.{is_transparent};
+ghost use Rattle.hc_config.specs.Rewrites.{goes_on_behind, is_directive, is_meaning, may_redirect, rule_follows};
 
 use crate::among::Among;
-use crate::kinds::is_level;
+use crate::kinds::is_transparent;
 use hc_flat::Entries;
 use hc_model::{EntryForm, Flags, Rule};
 use hc_table::{Row, RowKind, find_in, meaning};
@@ -34,10 +34,11 @@ fn ends_set(flags: &Flags) -> bool
     flags.last || flags.end
 }
 
-/// Another RewriteRule follows an entry in the same server or section.
+/// Another RewriteRule follows an entry, before any section but `<IfDefine>`, `<IfModule>` and the containers of
+/// Require begins or ends.
 pub(crate) fn rule_follows(among: &Among) -> bool
     requires { map row_of among.now.names.now ≡ directive_rows }
-    ensures { result ≡ rule_follows 0 (among_of among.now).behind }
+    ensures { result ≡ rule_follows (among_of among.now).behind }
 {
     follows(among.names, among.entries, among.place)
 }
@@ -45,32 +46,35 @@ pub(crate) fn rule_follows(among: &Among) -> bool
 #[tactic(auto, using(crate::proofs::Behind::following))]
 fn follows(names: &[Row], entries: &Entries, place: usize) -> bool
     requires { map row_of names.now ≡ directive_rows }
-    ensures { result ≡ rule_follows 0 (drop (place + 1) entries.now) }
+    ensures { result ≡ rule_follows (drop (place + 1) entries.now) }
 {
     let count = entries.len();
     if place >= count {
         return false;
     }
-    // How many sections inside are open.
-    let mut inside = 0usize;
     for at in place + 1..count {
         let entry = entries.entry(at);
         let kind = find_in(names, entry.name.as_bytes());
-        if is_rule_here(inside, entry.form, kind) {
+        if is_rule(entry.form, kind) {
             return true;
         }
-        match open_behind(inside, entry.form, is_level(kind)) {
-            Some(open) => inside = open,
-            None => return false,
+        if ends_look(entry.form, kind) {
+            return false;
         }
     }
     false
 }
 
-fn is_rule_here(inside: usize, form: EntryForm, kind: Option<RowKind>) -> bool
-    ensures { result ≡ ((is_directive form && is_meaning REWRITE_RULE kind) && (inside == 0)) }
+fn is_rule(form: EntryForm, kind: Option<RowKind>) -> bool
+    ensures { result ≡ (is_directive form && is_meaning REWRITE_RULE kind) }
 {
-    is_directive(form) && is_meaning(meaning::REWRITE_RULE, kind) && inside == 0
+    is_directive(form) && is_meaning(meaning::REWRITE_RULE, kind)
+}
+
+fn ends_look(form: EntryForm, kind: Option<RowKind>) -> bool
+    ensures { result ≡ (not (is_directive form) && not (is_transparent kind)) }
+{
+    !is_directive(form) && !is_transparent(kind)
 }
 
 fn is_directive(form: EntryForm) -> bool
@@ -85,17 +89,5 @@ fn is_meaning(meaning: u16, kind: Option<RowKind>) -> bool
     match kind {
         Some(kind) => kind.meaning == meaning,
         None => false,
-    }
-}
-
-// How many sections inside are open behind an entry: none where it closes what is around.
-fn open_behind(inside: usize, form: EntryForm, level: bool) -> Option<usize>
-    requires { inside < usize.MAX }
-    ensures { result ≡ open_behind inside form level }
-{
-    match form {
-        EntryForm::Opening if level => Some(inside + 1),
-        EntryForm::Close if level => inside.checked_sub(1),
-        _ => Some(inside),
     }
 }

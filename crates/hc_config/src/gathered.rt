@@ -6,8 +6,8 @@ use crate::containers::{Container, section_tree};
 use crate::rewriting::Rewriting;
 use hc_base::{List, NoMemory, Place, Text};
 use hc_model::{
-    Alias, Allowed, Body, Cond, Expr, HostAddr, Inherit, Map, Merging, OptStep, Reach, Redirect,
-    ReqTree, Rule, Section, Server, Spot,
+    Alias, Allowed, Body, Cond, HostAddr, Inherit, Map, Merging, OptStep, Reach, Redirect, ReqTree,
+    Rule, Section, Server, Spot,
 };
 use std::alloc::Global;
 use std::mem::replace;
@@ -63,8 +63,8 @@ pub(crate) enum Opened {
 pub(crate) struct Opening {
     pub spot: Spot,
     pub opened: Opened,
-    /// For an `<If>` or `<ElseIf>`: where none of its chain up to it applies.
-    pub otherwise: Option<Expr>,
+    /// An `<If>` or `<ElseIf>`, behind which the chain may go on.
+    pub chained: bool,
     /// A `<Directory>` with wildcards.
     pub wild: bool,
 }

@@ -11,7 +11,7 @@ use crate::containers::{Container, container_rule, tree_of};
 use crate::gathered::{Gathered, Given, Held, Holding, Opened, Opening};
 use crate::source::Source;
 use hc_base::{AtByte, Fault, List, NoMemory, Place, Refusal};
-use hc_model::{Expr, Reach};
+use hc_model::Reach;
 use hc_table::context;
 use std::alloc::Global;
 use std::mem::replace;
@@ -32,8 +32,8 @@ pub(crate) struct Standing {
     /// Its containers of Require lines that are open, the innermost last.
     pub held: Vec<Held>,
     pub around: Vec<Around>,
-    /// Where none of the chain of `<If>` and `<ElseIf>` right before the next entry applies.
-    pub otherwise: Option<Expr>,
+    /// An `<If>` or `<ElseIf>` is closed right before the next entry.
+    pub chained: bool,
 }
 
 impl Standing {
@@ -45,7 +45,7 @@ impl Standing {
             so_far: Gathered::nothing(alloc, aliases),
             held: Vec::new(alloc),
             around: Vec::new(alloc),
-            otherwise: None,
+            chained: false,
         }
     }
 
@@ -135,11 +135,11 @@ impl Standing {
         let Opening {
             spot,
             opened,
-            otherwise,
+            chained,
             wild: _,
         } = around.opening;
         self.held = around.held;
-        self.otherwise = otherwise;
+        self.chained = chained;
         let inner = replace(&mut self.so_far, around.gathered);
         self.so_far.close(alloc, spot, opened, inner)
     }
@@ -162,7 +162,7 @@ fn context_of_reach(reach: &Reach) -> u16
         Reach::DirSearch(_) => context::DIRECTORY_MATCH,
         Reach::Files(_) => context::FILES,
         Reach::Location(_) | Reach::LocationGlob(_) | Reach::LocationSearch(_) => context::LOCATION,
-        Reach::When(_) => context::IF_SECTION,
+        Reach::When(_) | Reach::Otherwise(_) => context::IF_SECTION,
     }
 }
 

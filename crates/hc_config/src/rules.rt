@@ -183,7 +183,7 @@ fn unknown_kind(kind: RowKind, among: &Among) -> Result<bool, NoMemory>
 fn follows_its_chain(kind: RowKind, among: &Among) -> bool
     ensures { result ≡ follows_its_chain kind (among_of among.now) }
 {
-    among.otherwise.is_some() || !matches!(kind.meaning, meaning::ELSE_IF | meaning::ELSE)
+    among.chained || !matches!(kind.meaning, meaning::ELSE_IF | meaning::ELSE)
 }
 
 // Of a rule that it breaks and that its class is not allowed the smaller number counts.
@@ -200,7 +200,7 @@ fn judge_apart(kind: RowKind, among: &Among) -> Result<Effect, EffectFault>
     requires { map row_of among.now.names.now ≡ directive_rows }
     ensures { Gives result (judged_apart among.now.source kind (among_of among.now)) }
 {
-    let refused = refused_behind(read_and_give(kind, among));
+    let refused = refused_behind(&read_and_give(kind, among));
     unless_forbidden(among.source.is_forbidden(kind), refused)
 }
 
@@ -214,21 +214,31 @@ fn unless_forbidden(
     if !forbidden {
         return given;
     }
+    forbidden_behind(&given)
+}
+
+// Its class is not allowed, whatever it gives.
+fn forbidden_behind(given: &Result<Effect, EffectFault>) -> Result<Effect, EffectFault>
+    ensures { (wanted : Result Effect AtByte) → Gives given.now wanted
+        → Gives result (unless_forbidden true wanted) }
+{
     match given {
         Err(Fault::NoMemory) => Err(Fault::NoMemory),
-        Err(Fault::Refused(rule)) if rule.code <= OVERRIDE_NOT_ALLOWED => Err(Fault::Refused(rule)),
+        Err(Fault::Refused(rule)) if rule.code <= OVERRIDE_NOT_ALLOWED => {
+            Err(Fault::Refused(*rule))
+        }
         _ => Err(broken(OVERRIDE_NOT_ALLOWED)),
     }
 }
 
 // It may not stand there, whatever its words.
-fn refused_behind(given: Result<Effect, EffectFault>) -> Result<Effect, EffectFault>
-    ensures { (wanted : Result Effect AtByte) → Gives given wanted
+fn refused_behind(given: &Result<Effect, EffectFault>) -> Result<Effect, EffectFault>
+    ensures { (wanted : Result Effect AtByte) → Gives given.now wanted
         → Gives result (refused_behind (rule REWRITE_CONTEXT) wanted) }
 {
     match given {
         Err(Fault::NoMemory) => Err(Fault::NoMemory),
-        Err(Fault::Refused(rule)) if rule.code <= REWRITE_CONTEXT => Err(Fault::Refused(rule)),
+        Err(Fault::Refused(rule)) if rule.code <= REWRITE_CONTEXT => Err(Fault::Refused(*rule)),
         _ => Err(broken(REWRITE_CONTEXT)),
     }
 }

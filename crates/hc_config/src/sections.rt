@@ -70,6 +70,7 @@ fn reach_by(alloc: Global, seen: Seen, words: &[CowStr]) -> Result<Reach, Effect
     ensures { Gives result (plain_or_tilde (plain_of seen) (reach_of seen) words.now) }
 {
     match words {
+        [sign] if sign.as_str() == "~" => Err(REFUSED),
         [word] => plain(alloc, seen, word.as_str().as_bytes()),
         [sign, word] if sign.as_str() == "~" => searched(alloc, seen, word),
         _ => Err(REFUSED),
@@ -103,7 +104,7 @@ fn opens_as(wild: bool, among: &Among, opened: Opened) -> Result<Effect, EffectF
     Ok(Effect::Opens(Opening {
         spot: spot_of(among.entry)?,
         opened,
-        otherwise: None,
+        chained: false,
         wild,
     }))
 }

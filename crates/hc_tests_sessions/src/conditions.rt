@@ -1,6 +1,6 @@
 //! Sections under a condition, as dialogues: If, ElseIf and Else.
 
-use crate::dialogue::hold_each;
+use crate::dialogue::{hold, hold_each};
 use crate::main_files::hold_refused;
 use hc_base::NoMemory;
 
@@ -55,6 +55,42 @@ ask /p/f?in
 {"outcome":{"status":403}}
 {"do":"ask","target":"/q","client":"10.0.0.9","headers":{"User-Agent":"check 1"},"method":"POST"}
 {"outcome":{"file":{"info":"","path":"/srv/q"}}}
+"##,
+    // the first of a chain that holds, whatever holds behind it
+    r##"main DocumentRoot /srv\n<Location /a>\n<If true>\nRequire all granted\n</If>\n
+  <ElseIf true>\nRequire all denied\n</ElseIf>\n<Else>\nRequire all denied\n</Else>\n</Location>\n
+  <Location /b>\n<If false>\nRequire all denied\n</If>\n<ElseIf false>\nRequire all denied\n</ElseIf>\n
+  <ElseIf true>\nRequire all granted\n</ElseIf>\n<ElseIf true>\nRequire all denied\n</ElseIf>\n
+  <Else>\nRequire all denied\n</Else>\n</Location>\n
+file /srv/a
+file /srv/b
+ask /a
+{"outcome":{"file":{"info":"","path":"/srv/a"}}}
+ask /b
+{"outcome":{"file":{"info":"","path":"/srv/b"}}}
+"##,
+    // chains in a section that may not apply, a chain behind another, and a chain of the main server
+    r##"main DocumentRoot /srv\n<Location /p>\n<If \"%{QUERY_STRING} == 'a'\">\nRequire all denied\n</If>\n
+  <ElseIf \"%{QUERY_STRING} == 'b'\">\nRequire all granted\n</ElseIf>\n<Else>\nRequire all denied\n</Else>\n
+  <If \"%{QUERY_STRING} == 'd'\">\nRequire all granted\n</If>\n</Location>\n
+  <If \"%{QUERY_STRING} == 'b'\">\nRequire all granted\n</If>\n
+  <ElseIf \"%{QUERY_STRING} == 'e'\">\nRequire all denied\n</ElseIf>\n
+file /srv/p/f
+file /srv/q
+ask /p/f?a
+{"outcome":{"status":403}}
+ask /p/f?b
+{"outcome":{"file":{"info":"","path":"/srv/p/f"}}}
+ask /p/f?c
+{"outcome":{"status":403}}
+ask /p/f?d
+{"outcome":{"file":{"info":"","path":"/srv/p/f"}}}
+ask /q?a
+{"outcome":{"file":{"info":"","path":"/srv/q"}}}
+ask /q?c
+{"outcome":{"file":{"info":"","path":"/srv/q"}}}
+ask /q?e
+{"outcome":{"status":403}}
 "##,
     // names in a quoted text, a variable of the configuration, `!` before `&&`, and a chain in a container
     r##"main DocumentRoot /srv\nDefine D f\n
@@ -143,6 +179,36 @@ static REFUSED: &[(&str, u8, u32, u32)] = &[
 #[test]
 fn sections_apply_under_their_conditions(rt: HostRuntime) -> Result<(), NoMemory> {
     hold_each(&rt, rt.alloc(), CONDITIONS)
+}
+
+// The ends of a chain of many sections that do not apply, and the reply.
+static ENDS: &[(&str, &str)] = &[
+    (
+        r"<ElseIf true>\nRequire all denied\n</ElseIf>\n<Else>\nRequire all granted\n</Else>\n",
+        r#"{"outcome":{"status":403}}"#,
+    ),
+    (
+        r"<Else>\nRequire all denied\n</Else>\n",
+        r#"{"outcome":{"status":403}}"#,
+    ),
+    (
+        r"<ElseIf false>\nRequire all denied\n</ElseIf>\n",
+        r#"{"outcome":{"file":{"info":"","path":"/srv/f"}}}"#,
+    ),
+];
+
+#[test]
+fn a_long_chain_goes_on_to_its_end(rt: HostRuntime) -> Result<(), NoMemory> {
+    let links = r"<ElseIf false>\nRequire all denied\n</ElseIf>\n".repeat(rt.alloc(), 1_000)?;
+    for &(end, reply) in ENDS {
+        hold(
+            &rt,
+            rt.alloc(),
+            &format!(in rt.alloc();
+                "main DocumentRoot /srv\\n<If false>\\n</If>\\n{links}{end}\nfile /srv/f\nask /f\n{reply}\n")?,
+        )?;
+    }
+    Ok(())
 }
 
 #[test]

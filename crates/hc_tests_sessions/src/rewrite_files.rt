@@ -14,6 +14,10 @@ static READ: &[&str] = &[
     r"RewriteCond a =b\nRewriteCond a !=\nRewriteCond a !-f\nRewriteCond expression x\nRewriteRule a b%{none$%$x%y\n",
     r"<Directory /a>\nRewriteBase /a\nRewriteOptions Inherit\nRewriteCond a b\nRewriteRule a b [R]\n</Directory>\n
   <Directory /b>\nRewriteRule a b\n</Directory>\n",
+    // another section ends the look behind a rule
+    r"RewriteRule a b [R=404]\n<Directory /x>\n</Directory>\n<IfDefine !x>\nRewriteRule a b\n</IfDefine>\n",
+    r"RewriteRule a b [R]\n<If true>\nRequire local\n</If>\nRewriteRule a b\n",
+    r"<IfModule !x>\nRewriteRule a b [R]\n</IfModule>\n<Files f>\n</Files>\nRewriteRule a b\n",
 ];
 
 #[test]
@@ -119,7 +123,7 @@ static REFUSED: &[(&str, u8, u32, u32)] = &[
         0,
     ),
     (
-        r"RewriteRule a b [R=404]\n<Directory /x>\n</Directory>\n<IfDefine !x>\nRewriteRule a b\n</IfDefine>\n",
+        r"RewriteRule a b [R=404]\n<IfDefine !x>\n<IfModule !y>\nRewriteRule a b\n</IfModule>\n</IfDefine>\n",
         33,
         1,
         0,
@@ -162,6 +166,25 @@ static REFUSED: &[(&str, u8, u32, u32)] = &[
     (
         r"<Directory /a>\nRewriteRule a b [P]\n</Directory>\n",
         18,
+        2,
+        0,
+    ),
+    (
+        r"<Directory /a>\nRewriteRule a b [R]\n<RequireAny>\nRequire local\nRewriteRule a b\n</RequireAny>\n</Directory>\n",
+        33,
+        2,
+        0,
+    ),
+    (
+        r"<IfModule !x>\nRewriteRule a b [R]\n</IfModule>\nRewriteRule a b\n",
+        33,
+        2,
+        0,
+    ),
+    // what is not supported, before the rule in it
+    (
+        r"RewriteRule a b [R]\n<Limit GET>\nRewriteRule a b\n</Limit>\n",
+        1,
         2,
         0,
     ),

@@ -182,6 +182,10 @@ static REFUSED: &[(&str, u8, u32, u32)] = &[
     (r"<Directory>\n</Directory>\n", 3, 1, 0),
     (r"<Directory /a /b>\n</Directory>\n", 3, 1, 0),
     (r"<Files ~ a b>\n</Files>\n", 3, 1, 0),
+    // the sign alone
+    (r"<Directory ~>\n</Directory>\n", 3, 1, 0),
+    (r#"<Files \"~\">\n</Files>\n"#, 3, 1, 0),
+    (r"<Location ~>\n</Location>\n", 3, 1, 0),
     (r"<Location a ~>\n</Location>\n", 3, 1, 0),
     (r"<DirectoryMatch ~ a>\n</DirectoryMatch>\n", 3, 1, 0),
     (r"<LocationMatch>\n</LocationMatch>\n", 3, 1, 0),

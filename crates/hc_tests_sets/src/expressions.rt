@@ -142,6 +142,10 @@ fn what_is_no_expression_is_refused(rt: HostRuntime) {
         ("'1' -ipmatch 'x' || !%{UNKNOWN} == ''", 19, 0),
         // the first of equal ones
         ("'a' =~ /ab(/ && 'a' =~ /(/", 14, 2),
+        ("'a' =~ /b(/ || (%{UNKNOWN} == '' && !'a' =~ /(/)", 14, 1),
+        ("(%{UNKNOWN} == '' || 'a' =~ /ab(/) && (true || 'a' =~ /(/)", 14, 2),
+        ("('a' =~ /ab(/ || true) || 'a' =~ /b\\b/", 13, 1),
+        ("'1' -ipmatch 'x' || ('a' =~ /b(/ || 'a' =~ /(/) || %{UNKNOWN} == ''", 14, 1),
     ];
     for &(text, code, at) in ROWS {
         assert!(rt; refusal(rt.alloc(), text) == Some((code, at)), "{text}");
@@ -162,28 +166,18 @@ fn deep_expressions_are_read(rt: HostRuntime) -> Result<(), Fault<AtByte>> {
     static ROWS: &[(usize, &str, &str, bool)] = &[
         (100_001, "!", "", false),
         (100_000, "(", ")", true),
-        (1_900, "true && ", "", true),
-        (1_900, "false || ", "", true),
-        (950, "!(true && ", ")", true),
+        (100_000, "true && ", "", true),
+        (100_000, "false || ", "", true),
+        (20_000, "!(true && ", ")", true),
+        (10_000, "(true && (false || ", "))", true),
+        (20_000, "(", " && true)", true),
+        (20_000, "(", " && false)", false),
+        (5_000, "%{REMOTE_ADDR} -ipmatch '11.0.0.0/8' || ", "", true),
+        (5_000, "%{REMOTE_ADDR} -ipmatch '10.0.0.0/8' && ", " && false", false),
     ];
     for &(count, front, back, wanted) in ROWS {
         let text = chain(rt.alloc(), count, front, back)?;
         assert!(rt; is_so(rt.alloc(), &text, V4)? == wanted, "{front}");
-    }
-    Ok(())
-}
-
-#[test]
-fn what_is_too_deep_finds_no_memory(rt: HostRuntime) -> Result<(), NoMemory> {
-    static ROWS: &[(usize, &str, &str)] = &[
-        (100_000, "true && ", ""),
-        (100_000, "true || ", ""),
-        (20_000, "!(true && ", ")"),
-    ];
-    for &(count, front, back) in ROWS {
-        let text = chain(rt.alloc(), count, front, back)?;
-        let read = parse_expr(rt.alloc(), text.as_bytes());
-        assert!(rt; matches!(&read, Err(Fault::NoMemory)), "{front}");
     }
     Ok(())
 }

@@ -1,9 +1,6 @@
-use Rattle.std.proofs.Common.{◌≡◌, ◌+◌, ◌≤◌, drop}
+use Rattle.std.proofs.Common.{◌≡◌, ◌+◌, drop}
 use Rattle.hc_config.specs.Rewrites.{rule_follows}
 use Rattle.hc_config.proofs.following.follows.Given as goal
 
 abbrev pub invariant-loop-at : goal.invariant-loop-at
-invariant-loop-at l = record {
-  few : l.inside ≤ l.at;
-  rest : rule_follows l.inside (drop l.at l.entries) ≡ rule_follows 0 (drop (l.place + 1) l.entries);
-}
+invariant-loop-at l = rule_follows (drop l.at l.entries) ≡ rule_follows (drop (l.place + 1) l.entries)
