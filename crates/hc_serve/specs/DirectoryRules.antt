@@ -1,24 +1,24 @@
 -- The rules of the directory in which a request arrives, and the restart that they lead to.
--- Apache manual, mod_rewrite: RewriteRule ("Per-directory Rewrites"), RewriteBase; "RewriteRule Flags": END; core, Options
--- (FollowSymLinks). Which rules run, and what a restart keeps of the variables, is our own choice.
-use Rattle.std.specs.Prelude.{ℕ, ◌+◌, List, [], ◌∷◌, ◌++◌, map, Bool, not, ◌&&◌, ◌||◌, if◌then◌else◌, codes}
+-- Apache manual, mod_rewrite: RewriteRule ("Per-directory Rewrites"), RewriteBase; "RewriteRule Flags": END; core: Options
+-- (FollowSymLinks), LimitInternalRecursion. Which rules run, and what a restart keeps of the variables, is our own choice.
+use Rattle.std.specs.Prelude.{ℕ, ◌+◌, nat_le, List, Bool, not, ◌&&◌, ◌||◌, if◌then◌else◌, codes}
 use Rattle.std.specs.Prelude.{Option, Some, None, is_some}
 use Rattle.std.specs.Str.{bytes_eq}
 use Rattle.hc_alias.specs.Mapping.{root_of}
 use Rattle.hc_base.specs.Paths.{ends_with_slash, has_dots, merge_slashes}
 use Rattle.hc_model.specs.declared.event.Event.TheVariants as event
 use Rattle.hc_model.specs.declared.outcome.Outcome.{Outcome}
-use Rattle.hc_model.specs.declared.outcome.Outcome.TheVariants.{Outside, Status}
+use Rattle.hc_model.specs.declared.outcome.LimitKind.TheVariants.{Redirects}
+use Rattle.hc_model.specs.declared.outcome.Outcome.TheVariants.{Limit, Outside, Status}
 use Rattle.hc_model.specs.declared.outcome.Reason.TheVariants.{DotSegment}
-use Rattle.hc_model.specs.declared.request.Header.{Header}
 use Rattle.hc_rw_eval.specs.Directories.{url_path}
 use Rattle.hc_rw_eval.specs.Lists.{run_rules}
-use Rattle.hc_rw_eval.specs.Substitutions.{without}
 use Rattle.hc_rw_eval.specs.declared.run.Finished.{Finished}
 use Rattle.hc_rw_expand.specs.Contexts.{Context, Engine}
+use Rattle.hc_rw_expand.specs.Variables.{Variables, renamed, with_value}
 use Rattle.hc_rw_expand.specs.declared.state.RwState.{RwState}
 use Rattle.hc_serve.specs.ServerRules.{looks_of, maps_at, pass_at}
-use Rattle.hc_serve.specs.Site.{Site}
+use Rattle.hc_serve.specs.Site.{Site, most_passes}
 use Rattle.hc_serve.specs.declared.admission.TheConstants.{FORBIDDEN}
 use Rattle.hc_serve.specs.declared.stage.Here.{Here}
 use Rattle.hc_serve.specs.declared.stage.Named.{Named}
@@ -96,23 +96,23 @@ query_left here (Some state) = state.query
 
 -- ---- the restart
 
-abbrev pub status_name : List ℕ
-status_name = codes "REDIRECT_STATUS"
-
-abbrev pub renamed : Header → Header
-renamed variable = record variable { name = codes "REDIRECT_" ++ variable.name }
-
--- A variable STATUS is lost.
-abbrev pub vars_behind : List Header → List Header
-vars_behind vars = without status_name (map renamed vars) ++ record { name = status_name; value = codes "200" } ∷ []
+-- Each variable is set anew behind `REDIRECT_`, and then the status: a variable STATUS is lost.
+abbrev pub vars_behind : Variables → Variables
+vars_behind vars = with_value (renamed (codes "REDIRECT_") vars) (codes "REDIRECT_STATUS") (codes "200")
 
 abbrev pub next_pass : Here → RwState → List ℕ → Pass
 next_pass here state path = pass_at (here.named.pass.number + 1) path state.query (vars_behind state.vars) state.end
 
-unfoldable pub redirected : Here → RwState → List ℕ → Step Outcome Pass
-redirected here state path =
+-- No pass follows the last one that the limit allows. Passes count from 0.
+abbrev pub is_last : Site → Here → Bool
+is_last site here = nat_le (most_passes site.config site.host) (here.named.pass.number + 1)
+
+-- A restart that the limit does not allow is not told.
+unfoldable pub redirected : Site → Here → RwState → List ℕ → Step Outcome Pass
+redirected site here state path =
     if has_dots path then ends (Outside DotSegment)
-    else told (event.Restart (merge_slashes path)) (next_pass here state (merge_slashes path))
+    else (if is_last site here then ends (Limit Redirects)
+    else told (event.Restart (merge_slashes path)) (next_pass here state (merge_slashes path)))
 
 -- The URL path that a text stands for.
 abbrev pub path_for : Site → Here → Option (List ℕ) → List ℕ → List ℕ
@@ -120,4 +120,4 @@ path_for site here None text = text
 path_for site here (Some dir) text = url_path (root_at site) (engine_in here dir) text
 
 unfoldable pub restarted : Site → Here → RwState → Step Outcome Pass
-restarted site here state = redirected here state (path_for site here here.force.dir state.text)
+restarted site here state = redirected site here state (path_for site here here.force.dir state.text)

@@ -64,7 +64,7 @@ opened config request = do
   pass ← first_pass (read request.target)
   leaves (record { host = host; pass = pass })
 
--- So many passes at most, one after another.
+-- So many passes at most, one after another. The last one that the limit allows ends the request, so that none is left over.
 unfoldable pub passes : ℕ → Site → Restarted → Step Ended Restarted
 passes zero site left = leaves left
 passes (suc more) site left = passed site left.pass >>= passes more site
@@ -80,7 +80,7 @@ way config request = ending (with_tree None) (opened config request) >>= passes_
 
 -- ---- the run
 
--- A pass that is left over is one too many.
+-- A pass that is left over would be one too many.
 abbrev pub outcome_of : Way Ended Restarted → Outcome
 outcome_of (is_over ended) = ended.outcome
 outcome_of (goes_on left) = Limit Redirects

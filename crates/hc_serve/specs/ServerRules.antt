@@ -16,7 +16,6 @@ use Rattle.hc_model.specs.declared.mapping.Map.{Map}
 use Rattle.hc_model.specs.declared.outcome.Outcome.{Outcome}
 use Rattle.hc_model.specs.declared.outcome.Outcome.TheVariants.{Outside, Status}
 use Rattle.hc_model.specs.declared.outcome.Reason.TheVariants.{DotSegment}
-use Rattle.hc_model.specs.declared.request.Header.{Header}
 use Rattle.hc_model.specs.declared.rewrite.Rule.{Rule}
 use Rattle.hc_model.specs.declared.section.Body.{out-Body}
 use Rattle.hc_model.specs.declared.section.Inherit.{Inherit}
@@ -27,6 +26,7 @@ use Rattle.hc_rw_eval.specs.Lists.{run_rules}
 use Rattle.hc_rw_eval.specs.declared.run.Finished.{Finished}
 use Rattle.hc_rw_expand.specs.Contexts.{Context}
 use Rattle.hc_rw_expand.specs.Lookups.{Looks}
+use Rattle.hc_rw_expand.specs.Variables.{Variables}
 use Rattle.hc_rw_expand.specs.declared.state.RwState.{RwState}
 use Rattle.hc_serve.specs.Naming.{named}
 use Rattle.hc_serve.specs.Site.{Site}
@@ -70,7 +70,7 @@ engine_at site = unwrap_or (out-Body (server_at site.config site.host).body).eng
 -- ---- the run
 
 -- A pass as it begins.
-abbrev pub pass_at : ℕ → List ℕ → List ℕ → List Header → Bool → Pass
+abbrev pub pass_at : ℕ → List ℕ → List ℕ → Variables → Bool → Pass
 pass_at number path query vars end =
     record { number = number; path = path; query = query; first_query = query; vars = vars; end = end }
 

@@ -146,7 +146,7 @@ fn state_in(here: &Here) -> Result<RwState, NoMemory>
         text: here.walk.name.clone()?,
         query: pass.query.clone()?,
         info: here.walk.info.clone()?,
-        vars: pass.vars.copy()?,
+        vars: pass.vars.clone()?,
         end: pass.end,
         groups: None,
         cond_groups: None,

@@ -1,9 +1,6 @@
 //! The restart that the rules of a directory lead to (Apache manual, mod_rewrite, "Per-directory Rewrites").
-ghost use Rattle.std.specs.Prelude.{◌≡◌, IfOk, map};
-ghost use Rattle.std.specs.Str.{bytes_eq};
-ghost use Rattle.hc_rw_eval.specs.Substitutions.{without};
-ghost use Rattle.hc_serve.specs.DirectoryRules.{next_pass, path_for, redirected, renamed, restarted, status_name};
-ghost use Rattle.hc_serve.specs.DirectoryRules.{vars_behind};
+ghost use Rattle.std.specs.Prelude.{◌≡◌, IfOk};
+ghost use Rattle.hc_serve.specs.DirectoryRules.{is_last, next_pass, path_for, redirected, restarted, vars_behind};
 ghost use Rattle.hc_serve.specs.Site.{site_of};
 ghost use Rattle.hc_steps.specs.Ran.{Ran};
 ghost use Rattle.hc_steps.specs.Run.{run};
@@ -11,16 +8,15 @@ ghost use Rattle.hc_steps.specs.Shown.{shown_by};
 ghost use Rattle.hc_vhost.specs.Servers.{IsHostOf};
 
 use crate::directory_rules::engine_in;
-use crate::site::Asked;
+use crate::site::{Asked, most_passes};
 use crate::stage::{Here, Pass, Stop};
 use hc_alias::root_of;
 use hc_base::paths::{has_dots, merge_slashes};
-use hc_base::{Fault, List, NoMemory, Text};
-use hc_model::{Event, Header, Outcome, Reason};
+use hc_base::{Fault, NoMemory, Text};
+use hc_model::{Event, LimitKind, Outcome, Reason};
 use hc_rw_eval::url_path;
-use hc_rw_expand::RwState;
+use hc_rw_expand::{RwState, Variables};
 use hc_steps::Log;
-use hc_world::World;
 use std::alloc::Global;
 
 // What is put before the names of variables.
@@ -44,7 +40,7 @@ pub(crate) fn restarted(
         (run (restarted (site_of asked.now) here.now state) (shown_by asked.now.world.now.files)) }
 {
     let path = path_for(log.allocator(), asked, here, &state.text)?;
-    redirected(asked.world, log, here, state, path)
+    redirected(asked, log, here, state, path)
 }
 
 // The URL path that a text stands for.
@@ -59,18 +55,29 @@ fn path_for(alloc: Global, asked: &Asked<'_>, here: &Here, text: &Text) -> Resul
     url_path(alloc, root, &engine_in(here, dir), text.as_bytes())
 }
 
+// No pass follows the last one that the limit allows.
+fn is_last(asked: &Asked<'_>, here: &Here) -> bool
+    ensures { result ≡ is_last (site_of asked.now) here.now }
+{
+    most_passes(asked.config, asked.host) <= u64::from(here.named.pass.number) + 1
+}
+
 #[tactic(auto, unfolding(crate::specs::DirectoryRules::redirected), using(hc_steps::proofs::Going::telling))]
 fn redirected(
-    world: &World,
+    asked: &Asked<'_>,
     log: &mut Log,
     here: &Here,
     state: RwState,
     path: Text,
 ) -> Result<Pass, Stop>
-    ensures { Ran result log.old log.new (run (redirected here.now state path) (shown_by world.now.files)) }
+    ensures { Ran result log.old log.new
+        (run (redirected (site_of asked.now) here.now state path) (shown_by asked.now.world.now.files)) }
 {
     if has_dots(path.as_bytes()) {
         return Err(Fault::Refused(Outcome::Outside(Reason::DotSegment)));
+    }
+    if is_last(asked, here) {
+        return Err(Fault::Refused(Outcome::Limit(LimitKind::Redirects)));
     }
     let path = merge_slashes(log.allocator(), path.as_bytes())?;
     log.say(Event::Restart {
@@ -86,50 +93,16 @@ fn next_pass(alloc: Global, here: &Here, state: RwState, path: Text) -> Result<P
     let Some(number) = here.named.pass.number.checked_add(1) else {
         return Err(NoMemory);
     };
-    let vars = vars_behind(alloc, &state.vars)?;
+    let vars = vars_behind(alloc, state.vars)?;
     Pass::at(number, path, state.query, vars, state.end)
 }
 
 // A variable STATUS is lost.
-fn vars_behind(alloc: Global, vars: &List<Header>) -> Result<List<Header>, NoMemory>
-    ensures { IfOk result (λ behind. behind ≡ vars_behind vars.now) }
+fn vars_behind(alloc: Global, vars: Variables) -> Result<Variables, NoMemory>
+    ensures { IfOk result (λ behind. behind ≡ vars_behind vars) }
 {
-    let mut behind = each_renamed(alloc, vars.as_slice())?;
-    behind.push(Header {
-        name: Text::copy_of(alloc, STATUS_NAME)?,
-        value: Text::copy_of(alloc, STATUS)?,
-    })?;
+    let mut behind = vars.renamed(alloc, RENAMED)?;
+    let name = Text::copy_of(alloc, STATUS_NAME)?;
+    behind.set(alloc, name, Text::copy_of(alloc, STATUS)?)?;
     Ok(behind)
-}
-
-// All but the one that is set anew.
-fn each_renamed(alloc: Global, vars: &[Header]) -> Result<List<Header>, NoMemory>
-    ensures { IfOk result (λ behind. behind ≡ without status_name (map renamed vars.now)) }
-{
-    let mut behind = List::new(alloc);
-    for variable in vars {
-        let renamed = renamed(alloc, variable)?;
-        if is_status(&renamed) {
-            continue;
-        }
-        behind.push(renamed)?;
-    }
-    Ok(behind)
-}
-
-fn is_status(variable: &Header) -> bool
-    ensures { result ≡ bytes_eq variable.now.name status_name }
-{
-    variable.name.as_bytes() == STATUS_NAME
-}
-
-fn renamed(alloc: Global, variable: &Header) -> Result<Header, NoMemory>
-    ensures { IfOk result (λ behind. behind ≡ renamed variable.now) }
-{
-    let mut name = RENAMED.to_vec(alloc)?;
-    name.extend_from_slice(variable.name.as_bytes())?;
-    Ok(Header {
-        name: Text::from(name),
-        value: variable.value.clone()?,
-    })
 }

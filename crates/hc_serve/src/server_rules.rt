@@ -1,5 +1,6 @@
 //! The rules of the server that answers, and what a pass goes on with behind them (Apache manual, mod_rewrite).
 ghost use Rattle.std.specs.Prelude.{◌≡◌, [], IfOk, OnOk};
+ghost use Rattle.hc_rw_eval.specs.Frames.{as_step};
 ghost use Rattle.hc_rw_eval.specs.Lists.{run_rules};
 ghost use Rattle.hc_rw_expand.specs.Contexts.{context_of};
 ghost use Rattle.hc_serve.specs.ServerRules.{absolute_left, context_at, exists, finished, is_there, looks_of, maps_at};
@@ -19,11 +20,11 @@ use crate::stage::{Named, Pass, Placed, Stop};
 use crate::way::BAD_REQUEST;
 use hc_alias::{root_of, under_root};
 use hc_base::paths::{begins_with_slash, has_dots, merge_slashes};
-use hc_base::{Fault, List, NoMemory, Text};
+use hc_base::{Fault, NoMemory, Text};
 use hc_map::WorldMaps;
 use hc_model::{Kind, Map, Outcome, Reason, Rule};
 use hc_rw_eval::{Finished, Rewritten, run_rules};
-use hc_rw_expand::{RwContext, RwState};
+use hc_rw_expand::{RwContext, RwState, Variables};
 use hc_steps::Log;
 use hc_world::{World, kind_at};
 use std::alloc::Global;
@@ -64,7 +65,7 @@ fn state_at(alloc: Global, pass: &mut Pass) -> Result<RwState, NoMemory>
         text: pass.path.clone()?,
         query: pass.query.clone()?,
         info: Text::new(alloc),
-        vars: replace(&mut pass.vars, List::new(alloc)),
+        vars: replace(&mut pass.vars, Variables::new()),
         end: pass.end,
         groups: None,
         cond_groups: None,
@@ -101,7 +102,18 @@ pub(crate) fn run_over(
     run_with(asked.world, log, context, maps.as_slice(), rules, state)
 }
 
-// Rules over these maps in a world.
+// What a run came to, as a step answers it.
+fn ended(came: Result<Finished, Outcome>) -> Result<Finished, Stop>
+    ensures { result ≡ as_step came }
+{
+    match came {
+        Ok(finished) => Ok(finished),
+        Err(outcome) => Err(Fault::Refused(outcome)),
+    }
+}
+
+// Rules over these maps in a world. Where memory is refused the log is left empty.
+#[tactic(auto, using(hc_steps::proofs::Going::ran_no_memory))]
 fn run_with(
     world: &World,
     log: &mut Log,
@@ -118,7 +130,10 @@ fn run_with(
         maps,
         world,
     };
-    run_rules(world, log, context, &look, rules, state)
+    let own = replace(log, Log::new(look.alloc, None));
+    let ran = run_rules(world, own, context, &look, rules, state)?;
+    *log = ran.log;
+    ended(ran.came)
 }
 
 fn context_at<'p>(asked: &Asked<'p>, pass: &'p Pass) -> RwContext<'p>

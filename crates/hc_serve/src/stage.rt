@@ -2,8 +2,9 @@ ghost use Rattle.std.specs.Prelude.{◌≡◌, None, IfOk};
 ghost use Rattle.hc_serve.specs.Passing.{followed_by};
 ghost use Rattle.hc_serve.specs.ServerRules.{pass_at};
 
-use hc_base::{Fault, List, NoMemory, Text};
-use hc_model::{Effective, Header, HostId, Outcome, Requirement, Spot, Walk};
+use hc_base::{Fault, NoMemory, Text};
+use hc_model::{Effective, HostId, Outcome, Requirement, Spot, Walk};
+use hc_rw_expand::Variables;
 use std::alloc::Global;
 
 /// Why a step does not go on: the request is answered, or memory was refused.
@@ -19,7 +20,7 @@ pub(crate) struct Pass {
     pub query: Text,
     /// The query at the start of the pass.
     pub first_query: Text,
-    pub vars: List<Header>,
+    pub vars: Variables,
     /// END was met.
     pub end: bool,
 }
@@ -30,7 +31,7 @@ impl Pass {
         number: u32,
         path: Text,
         query: Text,
-        vars: List<Header>,
+        vars: Variables,
         end: bool,
     ) -> Result<Pass, NoMemory>
         ensures { IfOk result (λ pass. pass ≡ pass_at number path query vars end) }

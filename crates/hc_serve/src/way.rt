@@ -14,8 +14,9 @@ ghost use Rattle.hc_target.specs.Targets.{read};
 use crate::pass::{passed, stopped_before};
 use crate::site::{Asked, caller_at, most_passes};
 use crate::stage::{Ended, Opened, Pass, Restarted, Stop};
-use hc_base::{Fault, List};
+use hc_base::Fault;
 use hc_model::{Config, Event, HostId, Outcome, Overrides, Reason, Request};
+use hc_rw_expand::Variables;
 use hc_steps::Log;
 use hc_target::{TargetRead, read_target};
 use hc_vhost::{choose, server_at};
@@ -25,7 +26,7 @@ pub(crate) const BAD_REQUEST: u16 = 400;
 
 const NOT_FOUND: u16 = 404;
 
-/// The way of a request: it ends, or leaves a pass that is one too many.
+/// The way of a request: it ends, or leaves a pass that would be one too many.
 #[tactic(auto, unfolding(crate::specs::Request::way), using(crate::proofs::Trees::treed, crate::proofs::Costs::costs_nothing))]
 pub(crate) fn way<O: Overrides>(
     config: &Config,
@@ -131,8 +132,7 @@ fn first_pass(world: &World, log: &mut Log, request: &Request) -> Result<Pass, S
         TargetRead::Miss404 => Err(Fault::Refused(Outcome::Status(NOT_FOUND))),
         TargetRead::PathByte => Err(Fault::Refused(Outcome::Outside(Reason::PathByte))),
         TargetRead::Path { path, query } => {
-            let vars = List::new(log.allocator());
-            Ok(Pass::at(0, path, query, vars, false)?)
+            Ok(Pass::at(0, path, query, Variables::new(), false)?)
         }
     }
 }
