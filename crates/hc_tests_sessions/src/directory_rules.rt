@@ -213,6 +213,19 @@ ask /a
 ask /b
 {"outcome":{"file":{"info":"","path":"/srv/b"}}}
 "##,
+    // names that begin so already, and one that is taken away, over two restarts
+    r##"main DocumentRoot /srv\n<Directory /srv>\nAllowOverride All\n</Directory>\n
+/srv/.htaccess RewriteEngine On\nRewriteRule ^a$ b [E=REDIRECT_X:1,E=X:2,E=Y:3,E=!Y,E=REDIRECT_STATUS:4,L]\n
+  RewriteCond %{ENV:REDIRECT_REDIRECT_X}%{ENV:REDIRECT_X}-%{ENV:REDIRECT_Y}%{ENV:REDIRECT_REDIRECT_STATUS} ^12-4$\n
+  RewriteRule ^b$ c [E=REDIRECT_X:5,L]\n
+  RewriteCond %{ENV:REDIRECT_REDIRECT_X}%{ENV:REDIRECT_REDIRECT_REDIRECT_X} ^51$\n
+  RewriteCond %{ENV:REDIRECT_REDIRECT_STATUS}%{ENV:REDIRECT_REDIRECT_REDIRECT_STATUS}%{ENV:REDIRECT_STATUS}
+  %{ENV:REDIRECT_X} ^2004200$\n
+  RewriteRule ^c$ d [L]\n
+file /srv/d
+ask /a
+{"outcome":{"file":{"info":"","path":"/srv/d"}}}
+"##,
     // the redirects of sections come before a restart, with the query that the rules leave
     r##"main DocumentRoot /srv\n<Directory /srv>\nAllowOverride All\n</Directory>\n
 /srv/.htaccess Redirect /a http://r.example/\nRewriteEngine On\nRewriteRule ^(a|b)$ /c?q=1\n

@@ -81,6 +81,17 @@ ask /u
 ask /w
 {"outcome":{"redirect":{"location":"http://localhost/z","status":302}}}
 "##,
+    // set twice by one rule and by two, taken away and set again, and taken away where none was set
+    r##"main DocumentRoot /srv\nRewriteEngine On\nRewriteRule ^/ - [E=v:1,E=w:2,E=v:3]\n
+  RewriteRule ^/a$ - [E=!v,E=v:4]\nRewriteRule ^/b$ - [E=!w]\nRewriteRule ^/b$ - [E=w:5,E=!x]\n
+  RewriteRule ^/ /%{ENV:v}-%{ENV:w}-%{ENV:x} [R,L]\n
+ask /
+{"outcome":{"redirect":{"location":"http://localhost/3-2-","status":302}}}
+ask /a
+{"outcome":{"redirect":{"location":"http://localhost/4-2-","status":302}}}
+ask /b
+{"outcome":{"redirect":{"location":"http://localhost/3-5-","status":302}}}
+"##,
     // escaping, L, END, NC and flags without effect
     r##"main DocumentRoot /srv\nRewriteEngine On\nRewriteRule ^/a$ /m#a?\\%20#%{HTTP_USER_AGENT} [NE,R,L]\n
   RewriteRule ^/b$ /m#a?%{HTTP_USER_AGENT} [R,L]\nRewriteRule ^/c$ /d [L]\nRewriteRule ^/d$ /e\n
@@ -145,6 +156,21 @@ ask /n
 {"outcome":{"redirect":{"location":"http://other/x","status":302}}}
 {"do":"ask","port":8080,"target":"/a"}
 {"outcome":{"redirect":{"location":"http://localhost/b","status":302}}}
+"##,
+    // a name with a slash is no authority
+    r##"main DocumentRoot /srv\nServerName a/b\nRewriteEngine On\nRewriteRule ^/a$ http://a/b/f [L]\n
+  RewriteRule ^/b$ http://a/b [L]\nRewriteRule ^/c$ http://a/f [L]\n
+file /srv/f
+{"do":"ask","host":"","target":"/a"}
+{"outcome":{"redirect":{"location":"http://a/b/f","status":302}}}
+{"do":"ask","host":"","target":"/b"}
+{"outcome":{"redirect":{"location":"http://a/b","status":302}}}
+{"do":"ask","host":"","target":"/c"}
+{"outcome":{"redirect":{"location":"http://a/f","status":302}}}
+{"do":"ask","host":"a","target":"/c"}
+{"outcome":{"file":{"info":"","path":"/srv/f"}}}
+{"do":"ask","host":"A","target":"/a"}
+{"outcome":{"not_found":true}}
 "##,
     // each variable
     r##"main DocumentRoot /srv\nRewriteEngine On\nRewriteRule ^/v$ /%{REQUEST_METHOD},%{request_scheme},%{HTTPS},

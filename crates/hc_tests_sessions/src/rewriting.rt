@@ -166,6 +166,28 @@ fn rules_are_run(rt: HostRuntime) -> Result<(), NoMemory> {
     hold_each(&rt, rt.alloc(), RULES)
 }
 
+// Rules that each set another variable, and one that looks at the first and the last of them.
+fn many_variables(alloc: Global, count: usize) -> Result<String, NoMemory> {
+    let mut text = String::new(alloc);
+    text.push_str(r"main DocumentRoot /srv\nRewriteEngine On\n")?;
+    for number in 0..count {
+        let rule = format!(in alloc; "RewriteRule ^ - [E=v{number}:{number}]\\n")?;
+        text.push_str(&rule)?;
+    }
+    text.push_str(r"RewriteCond %{ENV:v0}-%{ENV:v1999} ^0-1999$\nRewriteRule ^/a$ /f\n")?;
+    Ok(text)
+}
+
+#[test]
+fn many_variables_are_set(rt: HostRuntime) -> Result<(), NoMemory> {
+    let main = many_variables(rt.alloc(), 2_000)?;
+    let asked = r#"file /srv/f
+ask /a
+{"outcome":{"file":{"info":"","path":"/srv/f"}}}"#;
+    let dialogue = format!(in rt.alloc(); "{main}\n{asked}\n")?;
+    hold(&rt, rt.alloc(), &dialogue)
+}
+
 // A target of a slash and so many times a byte.
 fn asked_long(alloc: Global, byte: u8, count: usize, reply: &str) -> Result<String, NoMemory> {
     let mut text = String::new(alloc);

@@ -148,19 +148,54 @@ file /var/www/html/index.php
   ["rule","/var/www/html/.htaccess",4,true,"RewriteRule .* - [E=HTTP_AUTHORIZATION:%{HTTP:Authorization}]"],
   ["rule","/var/www/html/.htaccess",6,true,"RewriteRule ^index\\\\.php$ - [L]"]]}
 "##,
-    // a restart that is too many
+    // a restart that is too many is not told
     r##"main DocumentRoot /srv\nLimitInternalRecursion 1\n<Directory /srv>\nRewriteEngine On\n
   RewriteRule ^(.*)$ /app/$1?q=$1\n</Directory>\n
 file /srv/f
 {"do":"ask","target":"/x","trail":true}
-{"events":17,"outcome":{"limit":"redirects"},"reads":[["text","/etc/httpd/conf/httpd.conf"],["kind","/srv"],
+{"events":16,"outcome":{"limit":"redirects"},"reads":[["text","/etc/httpd/conf/httpd.conf"],["kind","/srv"],
   ["kind","/srv/app"],["kind","/srv/x"]],"trail":[["host","",0],["pass",0,"/x",""],["map","",0,"/srv/x",""],
   ["walk","/srv/x","","absent"],["section","/etc/httpd/conf/httpd.conf",3,"<Directory /srv>"],["auth","none"],
   ["rule","/etc/httpd/conf/httpd.conf",5,true,"RewriteRule ^(.*)$ /app/$1?q=$1"],["text","/app/x","q=x"],
   ["restart","/app/x"],["pass",1,"/app/x","q=x"],["map","",0,"/srv/app/x",""],["walk","/srv/app","/x","absent"],
   ["section","/etc/httpd/conf/httpd.conf",3,"<Directory /srv>"],["auth","none"],
-  ["rule","/etc/httpd/conf/httpd.conf",5,true,"RewriteRule ^(.*)$ /app/$1?q=$1"],["text","/app/app/x","q=app/x"],
-  ["restart","/app/app/x"]]}
+  ["rule","/etc/httpd/conf/httpd.conf",5,true,"RewriteRule ^(.*)$ /app/$1?q=$1"],["text","/app/app/x","q=app/x"]]}
+"##,
+    // the last event where the limit ends a request, with one restart and with three
+    r##"main DocumentRoot /srv\nLimitInternalRecursion 1\n<Directory /srv>\nAllowOverride All\n</Directory>\n
+/srv/.htaccess RewriteEngine On\nRewriteRule ^(.*)$ /app/$1\n
+{"do":"ask","target":"/","trail":true}
+{"events":18,"outcome":{"limit":"redirects"},"reads":[["text","/etc/httpd/conf/httpd.conf"],["kind","/srv"],
+  ["text","/srv/.htaccess"],["kind","/srv/app"]],"trail":[["host","",0],["pass",0,"/",""],["map","",0,"/srv/",""],
+  ["walk","/srv/","","dir"],["section","/etc/httpd/conf/httpd.conf",3,"<Directory /srv>"],
+  ["section","/srv/.htaccess",0,""],["auth","none"],
+  ["rule","/srv/.htaccess",2,true,"RewriteRule ^(.*)$ /app/$1"],["text","/app/",""],["restart","/app/"],
+  ["pass",1,"/app/",""],["map","",0,"/srv/app/",""],["walk","/srv/app","/","absent"],
+  ["section","/etc/httpd/conf/httpd.conf",3,"<Directory /srv>"],["section","/srv/.htaccess",0,""],["auth","none"],
+  ["rule","/srv/.htaccess",2,true,"RewriteRule ^(.*)$ /app/$1"],["text","/app/app/",""]]}
+main DocumentRoot /srv\nLimitInternalRecursion 3\n<Directory /srv>\nAllowOverride All\n</Directory>\n
+{"do":"ask","target":"/","trail":true}
+{"events":36,"outcome":{"limit":"redirects"},"reads":[["text","/etc/httpd/conf/httpd.conf"],["kind","/srv"],
+  ["text","/srv/.htaccess"],["kind","/srv/app"]],"trail":[["host","",0],["pass",0,"/",""],["map","",0,"/srv/",""],
+  ["walk","/srv/","","dir"],["section","/etc/httpd/conf/httpd.conf",3,"<Directory /srv>"],
+  ["section","/srv/.htaccess",0,""],["auth","none"],
+  ["rule","/srv/.htaccess",2,true,"RewriteRule ^(.*)$ /app/$1"],["text","/app/",""],["restart","/app/"],
+  ["pass",1,"/app/",""],["map","",0,"/srv/app/",""],["walk","/srv/app","/","absent"],
+  ["section","/etc/httpd/conf/httpd.conf",3,"<Directory /srv>"],["section","/srv/.htaccess",0,""],["auth","none"],
+  ["rule","/srv/.htaccess",2,true,"RewriteRule ^(.*)$ /app/$1"],["text","/app/app/",""],["restart","/app/app/"],
+  ["pass",2,"/app/app/",""],["map","",0,"/srv/app/app/",""],["walk","/srv/app","/app/","absent"],
+  ["section","/etc/httpd/conf/httpd.conf",3,"<Directory /srv>"],["section","/srv/.htaccess",0,""],["auth","none"],
+  ["rule","/srv/.htaccess",2,true,"RewriteRule ^(.*)$ /app/$1"],["text","/app/app/app/",""],
+  ["restart","/app/app/app/"],
+  ["pass",3,"/app/app/app/",""],["map","",0,"/srv/app/app/app/",""],["walk","/srv/app","/app/app/","absent"],
+  ["section","/etc/httpd/conf/httpd.conf",3,"<Directory /srv>"],["section","/srv/.htaccess",0,""],["auth","none"],
+  ["rule","/srv/.htaccess",2,true,"RewriteRule ^(.*)$ /app/$1"],["text","/app/app/app/app/",""]]}
+"##,
+    // a path with a segment of dots is outside also where no further pass is allowed
+    r##"main DocumentRoot /srv\nLimitInternalRecursion 1\n<Directory /srv>\nAllowOverride All\n</Directory>\n
+/srv/.htaccess RewriteEngine On\nRewriteRule ^a$ /b\nRewriteRule ^b$ /../c\n
+ask /a
+{"outcome":{"outside":"dot segment"}}
 "##,
     // rules need an option that lets links be followed
     r##"main DocumentRoot /srv\n<Directory /srv>\nOptions None\nRewriteEngine On\n</Directory>\n
