@@ -205,7 +205,8 @@ fn a_long_chain_goes_on_to_its_end(rt: HostRuntime) -> Result<(), NoMemory> {
             &rt,
             rt.alloc(),
             &format!(in rt.alloc();
-                "main DocumentRoot /srv\\n<If false>\\n</If>\\n{links}{end}\nfile /srv/f\nask /f\n{reply}\n")?,
+                "main DocumentRoot /srv\\n<If false>\\n</If>\\n{links}{end}\nfile /srv/f\nask /f\n{reply}\n"
+            )?,
         )?;
     }
     Ok(())

@@ -170,7 +170,7 @@ static REFUSED: &[(&str, u8, u32, u32)] = &[
         0,
     ),
     (
-        r"<Directory /a>\nRewriteRule a b [R]\n<RequireAny>\nRequire local\nRewriteRule a b\n</RequireAny>\n</Directory>\n",
+        r"<Directory /a>\nRewriteRule a b [R]\n<RequireAny>\nRewriteRule a b\n</RequireAny>\n</Directory>\n",
         33,
         2,
         0,

@@ -143,9 +143,17 @@ fn what_is_no_expression_is_refused(rt: HostRuntime) {
         // the first of equal ones
         ("'a' =~ /ab(/ && 'a' =~ /(/", 14, 2),
         ("'a' =~ /b(/ || (%{UNKNOWN} == '' && !'a' =~ /(/)", 14, 1),
-        ("(%{UNKNOWN} == '' || 'a' =~ /ab(/) && (true || 'a' =~ /(/)", 14, 2),
+        (
+            "(%{UNKNOWN} == '' || 'a' =~ /ab(/) && (true || 'a' =~ /(/)",
+            14,
+            2,
+        ),
         ("('a' =~ /ab(/ || true) || 'a' =~ /b\\b/", 13, 1),
-        ("'1' -ipmatch 'x' || ('a' =~ /b(/ || 'a' =~ /(/) || %{UNKNOWN} == ''", 14, 1),
+        (
+            "'1' -ipmatch 'x' || ('a' =~ /b(/ || 'a' =~ /(/) || %{UNKNOWN} == ''",
+            14,
+            1,
+        ),
     ];
     for &(text, code, at) in ROWS {
         assert!(rt; refusal(rt.alloc(), text) == Some((code, at)), "{text}");
@@ -173,7 +181,12 @@ fn deep_expressions_are_read(rt: HostRuntime) -> Result<(), Fault<AtByte>> {
         (20_000, "(", " && true)", true),
         (20_000, "(", " && false)", false),
         (5_000, "%{REMOTE_ADDR} -ipmatch '11.0.0.0/8' || ", "", true),
-        (5_000, "%{REMOTE_ADDR} -ipmatch '10.0.0.0/8' && ", " && false", false),
+        (
+            5_000,
+            "%{REMOTE_ADDR} -ipmatch '10.0.0.0/8' && ",
+            " && false",
+            false,
+        ),
     ];
     for &(count, front, back, wanted) in ROWS {
         let text = chain(rt.alloc(), count, front, back)?;
