@@ -5,7 +5,7 @@
 #
 # A run in which one allocation is refused either ends with status 5 and nothing written, or answers
 # each line; and a line that was answered `no_memory` has changed nothing: without it, the other lines
-# have the same replies. Nothing is built here but a small library that refuses the allocation.
+# have the same replies. The script has all commands, a `.htaccess`, rules, a map and a trail, and `stats` behind each line. Nothing is built here but a small library that refuses the allocation.
 source "$(dirname -- "$(readlink -f -- "$0")")/program.sh"
 
 cat > "$room/refuse.c" << 'C'
@@ -76,7 +76,26 @@ SCRIPT = r"""
 nonsense
 {"do":"ask","target":"/x/y/z/f"}
 {"do":"ask","target":"/x/y/w/f"}
+{"do":"put","path":"/etc/httpd/conf/httpd.conf","text":"DocumentRoot /srv\nInclude /i/*.conf\n<Directory /srv>\nAllowOverride All\n</Directory>\nRewriteEngine On\nRewriteMap m txt:/m\nRewriteCond %{HTTP:X} ^(a+)$ [OR]\nRewriteCond %{REQUEST_URI} !-f\nRewriteRule ^/r/(.*)$ /x/$1?%{ENV:v}${m:k|d} [E=v:$1,QSA]\n"}
+{"do":"put","path":"/i/a.conf","text":"Define d e\n<Location /x>\nAuthMerging Or\nRequire ip 192.0.2\n</Location>\n<If \"%{REMOTE_ADDR} -ipmatch '10.0.0.0/8' || !(%{QUERY_STRING} =~ /z/i)\">\nRequire all granted\n</If>\n<ElseIf true>\nRequire local\n</ElseIf>\n"}
+{"do":"put","path":"/m","text":"k v\n"}
+{"do":"check"}
+{"do":"put","path":"/srv/x/.htaccess","text":"RewriteEngine On\nRewriteRule ^q/(.*)$ y/$1 [L]\nRequire method GET\n"}
+{"do":"ask","target":"/r/y/z/f?q=1","headers":{"X":"aa","y":"b"},"trail":true}
+{"do":"ask","target":"/x/q/z/f","trail":true}
+{"do":"ask","target":"/x/q/z/f"}
+{"do":"edit","path":"/srv/x/.htaccess","from":3,"to":3,"text":"Require all denied\n"}
+{"do":"ask","target":"/x/q/z/f","client":"10.1.2.3"}
+{"do":"list","path":"/srv/x/q","kind":"dir"}
+{"do":"drop","path":"/srv/x/y"}
+{"do":"ask","target":"/x/y/z/f"}
+{"do":"main","path":"/i/a.conf"}
+{"do":"ask","target":"/x"}
+{"do":"main","path":"/etc/httpd/conf/httpd.conf"}
+{"do":"ask","target":"/x/q/z/f"}
 """.strip().splitlines()
+# what is counted shows behind each line
+SCRIPT = [line for command in SCRIPT for line in (command, '{"do":"stats"}')] + ['{"do":"end"}']
 
 
 def answers(lines, refused=0):
