@@ -1,8 +1,9 @@
 -- What a run of the program does. Our own choice.
 use Rattle.std.specs.Prelude.{◌≡◌, ◌⊎◌, ℕ, List, Option, Some, None}
+use Rattle.std.specs.Io.KnownBytes.{Appends}
 use Rattle.hc_generate.specs.Summary.{IsSummary}
-use Rattle.hc_session.specs.Conversation.{Writes}
-use Rattle.hc_session.specs.Sending.{Work}
+use Rattle.hc_session.specs.Sending.{AppendsFront}
+use Rattle.hc_session.specs.Session.{Work}
 use Rattle.hc_session.specs.declared.status.Status.{Status}
 use Rattle.hc_session.specs.declared.status.Status.TheVariants.{Done, WriteFault}
 use Rattle.hc_words.specs.declared.words.Words.{Words}
@@ -16,6 +17,11 @@ AsksToServe (Some words) = words.generate ≡ None
 abbrev pub AsksFor : ℕ → Option Words → Type 0
 AsksFor seed None = ⊥
 AsksFor seed (Some words) = words.generate ≡ Some seed
+
+-- What was written: all of a line, or a front of it after a fault of the sink.
+abbrev pub Writes : Status → Option (List ℕ) → Option (List ℕ) → List ℕ → Type 0
+Writes WriteFault old new line = AppendsFront old new line
+Writes status old new line = Appends old new line
 
 -- A run that made the script of a seed: the summary was written, or a front of it after a fault of the sink.
 pub record Generated (seed : ℕ) (written grown : Option (List ℕ)) (before after : Work) (status : Status) : Type 0 where

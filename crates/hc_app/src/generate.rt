@@ -1,5 +1,5 @@
 ghost use Rattle.std.specs.Prelude.{◌≡◌, ◌≢◌, ◌<◌, ◌^◌, ◌-◌};
-ghost use Rattle.hc_session.specs.Sending.{work};
+ghost use Rattle.hc_session.specs.Session.{work};
 ghost use Rattle.hc_app.specs.Run.{Generated};
 
 use hc_base::{Failed, Sink, Steps};
@@ -22,6 +22,7 @@ pub fn generate<K: Sink, E: Ledger, B: Ledger>(
         (work evals.old bytes.old) (work evals.new bytes.new) result }
     ensures write_fault { result ≡ Status.WriteFault → K.faults sink.old < K.faults sink.new }
     ensures untouched { result ≡ Status.NoMemory → sink.new ≡ sink.old }
+    ensures idle { result ≡ Status.NoMemory → work evals.new bytes.new ≡ work evals.old bytes.old }
     ensures words { result ≢ Status.Words }
     ensures read { result ≢ Status.ReadFault }
 {

@@ -6,6 +6,8 @@ ghost use Rattle.std.specs.Prelude.{◌≡◌, ◌-◌, ◌<◌, ◌^◌};
 
 mod generate;
 mod run;
+#[cfg(test)]
+mod tests;
 
 use hc_base::{Sink, Source, StdSink, StdSource, Steps};
 use hc_session::Status;

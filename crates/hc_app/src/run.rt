@@ -1,6 +1,6 @@
 ghost use Rattle.std.specs.Prelude.{◌≡◌, ◌≢◌, ◌⊎◌, ◌<◌, ◌^◌, ◌-◌, ℕ, None, map, string_bytes};
 ghost use Rattle.hc_session.specs.Conversation.{Completes, Served};
-ghost use Rattle.hc_session.specs.Sending.{work};
+ghost use Rattle.hc_session.specs.Session.{work};
 ghost use Rattle.hc_words.specs.Words.{words_of};
 ghost use Rattle.hc_app.specs.Run.{AsksFor, AsksToServe, Generated};
 
@@ -33,10 +33,11 @@ pub fn run<S: Source, K: Sink, E: Ledger, B: Ledger>(
         → result ≢ Status.NoMemory
         → Completes (S.left source.old) (K.written sink.old) (K.written sink.new) result }
 
-    // In every case what was written is a front of the replies to the whole lines taken, and all
-    // of them unless the sink failed; `evals` has risen by no more than the evaluations that they
-    // count, and by one for each `no_memory`; and `bytes`, where none of them is that, by no more
-    // than the texts that the lines may read.
+    // In every case what was written are the replies to the whole lines taken, unless the sink
+    // failed: then those to some of them, of the last one's a front. `evals` has risen by no more
+    // than the evaluations that these lines count, and by one for each ask among them that was
+    // answered `no_memory`; and `bytes`, where no line was, by no more than the texts that they may
+    // read.
     ensures served { AsksToServe (words_of (map string_bytes words.now)) → result ≢ Status.NoMemory
         → Served (S.left source.old) (S.left source.new)
         (K.written sink.old) (K.written sink.new)
@@ -56,6 +57,10 @@ pub fn run<S: Source, K: Sink, E: Ledger, B: Ledger>(
     ensures write_fault { result ≡ Status.WriteFault → K.faults sink.old < K.faults sink.new }
     ensures untouched { (result ≡ Status.Words) ⊎ (result ≡ Status.NoMemory)
         → (source.new ≡ source.old) × (sink.new ≡ sink.old) }
+
+    // Nothing was evaluated, and no text read.
+    ensures idle { (result ≡ Status.Words) ⊎ (result ≡ Status.NoMemory)
+        → work evals.new bytes.new ≡ work evals.old bytes.old }
 {
     match read_words(alloc, words) {
         Ok(words) => match words.generate {

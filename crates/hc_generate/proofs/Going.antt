@@ -1,10 +1,10 @@
 -- From one point of a run to another.
 use Rattle.std.proofs.Common.{◌≡◌, ◌∙◌, ◌+◌, ◌≤◌, ℕ, true, false, List, [], ◌∷◌, ◌++◌, fold, sym, ap, subst, refl, inl, inr, arith, append_assoc}
 use Rattle.std.proofs.lemmas.List.Sums.{fold-append}
+use Rattle.hc_json.specs.Command.{command_of}
 use Rattle.hc_json.specs.Reply.{Reply, no_memory}
-use Rattle.hc_session.specs.Sending.{Work}
-use Rattle.hc_session.specs.Session.{AnswersReading, LineTurn, is_no_memory, line_bytes, said_of}
-use Rattle.hc_session.proofs.Answering.{answers_ended, spent_answered, spent_append, spent_none, spent_refused}
+use Rattle.hc_session.specs.Session.{AnswersTaking, LineTurn, Work, both, command_evals, is_no_memory, line_bytes, line_work, said_of, work}
+use Rattle.hc_session.proofs.Answering.{answers_ended, both_assoc, none_first, spent_answered, spent_append, spent_none, spent_refused}
 use Rattle.hc_generate.specs.Run.{Goes}
 use Rattle.hc_generate.specs.Summary.{counted, refusal_counted, said_counted}
 use Rattle.hc_generate.specs.declared.run.Run.{Run}
@@ -14,10 +14,8 @@ use Rattle.hc_generate.specs.declared.run.Run.{Run}
 pub goes_none : (run : Run) (lines : List (List ℕ)) (n : Work) → Goes run run lines lines n n
 goes_none run lines n = record {
   said = [];
-  most = 0;
-  answers = λ rest end more others.
-      let same : more ≡ 0 + more = omega arith in
-      subst (AnswersReading run.session lines rest end) same others;
+  most = work 0 0;
+  answers = λ rest end more others. subst (AnswersTaking run.session lines rest end) (none_first more) others;
   counts = refl;
   spent = spent_none run.session n;
 }
@@ -25,11 +23,10 @@ goes_none run lines n = record {
 pub goes_on : (old mid new : Run) (lines between left : List (List ℕ)) (k m n : Work) → Goes old mid lines between k m → Goes mid new between left m n → Goes old new lines left k n
 goes_on old mid new lines between left k m n first next = record {
   said = first.said ++ next.said;
-  most = first.most + next.most;
+  most = both first.most next.most;
   answers = λ rest end more others.
-      let all = first.answers (next.said ++ rest) end (next.most + more) (next.answers rest end more others) in
-      let same : first.most + (next.most + more) ≡ first.most + next.most + more = omega arith in
-      subst (AnswersReading old.session lines ((first.said ++ next.said) ++ rest) end) same (rw append_assoc all);
+      let all = first.answers (next.said ++ rest) end (both next.most more) (next.answers rest end more others) in
+      subst (AnswersTaking old.session lines ((first.said ++ next.said) ++ rest) end) (sym (both_assoc first.most next.most more)) (rw append_assoc all);
   counts = next.counts ∙ ap (λ t. fold counted t next.said) first.counts ∙ sym (fold-append counted old.tally first.said next.said);
   spent = spent_append old.session mid.session new.session first.said next.said first.most next.most k m n first.spent next.spent;
 }
@@ -40,8 +37,8 @@ goes_on old mid new lines between left k m n first next = record {
 pub goes_ended : (run : Run) (line : List ℕ) (left : List (List ℕ)) (n : Work) → run.session.ended ≡ true → Goes run run (line ∷ left) left n n
 goes_ended run line left n ended = record {
   said = [];
-  most = 0;
-  answers = λ rest end more others. let none = answers_ended run.session end left rest more ended others in inl (ended, none.0, none.1, omega (arith, none.2));
+  most = work 0 0;
+  answers = λ rest end more others. let none = answers_ended run.session end left rest more ended others in inl (ended, none.0, none.1, sym (none_first more) ∙ none.2);
   counts = refl;
   spent = spent_none run.session n;
 }
@@ -49,23 +46,23 @@ goes_ended run line left n ended = record {
 -- A line that has a reply of its own.
 pub goes_answered : (old new : Run) (line : List ℕ) (said : Reply) (left : List (List ℕ)) (k n : Work) → old.session.ended ≡ false
     → LineTurn old.session line said new.session → is_no_memory said ≡ false → new.tally ≡ said_counted old.tally (said_of said)
-    → (k.evals ≤ n.evals) × (n.evals + old.session.evaluations ≡ k.evals + new.session.evaluations) → n.bytes ≤ k.bytes + line_bytes old.session line
+    → (k.evals ≤ n.evals) × (n.evals ≤ k.evals + command_evals (command_of line)) × (n.evals + old.session.evaluations ≡ k.evals + new.session.evaluations) → n.bytes ≤ k.bytes + line_bytes old.session line
     → Goes old new (line ∷ left) left k n
 goes_answered old new line said left k n going turn answers tally counts few = record {
   said = said ∷ [];
-  most = line_bytes old.session line;
+  most = line_work old.session line said;
   answers = λ rest end more others. inr (going, said, rest, new.session, more, refl, refl, inr turn, others);
   counts = rw answers tally;
-  spent = spent_answered old.session new.session said (line_bytes old.session line) k n counts few;
+  spent = spent_answered old.session new.session line k n said counts few;
 }
 
 -- A line for which no memory was found.
 pub goes_refused : (old new : Run) (line : List ℕ) (left : List (List ℕ)) (k n : Work) → old.session.ended ≡ false → new.session ≡ old.session
-    → new.tally ≡ refusal_counted old.tally → (k.evals ≤ n.evals) × (n.evals ≤ k.evals + 1) → Goes old new (line ∷ left) left k n
+    → new.tally ≡ refusal_counted old.tally → (k.evals ≤ n.evals) × (n.evals ≤ k.evals + command_evals (command_of line)) → Goes old new (line ∷ left) left k n
 goes_refused old new line left k n going same tally counts = record {
   said = no_memory ∷ [];
-  most = line_bytes old.session line;
+  most = line_work old.session line no_memory;
   answers = λ rest end more others. inr (going, no_memory, rest, new.session, more, refl, refl, inl (refl, same), others);
   counts = tally;
-  spent = spent_refused old.session new.session (line_bytes old.session line) k n same counts.0 counts.1;
+  spent = spent_refused old.session new.session line k n same counts;
 }

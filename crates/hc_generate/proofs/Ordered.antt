@@ -1,6 +1,6 @@
 -- A run that takes steps in order.
 use Rattle.std.proofs.Common.{◌≡◌, ◌∙◌, ◌+◌, ◌-◌, ◌<◌, ◌≤◌, ℕ, suc, List, ◌∷◌, ap, sym, subst, refl, arith}
-use Rattle.hc_session.specs.Sending.{Work}
+use Rattle.hc_session.specs.Session.{Work}
 use Rattle.hc_generate.proofs.Going.{goes_none, goes_on}
 use Rattle.hc_generate.specs.Draws.{Drawing}
 use Rattle.hc_generate.specs.Run.{Takes}

@@ -1,11 +1,8 @@
 -- What the run of a script that a seed makes comes to. Our own choice.
-use Rattle.std.specs.Prelude.{◌≡◌, ℕ, ◌+◌, List, [], ◌∷◌, ◌++◌, if◌then◌else◌, fold, codes}
-use Rattle.serde_json.specs.Data.{Data, number, unsigned, object, no_members, member}
-use Rattle.serde_json.specs.Written.{compact_text}
-use Rattle.hc_base.specs.Bytes.{lf}
-use Rattle.hc_json.specs.Reply.{Reply, only}
-use Rattle.hc_session.specs.Sending.{IsSpent, Work}
-use Rattle.hc_session.specs.Session.{AnswersReading, State, is_no_memory, said_of, start}
+use Rattle.std.specs.Prelude.{◌≡◌, ℕ, ◌+◌, List, ◌++◌, if◌then◌else◌, fold, codes, decimal}
+use Rattle.hc_json.specs.Reply.{Reply}
+use Rattle.hc_session.specs.Sending.{IsSpent}
+use Rattle.hc_session.specs.Session.{AnswersTaking, State, Work, is_no_memory, said_of, start}
 use Rattle.hc_session.specs.declared.stepped.Said.{Said}
 use Rattle.hc_session.specs.declared.stepped.Said.TheVariants as is
 use Rattle.hc_generate.specs.Script.{script_of}
@@ -38,25 +35,27 @@ total tally = tally.files + tally.missing + tally.denied + tally.no_memory
 
 -- ---- the line
 
-abbrev pub summary_data : ℕ → ℕ → Tally → Data
-summary_data asks evaluations tally =
-    only (codes "summary") (object (
-    member (codes "asks") (number (unsigned asks)) (
-    member (codes "denied") (number (unsigned tally.denied)) (
-    member (codes "evaluations") (number (unsigned evaluations)) (
-    member (codes "files") (number (unsigned tally.files)) (
-    member (codes "missing") (number (unsigned tally.missing)) (
-    member (codes "no_memory") (number (unsigned tally.no_memory)) no_members)))))))
+-- A number behind its name.
+abbrev pub member_text : List ℕ → ℕ → List ℕ
+member_text name count = name ++ decimal count
 
+-- Compact JSON, and LF.
 unfoldable pub summary_line : State → Tally → List ℕ
-summary_line state tally = compact_text (summary_data state.asks state.evaluations tally) ++ lf ∷ []
+summary_line state tally =
+    (((((member_text (codes "{\"summary\":{\"asks\":") state.asks
+    ++ member_text (codes ",\"denied\":") tally.denied)
+    ++ member_text (codes ",\"evaluations\":") state.evaluations)
+    ++ member_text (codes ",\"files\":") tally.files)
+    ++ member_text (codes ",\"missing\":") tally.missing)
+    ++ member_text (codes ",\"no_memory\":") tally.no_memory)
+    ++ codes "}}\n"
 
 -- The line is the summary of a run of the script that the seed makes, and the counters have risen by no more than that
 -- run gives.
 pub record IsSummary (seed : ℕ) (line : List ℕ) (before after : Work) : Type 0 where
   pub replies : List Reply
   pub state : State
-  pub most : ℕ
-  pub answers : AnswersReading start (script_of seed) replies state most
+  pub most : Work
+  pub answers : AnswersTaking start (script_of seed) replies state most
   pub told : line ≡ summary_line state (tally_of replies)
   pub spent : IsSpent start state replies most before after

@@ -6,6 +6,7 @@ mod line;
 mod run;
 mod step;
 mod summaries;
+mod summary_line;
 mod tally;
 
 pub use summaries::summary;

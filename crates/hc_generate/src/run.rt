@@ -1,6 +1,5 @@
-ghost use Rattle.std.specs.Prelude.{◌≡◌, ◌<◌, ◌≤◌, ◌^◌, ◌-◌, ◌+◌, ℕ, List, [], ◌∷◌, false, IfOk, OnOk};
-ghost use Rattle.hc_session.specs.Sending.{work};
-ghost use Rattle.hc_session.specs.Session.{start};
+ghost use Rattle.std.specs.Prelude.{◌≡◌, ◌<◌, ◌≤◌, ◌^◌, ◌-◌, ◌+◌, ℕ, List, [], ◌∷◌, false, IfOk};
+ghost use Rattle.hc_session.specs.Session.{start, work};
 ghost use Rattle.hc_generate.specs.Run.{Goes, Takes};
 ghost use Rattle.hc_generate.specs.Script.{file_step, files_behind, in_order, override_step, turn};
 ghost use Rattle.hc_generate.specs.Summary.{nothing_said, total};
@@ -56,25 +55,20 @@ impl Run {
         }
     }
 
-    // Takes a step, unless the session has ended.
-    fn take<E: Ledger, B: Ledger>(
-        &mut self,
-        step: Step,
-        evals: &mut Steps<E>,
-        bytes: &mut Steps<B>,
-    ) -> Result<(), NoMemory>
+    // Takes a step, unless the session has ended. Where its line finds no memory, it counts as answered so.
+    fn take<E: Ledger, B: Ledger>(&mut self, step: Step, evals: &mut Steps<E>, bytes: &mut Steps<B>)
         requires room { total self.old.tally < 2 ^ 64 - 1 }
-        ensures goes { OnOk result ((left : List Step)
-            → Takes self.old self.new (step ∷ left) left
-            (work evals.old bytes.old) (work evals.new bytes.new)) }
+        ensures goes { (left : List Step) → Takes self.old self.new (step ∷ left) left
+            (work evals.old bytes.old) (work evals.new bytes.new) }
         ensures few { total self.new.tally ≤ total self.old.tally + 1 }
     {
         if self.session.has_ended() {
-            return Ok(());
+            return;
         }
-        let line = line(self.alloc, step)?;
-        self.answer(line.as_bytes(), evals, bytes);
-        Ok(())
+        match line(self.alloc, step) {
+            Ok(line) => self.answer(line.as_bytes(), evals, bytes),
+            Err(NoMemory) => self.tally.count_refusal(),
+        }
     }
 
     // Lists the files.
@@ -83,17 +77,16 @@ impl Run {
         draws: &mut Draws,
         evals: &mut Steps<E>,
         bytes: &mut Steps<B>,
-    ) -> Result<(), NoMemory>
+    )
         requires room { total self.old.tally + FILES < 2 ^ 64 - 1 }
-        ensures goes { OnOk result ((behind : ℕ → List Step) → Takes self.old self.new
+        ensures goes { (behind : ℕ → List Step) → Takes self.old self.new
             (in_order file_step 0 FILES behind draws.old.x) (behind draws.new.x)
-            (work evals.old bytes.old) (work evals.new bytes.new)) }
+            (work evals.old bytes.old) (work evals.new bytes.new) }
         ensures few { total self.new.tally ≤ total self.old.tally + FILES }
     {
         for file in 0..FILES {
-            self.take(draws.file(file), evals, bytes)?;
+            self.take(draws.file(file), evals, bytes);
         }
-        Ok(())
     }
 
     // Gives each directory a text.
@@ -102,17 +95,16 @@ impl Run {
         draws: &mut Draws,
         evals: &mut Steps<E>,
         bytes: &mut Steps<B>,
-    ) -> Result<(), NoMemory>
+    )
         requires room { total self.old.tally + DIRECTORIES < 2 ^ 64 - 1 }
-        ensures goes { OnOk result ((behind : ℕ → List Step) → Takes self.old self.new
+        ensures goes { (behind : ℕ → List Step) → Takes self.old self.new
             (in_order override_step 0 DIRECTORIES behind draws.old.x) (behind draws.new.x)
-            (work evals.old bytes.old) (work evals.new bytes.new)) }
+            (work evals.old bytes.old) (work evals.new bytes.new) }
         ensures few { total self.new.tally ≤ total self.old.tally + DIRECTORIES }
     {
         for directory in 0..DIRECTORIES {
-            self.take(draws.text(directory), evals, bytes)?;
+            self.take(draws.text(directory), evals, bytes);
         }
-        Ok(())
     }
 
     // Takes the turns.
@@ -121,17 +113,16 @@ impl Run {
         draws: &mut Draws,
         evals: &mut Steps<E>,
         bytes: &mut Steps<B>,
-    ) -> Result<(), NoMemory>
+    )
         requires room { total self.old.tally + TURNS < 2 ^ 64 - 1 }
-        ensures goes { OnOk result ((behind : ℕ → List Step) → Takes self.old self.new
+        ensures goes { (behind : ℕ → List Step) → Takes self.old self.new
             (in_order (λ number. turn) 0 TURNS behind draws.old.x) (behind draws.new.x)
-            (work evals.old bytes.old) (work evals.new bytes.new)) }
+            (work evals.old bytes.old) (work evals.new bytes.new) }
         ensures few { total self.new.tally ≤ total self.old.tally + TURNS }
     {
         for number in 0..TURNS {
-            self.take(draws.turn(), evals, bytes)?;
+            self.take(draws.turn(), evals, bytes);
         }
-        Ok(())
     }
 
     /// Takes the steps of the script that these draws make.
@@ -140,14 +131,14 @@ impl Run {
         mut draws: Draws,
         evals: &mut Steps<E>,
         bytes: &mut Steps<B>,
-    ) -> Result<(), NoMemory>
+    )
         requires fresh { total self.old.tally ≡ 0 }
-        ensures { OnOk result (Takes self.old self.new (Main ∷ files_behind draws.x) []
-            (work evals.old bytes.old) (work evals.new bytes.new)) }
+        ensures { Takes self.old self.new (Main ∷ files_behind draws.x) []
+            (work evals.old bytes.old) (work evals.new bytes.new) }
     {
-        self.take(Step::Main, evals, bytes)?;
-        self.list_files(&mut draws, evals, bytes)?;
-        self.put_texts(&mut draws, evals, bytes)?;
-        self.take_turns(&mut draws, evals, bytes)
+        self.take(Step::Main, evals, bytes);
+        self.list_files(&mut draws, evals, bytes);
+        self.put_texts(&mut draws, evals, bytes);
+        self.take_turns(&mut draws, evals, bytes);
     }
 }

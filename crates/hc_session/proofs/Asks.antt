@@ -41,9 +41,9 @@ turn_found state request trail config answer there same = ap (evaluated_turn sta
 
 -- What is counted where an answer was evaluated and is kept.
 pub counted : (result : Result Stepped NoMemory) (old new : State) (request : Request) (trail : Bool) (answer : Answer) (before after : ℕ)
-    → Gave result (IsTurn (evaluated_turn old request trail answer)) old new → after ≡ before + 1 → Counts result old new before after
+    → Gave result (IsTurn (evaluated_turn old request trail answer)) old new → after ≡ before + 1 → Counts result 1 old new before after
 counted (Ok stepped) old new request trail answer before after gave rises =
-    let more = ap (λ (state : State). state.evaluations) gave.2.1 in (omega (arith, rises), omega (arith, rises, more))
+    let more = ap (λ (state : State). state.evaluations) gave.2.1 in (omega (arith, rises), omega (arith, rises), omega (arith, rises, more))
 counted (Err none) old new request trail answer before after gave rises = (omega (arith, rises), omega (arith, rises))
 
 -- What is read for one, where no answer is kept.

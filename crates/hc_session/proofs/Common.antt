@@ -4,6 +4,6 @@ pub use Rattle.std.proofs.lemmas.List.{take-append-drop, take-append-le, length-
 pub use Rattle.std.specs.Io.KnownBytes.{Appends, Consumes, Keeps, IsAtEnd}
 pub use Rattle.hc_base.proofs.Lines.{HasNoLf-append, HasNoLf-take, at_lf, whole_lines-none, rest_of-none, whole_lines-line, rest_of-line, whole_lines-append, rest_of-append, rest_of-none_longer, HasNoLf-from_rest_of}
 pub use Rattle.hc_base.specs.Lines.{HasNoLf, whole_lines, rest_of}
-pub use Rattle.hc_session.specs.Session.{State, start, AnswersReading}
-pub use Rattle.hc_session.specs.Sending.{AppendsFront, AnswersLine, AnswersInPart, AnswersLines, AnswersLinesInPart, IsSpent, Work, output, refusals}
+pub use Rattle.hc_session.specs.Session.{State, start, AnswersTaking, Work, work, both}
+pub use Rattle.hc_session.specs.Sending.{AppendsFront, SendsInPart, AnswersLine, AnswersInPart, AnswersLines, AnswersLinesInPart, IsSpent, output, refusals}
 pub use Rattle.hc_session.specs.declared.limits.TheConstants.{LINE_LIMIT, SCRIPT_LIMIT}

@@ -1,7 +1,8 @@
 -- A run without faults is the session's.
-use Rattle.hc_session.proofs.Common.{◌≡◌, ◌≢◌, ◌⊎◌, ℕ, ◌<◌, List, [], ◌∷◌, length, Bool, true, Option, Some, None, refl, arith, inl, inr, Appends, Work, rest_of, output, LINE_LIMIT, SCRIPT_LIMIT}
+use Rattle.hc_session.proofs.Common.{◌≡◌, ◌≢◌, ◌⊎◌, ℕ, ◌<◌, List, [], ◌∷◌, length, Bool, true, Option, Some, None, refl, arith, inl, inr, subst, Appends, AnswersTaking, Work, start, whole_lines, rest_of, output, LINE_LIMIT, SCRIPT_LIMIT}
 use Rattle.std.proofs.lemmas.Bool.{lt-ltb, le-leb, lt-leb}
-use Rattle.hc_session.specs.Conversation.{IsFull, Served, Completes, EndsWith, Writes, status_of}
+use Rattle.hc_json.specs.Reply.{Reply}
+use Rattle.hc_session.specs.Conversation.{IsFull, Served, Completes, EndsWith, Sends, answered_lines, status_of}
 use Rattle.hc_session.specs.declared.status.Status.{Status}
 use Rattle.hc_session.specs.declared.status.Status.TheVariants.{Done, Words, ReadFault, WriteFault, NoMemory, CutLine, LineTooLong, ScriptTooLong}
 
@@ -32,9 +33,13 @@ module _ (left taken : List ℕ) (ended : Bool) where
   ending Words ends read write = absurd ends
   ending NoMemory ends read write = absurd ends
 
-all_written : (status : Status) (old new : Option (List ℕ)) (lines : List ℕ) → Writes status old new lines → status ≢ WriteFault → Appends old new lines
-all_written WriteFault old new lines writes write = absurd (write refl)
-all_written status old new lines writes write = writes
+all_written : (status : Status) (old new : Option (List ℕ)) (replies : List Reply) → Sends status old new replies → status ≢ WriteFault → Appends old new (output replies)
+all_written WriteFault old new replies writes write = absurd (write refl)
+all_written status old new replies writes write = writes
+
+all_lines : (status : Status) (count : ℕ) (lines : List (List ℕ)) → status ≢ WriteFault → answered_lines status count lines ≡ lines
+all_lines WriteFault count lines write = absurd (write refl)
+all_lines status count lines write = refl
 
 pub completes : (left remaining written grown : Option (List ℕ)) (before after : Work) (status : Status) → Served left remaining written grown before after status → status ≢ ReadFault → status ≢ WriteFault → Completes left written grown status
 completes None remaining written grown before after status served read write = tt
@@ -42,13 +47,17 @@ completes (Some input) None written grown before after status served read write 
 completes (Some input) (Some left) written grown before after status served read write =
     let end = ending left served.taken served.state.ended status served.ends read write in (
       output served.replies,
-      all_written status written grown (output served.replies) served.writes write,
+      all_written status written grown served.replies served.writes write,
       record {
         taken = served.taken;
         replies = served.replies;
         state = served.state;
         takes = record { left = left; front = served.takes; within = served.within; up_to = end.up_to };
-        answers = (served.most, served.answers);
+        answers = (
+          served.most,
+          subst (λ lines. AnswersTaking start lines served.replies served.state served.most)
+              (all_lines status served.count (whole_lines served.taken) write) served.answers,
+        );
         writes = refl;
         ends = end.is;
       },

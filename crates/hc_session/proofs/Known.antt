@@ -1,5 +1,5 @@
 -- Known bytes over several calls.
-use Rattle.hc_session.proofs.Common.{◌≡◌, ℕ, List, [], ◌++◌, take, drop, Option, Some, None, refl, sym, ap, ◌∙◌, append_assoc, append-nil, take-append-drop, Appends, Consumes, Keeps, AppendsFront}
+use Rattle.hc_session.proofs.Common.{◌≡◌, ℕ, List, [], ◌++◌, take, drop, Option, Some, None, refl, sym, ap, ◌∙◌, append_assoc, append-nil, take-append-drop, Appends, Consumes, Keeps}
 
 pub appends_none : (a : Option (List ℕ)) → Appends a a []
 appends_none None = tt
@@ -27,14 +27,6 @@ consumes_keeps (Some a) None c xs f k = absurd f
 consumes_keeps (Some a) (Some b) None xs f k = absurd k
 consumes_keeps (Some a) (Some b) (Some c) xs f k = f ∙ ap (λ l. xs ++ l) (sym k)
 
--- Bytes that were written, and then a front of more.
-pub appends_front : (a b c : Option (List ℕ)) (xs ys : List ℕ) → Appends a b xs → AppendsFront b c ys → AppendsFront a c (xs ++ ys)
-appends_front a b c xs ys f g = record { sent = xs ++ g.sent; unsent = g.unsent; whole = ap (λ l. xs ++ l) g.whole ∙ sym (append_assoc xs g.sent g.unsent); written = appends_more a b c xs g.sent f g.written }
-
 -- After n bytes of what was left.
 pub sent_more : (piece sent rest back : List ℕ) (n : ℕ) → piece ≡ sent ++ rest → back ≡ drop n rest → piece ≡ (sent ++ take n rest) ++ back
 sent_more piece sent rest back n whole split = whole ∙ ap (λ l. sent ++ l) (sym (take-append-drop n rest)) ∙ sym (append_assoc sent (take n rest) (drop n rest)) ∙ ap (λ l. (sent ++ take n rest) ++ l) (sym split)
-
--- A front of bytes is a front of more.
-pub front_longer : (a b : Option (List ℕ)) (xs ys : List ℕ) → AppendsFront a b xs → AppendsFront a b (xs ++ ys)
-front_longer a b xs ys f = record { sent = f.sent; unsent = f.unsent ++ ys; whole = ap (λ l. l ++ ys) f.whole ∙ append_assoc f.sent f.unsent ys; written = f.written }

@@ -1,8 +1,8 @@
 -- What the loop over the reads of a source keeps, and how each of its ends is a run.
-use Rattle.hc_session.proofs.Common.{◌≡◌, ◌⊎◌, ℕ, ◌+◌, ◌-◌, ◌<◌, ◌≤◌, List, [], ◌∷◌, ◌++◌, length, take, Option, true, false, arith, refl, sym, ap, ◌∙◌, subst, inl, inr, append-nil, length-append, take-append-le, length-take-le, Consumes, Keeps, IsAtEnd, whole_lines, rest_of, State, start, AnswersLines, AnswersLinesInPart, Work, output, LINE_LIMIT, SCRIPT_LIMIT, whole_lines-append, rest_of-append, rest_of-none, rest_of-none_longer}
+use Rattle.hc_session.proofs.Common.{◌≡◌, ◌⊎◌, ℕ, ◌+◌, ◌-◌, ◌<◌, ◌≤◌, List, [], ◌∷◌, ◌++◌, length, take, Option, true, false, arith, refl, sym, ap, ◌∙◌, subst, inl, inr, append-nil, length-append, take-append-le, length-take-le, Consumes, Keeps, IsAtEnd, whole_lines, rest_of, State, start, AnswersLines, AnswersLinesInPart, AnswersTaking, Work, LINE_LIMIT, SCRIPT_LIMIT, whole_lines-append, rest_of-append, rest_of-none, rest_of-none_longer}
 use Rattle.std.proofs.lemmas.Bool.{cases_lt}
 use Rattle.std.proofs.Math.Seq.{take-append-add}
-use Rattle.hc_session.specs.Conversation.{IsOpen, StaysOpen, Served, EndsWith, Writes, status_at_end}
+use Rattle.hc_session.specs.Conversation.{IsOpen, StaysOpen, Served, Sends, EndsWith, answered_lines, status_at_end}
 use Rattle.hc_session.specs.declared.status.Status.{Status}
 use Rattle.hc_session.specs.declared.status.Status.TheVariants.{Done, ReadFault, WriteFault, CutLine, LineTooLong, ScriptTooLong}
 use Rattle.hc_session.proofs.Answering.{lines_append, lines_append_in_part, lines_none}
@@ -60,15 +60,18 @@ cons_not_nil : (b : ℕ) (bs : List ℕ) → b ∷ bs ≡ [] → ⊥
 cons_not_nil b bs e = cc
 
 -- What was taken and answered is a run, where its status says how it ends.
-served_as : (left remaining written grown : Option (List ℕ)) (state : State) (bytes : List ℕ) (k n : Work) (status : Status) (taken : Taken left remaining written grown state bytes k n) → Writes status written grown (output taken.answered.replies) → EndsWith status remaining bytes state.ended → Served left remaining written grown k n status
-served_as left remaining written grown state bytes k n status all writes ends = record {
+served_as : (left remaining written grown : Option (List ℕ)) (state : State) (bytes : List ℕ) (k n : Work) (status : Status) (taken : Taken left remaining written grown state bytes k n)
+    → Sends status written grown taken.answered.replies → AnswersTaking start (answered_lines status 0 (whole_lines bytes)) taken.answered.replies state taken.answered.most
+    → EndsWith status remaining bytes state.ended → Served left remaining written grown k n status
+served_as left remaining written grown state bytes k n status all writes answers ends = record {
   taken = bytes;
+  count = 0;
   replies = all.answered.replies;
   state = state;
   takes = all.takes;
   within = all.within;
   most = all.answered.most;
-  answers = all.answered.answers;
+  answers = answers;
   writes = writes;
   spent = all.answered.spent;
   ends = ends;
@@ -105,13 +108,14 @@ module _ (left now later written grown : Option (List ℕ)) (state : State) (lin
     pub served_ended : (grown' : Option (List ℕ)) (next : State) (n : Work) → AnswersLines state next (whole_lines (line ++ chunk)) grown grown' m n → next.ended ≡ true → Served left later written grown' k n Done
     served_ended grown' next n answered ended =
         let all = taken_more grown' next n answered in
-        served_as left later written grown' next (before.bytes ++ chunk) k n Done all all.answered.writes (inl ended)
+        served_as left later written grown' next (before.bytes ++ chunk) k n Done all all.answered.writes all.answered.answers (inl ended)
 
     pub served_write_fault : (grown' : Option (List ℕ)) (n : Work) → AnswersLinesInPart state (whole_lines (line ++ chunk)) grown grown' m n → Served left later written grown' k n WriteFault
     served_write_fault grown' n answered =
         let all = lines_append_in_part start state written grown grown' k m n _ _ before.taken.answered answered in
         record {
           taken = before.bytes ++ chunk;
+          count = all.count;
           replies = all.replies;
           state = all.state;
           takes = consumes_more left now later before.bytes chunk before.taken.takes took;
@@ -138,7 +142,7 @@ module _ (left now written grown : Option (List ℕ)) (state : State) (line : Li
   pub served_read_fault : (later : Option (List ℕ)) → Keeps now later → length line < LINE_LIMIT → count < SCRIPT_LIMIT → Served left later written grown k m ReadFault
   served_read_fault later kept line_room script_room =
       let all = still later (consumes_keeps left now later before.bytes before.taken.takes kept) in
-      served_as left later written grown state before.bytes k m ReadFault all all.answered.writes (is_open line_room script_room, before.going)
+      served_as left later written grown state before.bytes k m ReadFault all all.answered.writes all.answered.answers (is_open line_room script_room, before.going)
 
   -- the end of the input
   pub served_at_end : (later : Option (List ℕ)) (chunk : List ℕ) → chunk ≡ [] → Consumes now later chunk → (chunk ≡ [] → IsAtEnd later) → length line < LINE_LIMIT → count < SCRIPT_LIMIT → Served left later written grown k m (status_at_end line)
@@ -147,14 +151,14 @@ module _ (left now written grown : Option (List ℕ)) (state : State) (line : Li
     all = still later (rw (none, append-nil) at (consumes_more left now later before.bytes chunk before.taken.takes took))
 
     by_line : (rest : List ℕ) → line ≡ rest → Served left later written grown k m (status_at_end rest)
-    by_line [] is = served_as left later written grown state before.bytes k m Done all all.answered.writes (inr (end none, before.unended ∙ is, is_open line_room script_room, before.going))
+    by_line [] is = served_as left later written grown state before.bytes k m Done all all.answered.writes all.answered.answers (inr (end none, before.unended ∙ is, is_open line_room script_room, before.going))
     by_line (b ∷ bs) is =
-        served_as left later written grown state before.bytes k m CutLine all all.answered.writes (end none, (λ empty. absurd (cons_not_nil b bs (sym (before.unended ∙ is) ∙ empty))), is_open line_room script_room, before.going)
+        served_as left later written grown state before.bytes k m CutLine all all.answered.writes all.answered.answers (end none, (λ empty. absurd (cons_not_nil b bs (sym (before.unended ∙ is) ∙ empty))), is_open line_room script_room, before.going)
 
   -- a limit was reached
   pub served_long_line : LINE_LIMIT ≤ length line → Served left now written grown k m LineTooLong
-  served_long_line long = served_as left now written grown state before.bytes k m LineTooLong before.taken before.taken.answered.writes (omega (arith, long, ap length before.unended), before.going)
+  served_long_line long = served_as left now written grown state before.bytes k m LineTooLong before.taken before.taken.answered.writes before.taken.answered.answers (omega (arith, long, ap length before.unended), before.going)
 
   pub served_long_script : length line < LINE_LIMIT → SCRIPT_LIMIT ≤ count → Served left now written grown k m ScriptTooLong
   served_long_script line_room long =
-      served_as left now written grown state before.bytes k m ScriptTooLong before.taken before.taken.answered.writes (omega (arith, line_room, ap length before.unended), omega (arith, long, before.counted), before.going)
+      served_as left now written grown state before.bytes k m ScriptTooLong before.taken before.taken.answered.writes before.taken.answered.answers (omega (arith, line_room, ap length before.unended), omega (arith, long, before.counted), before.going)

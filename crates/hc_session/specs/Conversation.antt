@@ -4,8 +4,8 @@ use Rattle.std.specs.Prelude.{Bool, true, false, nat_lt, nat_le, if◌then◌els
 use Rattle.std.specs.Io.KnownBytes.{Consumes, Appends, IsAtEnd}
 use Rattle.hc_base.specs.Lines.{whole_lines, rest_of}
 use Rattle.hc_json.specs.Reply.{Reply}
-use Rattle.hc_session.specs.Session.{Answers, AnswersReading, State, start}
-use Rattle.hc_session.specs.Sending.{output, AppendsFront, IsSpent, Work}
+use Rattle.hc_session.specs.Session.{Answers, AnswersTaking, State, Work, start}
+use Rattle.hc_session.specs.Sending.{output, IsSpent, SendsInPart}
 use Rattle.hc_session.specs.declared.limits.TheConstants.{LINE_LIMIT, SCRIPT_LIMIT}
 use Rattle.hc_session.specs.declared.status.Status.{Status}
 use Rattle.hc_session.specs.declared.status.Status.TheVariants.{Done, Words, ReadFault, WriteFault}
@@ -63,10 +63,15 @@ Completes left written grown status =
 
 -- ---- any run
 
--- What was written: the lines of all replies, or a front of them after a fault of the sink.
-abbrev pub Writes : Status → Option (List ℕ) → Option (List ℕ) → List ℕ → Type 0
-Writes WriteFault old new lines = AppendsFront old new lines
-Writes status old new lines = Appends old new lines
+-- The lines that were answered: all, unless the sink failed.
+abbrev pub answered_lines : Status → ℕ → List (List ℕ) → List (List ℕ)
+answered_lines WriteFault count lines = take count lines
+answered_lines status count lines = lines
+
+-- The lines of the replies were written; after a fault of the sink, of the last one's a front.
+abbrev pub Sends : Status → Option (List ℕ) → Option (List ℕ) → List Reply → Type 0
+Sends WriteFault old new replies = SendsInPart old new replies
+Sends status old new replies = Appends old new (output replies)
 
 -- When a run ends so, with these bytes taken and these left.
 abbrev pub EndsWith : Status → Option (List ℕ) → List ℕ → Bool → Type 0
@@ -85,16 +90,18 @@ abbrev pub status_at_end : List ℕ → Status
 status_at_end [] = Done
 status_at_end (b ∷ bs) = CutLine
 
--- A run that served its source: what was written are the session's replies to the whole lines of
--- the bytes taken, up to an `end`; and the counters have risen by no more than these give.
+-- A run that served its source: what was written are the session's replies to the whole lines of the bytes taken, up to
+-- an `end`, or to so many of them, where the sink failed at the last one; and the counters have risen by no more than these
+-- lines give.
 pub record Served (left remaining written grown : Option (List ℕ)) (before after : Work) (status : Status) : Type 0 where
   pub taken : List ℕ
+  pub count : ℕ
   pub replies : List Reply
   pub state : State
   pub takes : Consumes left remaining taken
   pub within : StaysOpen taken
-  pub most : ℕ
-  pub answers : AnswersReading start (whole_lines taken) replies state most
-  pub writes : Writes status written grown (output replies)
+  pub most : Work
+  pub answers : AnswersTaking start (answered_lines status count (whole_lines taken)) replies state most
+  pub writes : Sends status written grown replies
   pub spent : IsSpent start state replies most before after
   pub ends : EndsWith status remaining taken state.ended

@@ -1,9 +1,9 @@
 -- What was written of some bytes.
-use Rattle.std.specs.Prelude.{◌≡◌, ℕ, ◌+◌, ◌≤◌, List, [], ◌∷◌, ◌++◌, length, filter, Option}
+use Rattle.std.specs.Prelude.{◌≡◌, ℕ, ◌+◌, ◌≤◌, List, [], ◌∷◌, ◌++◌, length, filter, take, Option}
 use Rattle.std.specs.List.{flat_map}
 use Rattle.std.specs.Io.KnownBytes.{Appends}
 use Rattle.hc_json.specs.Reply.{Reply, reply_line}
-use Rattle.hc_session.specs.Session.{State, Turns, AnswersReading, is_no_memory, line_bytes}
+use Rattle.hc_session.specs.Session.{State, Turns, AnswersTaking, Work, is_no_memory, line_work}
 
 -- The lines of these replies.
 abbrev pub output : List Reply → List ℕ
@@ -13,20 +13,12 @@ output replies = flat_map reply_line replies
 abbrev pub refusals : List Reply → ℕ
 refusals replies = length (filter is_no_memory replies)
 
--- What the counters count: evaluations, and bytes of texts that were read.
-pub record Work : Type 0 where
-  pub evals : ℕ
-  pub bytes : ℕ
-
-abbrev pub work : ℕ → ℕ → Work
-work evals bytes = record { evals = evals; bytes = bytes }
-
--- The one has risen by no more than the evaluations that are counted, and by one for each line for which memory was
--- refused; the other by no more than so many bytes, unless memory was refused for a line.
-pub record IsSpent (old new : State) (replies : List Reply) (most : ℕ) (before after : Work) : Type 0 where
+-- Evaluations have risen by no more than the session counts and the lines may take beside that; and bytes by no more than
+-- the lines may take, unless memory was refused for a line.
+pub record IsSpent (old new : State) (replies : List Reply) (most before after : Work) : Type 0 where
   pub rises : before.evals ≤ after.evals
-  pub evals : after.evals + old.evaluations ≤ before.evals + new.evaluations + refusals replies
-  pub bytes : refusals replies ≡ 0 → after.bytes ≤ before.bytes + most
+  pub evals : after.evals + old.evaluations ≤ before.evals + new.evaluations + most.evals
+  pub bytes : refusals replies ≡ 0 → after.bytes ≤ before.bytes + most.bytes
 
 -- A front of these bytes was written.
 pub record AppendsFront (old new : Option (List ℕ)) (bytes : List ℕ) : Type 0 where
@@ -35,35 +27,47 @@ pub record AppendsFront (old new : Option (List ℕ)) (bytes : List ℕ) : Type 
   pub whole : bytes ≡ sent ++ unsent
   pub written : Appends old new sent
 
+-- The lines of these replies were written, of the last one's a front.
+pub record SendsInPart (old new : Option (List ℕ)) (replies : List Reply) : Type 0 where
+  pub sent : List Reply
+  pub last : Reply
+  pub are : replies ≡ sent ++ last ∷ []
+  pub front : List ℕ
+  pub unsent : List ℕ
+  pub line : reply_line last ≡ front ++ unsent
+  pub written : Appends old new (output sent ++ front)
+
 -- A line in a state was answered: all of its reply was written, or a front of it.
 pub record AnswersLine (old new : State) (line : List ℕ)
     (written grown : Option (List ℕ)) (before after : Work) : Type 0 where
   pub reply : Reply
   pub turns : Turns old line reply new
   pub writes : Appends written grown (reply_line reply)
-  pub spent : IsSpent old new (reply ∷ []) (line_bytes old line) before after
+  pub spent : IsSpent old new (reply ∷ []) (line_work old line reply) before after
 
 pub record AnswersInPart (old new : State) (line : List ℕ)
     (written grown : Option (List ℕ)) (before after : Work) : Type 0 where
   pub reply : Reply
   pub turns : Turns old line reply new
   pub writes : AppendsFront written grown (reply_line reply)
-  pub spent : IsSpent old new (reply ∷ []) (line_bytes old line) before after
+  pub spent : IsSpent old new (reply ∷ []) (line_work old line reply) before after
 
--- The same of several lines, where the state after a fault of the sink does not count.
+-- Several lines were answered.
 pub record AnswersLines (old new : State) (lines : List (List ℕ))
     (written grown : Option (List ℕ)) (before after : Work) : Type 0 where
   pub replies : List Reply
-  pub most : ℕ
-  pub answers : AnswersReading old lines replies new most
+  pub most : Work
+  pub answers : AnswersTaking old lines replies new most
   pub writes : Appends written grown (output replies)
   pub spent : IsSpent old new replies most before after
 
+-- So many of these lines were answered, the last one in part: there the sink failed.
 pub record AnswersLinesInPart (old : State) (lines : List (List ℕ))
     (written grown : Option (List ℕ)) (before after : Work) : Type 0 where
+  pub count : ℕ
   pub replies : List Reply
   pub state : State
-  pub most : ℕ
-  pub answers : AnswersReading old lines replies state most
-  pub writes : AppendsFront written grown (output replies)
+  pub most : Work
+  pub answers : AnswersTaking old (take count lines) replies state most
+  pub writes : SendsInPart written grown replies
   pub spent : IsSpent old state replies most before after

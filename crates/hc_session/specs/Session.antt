@@ -216,18 +216,43 @@ line_bytes state line = command_bytes state (command_of line)
 
 -- ---- several lines
 
--- The session may give these replies to these lines, one after another, and leave this state; and they may read so many
--- bytes of texts. Lines behind an `end` have no replies.
-abbrev pub AnswersReading : State → List (List ℕ) → List Reply → State → ℕ → Type 0
-AnswersReading old [] replies new most = (replies ≡ []) × (new ≡ old) × (most ≡ 0)
-AnswersReading old (line ∷ lines) replies new most =
-    ((old.ended ≡ true) × (replies ≡ []) × (new ≡ old) × (most ≡ 0))
-    ⊎ ((old.ended ≡ false) × (said : Reply) × (rest : List Reply) × (mid : State) × (more : ℕ)
-    × (replies ≡ said ∷ rest) × (most ≡ line_bytes old line + more)
-    × Turns old line said mid × AnswersReading mid lines rest new more)
+-- What the counters count: evaluations, and bytes of texts that were read.
+pub record Work : Type 0 where
+  pub evals : ℕ
+  pub bytes : ℕ
+
+abbrev pub work : ℕ → ℕ → Work
+work evals bytes = record { evals = evals; bytes = bytes }
+
+abbrev pub both : Work → Work → Work
+both one other = work (one.evals + other.evals) (one.bytes + other.bytes)
+
+-- An ask is evaluated at most once, and nothing else is.
+abbrev pub command_evals : Result Command Refusal → ℕ
+command_evals (Ok (ask question)) = 1
+command_evals other = 0
+
+abbrev pub is_no_memory : Reply → Bool
+is_no_memory reply.no_memory = true
+is_no_memory other = false
+
+-- What a line may take beside the evaluations that the session counts: one evaluation where it is an ask that is answered
+-- `no_memory`, and the bytes of the texts that it may read.
+abbrev pub line_work : State → List ℕ → Reply → Work
+line_work old line said = work (if is_no_memory said then command_evals (command_of line) else 0) (line_bytes old line)
+
+-- The session may give these replies to these lines, one after another, and leave this state; and the lines may take so
+-- much. Lines behind an `end` have no replies.
+abbrev pub AnswersTaking : State → List (List ℕ) → List Reply → State → Work → Type 0
+AnswersTaking old [] replies new most = (replies ≡ []) × (new ≡ old) × (most ≡ work 0 0)
+AnswersTaking old (line ∷ lines) replies new most =
+    ((old.ended ≡ true) × (replies ≡ []) × (new ≡ old) × (most ≡ work 0 0))
+    ⊎ ((old.ended ≡ false) × (said : Reply) × (rest : List Reply) × (mid : State) × (more : Work)
+    × (replies ≡ said ∷ rest) × (most ≡ both (line_work old line said) more)
+    × Turns old line said mid × AnswersTaking mid lines rest new more)
 
 abbrev pub Answers : State → List (List ℕ) → List Reply → State → Type 0
-Answers old lines replies new = (most : ℕ) × AnswersReading old lines replies new most
+Answers old lines replies new = (most : Work) × AnswersTaking old lines replies new most
 
 -- ---- a call
 
@@ -242,10 +267,6 @@ abbrev pub said_of : Reply → Said
 said_of (reply.outcome outcome) = said_of_outcome outcome
 said_of (reply.trailed answer) = said_of_outcome answer.outcome
 said_of other = is.Other
-
-abbrev pub is_no_memory : Reply → Bool
-is_no_memory reply.no_memory = true
-is_no_memory other = false
 
 -- What is given for a reply: its line, and what a summary counts of it.
 pub record Says (said : Reply) (stepped : Stepped) : Type 0 where
@@ -287,8 +308,8 @@ abbrev pub new_turn : State → Request → Bool → Result Config Refusal → T
 new_turn state request trail (Ok config) = evaluated_turn state request trail (answer_of state.world.files config request)
 new_turn state request trail (Err refusal) = refusing state refusal
 
--- The counter rises as the evaluations do; where no memory was found, by one at most.
-abbrev pub Counts : {A : Type 0} → Result A NoMemory → State → State → ℕ → ℕ → Type 0
-Counts (Ok made) old new before after =
-    (before ≤ after) × (after + old.evaluations ≡ before + new.evaluations)
-Counts (Err _) old new before after = (before ≤ after) × (after ≤ before + 1)
+-- The counter rises by at most so much, and where there is an answer as the evaluations do.
+abbrev pub Counts : {A : Type 0} → Result A NoMemory → ℕ → State → State → ℕ → ℕ → Type 0
+Counts (Ok made) most old new before after =
+    (before ≤ after) × (after ≤ before + most) × (after + old.evaluations ≡ before + new.evaluations)
+Counts (Err _) most old new before after = (before ≤ after) × (after ≤ before + most)

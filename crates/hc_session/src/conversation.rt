@@ -3,8 +3,7 @@ ghost use Rattle.std.specs.Prelude.{[], IfOk, OnErr, length};
 ghost use Rattle.std.specs.Io.KnownBytes.{Consumes, Keeps, IsAtEnd};
 ghost use Rattle.hc_base.specs.Faults.{HasCause};
 ghost use Rattle.hc_session.specs.Conversation.{Served, Completes, status_at_end};
-ghost use Rattle.hc_session.specs.Sending.{work};
-ghost use Rattle.hc_session.specs.Session.{start};
+ghost use Rattle.hc_session.specs.Session.{start, work};
 
 use crate::limits::{CHUNK, LINE_LIMIT, SCRIPT_LIMIT};
 use crate::line_buffer::LineBuffer;
@@ -35,10 +34,11 @@ pub fn serve_session<S: Source, K: Sink, E: Ledger, B: Ledger>(
         → result ≢ Status.NoMemory
         → Completes (S.left source.old) (K.written sink.old) (K.written sink.new) result }
 
-    // In every case what was written is a front of the replies to the whole lines taken, and all
-    // of them unless the sink failed; `evals` has risen by no more than the evaluations that they
-    // count, and by one for each `no_memory`; and `bytes`, where none of them is that, by no more
-    // than the texts that the lines may read.
+    // In every case what was written are the replies to the whole lines taken, unless the sink
+    // failed: then those to some of them, of the last one's a front. `evals` has risen by no more
+    // than the evaluations that these lines count, and by one for each ask among them that was
+    // answered `no_memory`; and `bytes`, where no line was, by no more than the texts that they may
+    // read.
     ensures served { result ≢ Status.NoMemory
         → Served (S.left source.old) (S.left source.new)
         (K.written sink.old) (K.written sink.new)
@@ -48,6 +48,7 @@ pub fn serve_session<S: Source, K: Sink, E: Ledger, B: Ledger>(
     ensures read_fault { result ≡ Status.ReadFault → S.faults source.old < S.faults source.new }
     ensures write_fault { result ≡ Status.WriteFault → K.faults sink.old < K.faults sink.new }
     ensures untouched { result ≡ Status.NoMemory → (source.new ≡ source.old) × (sink.new ≡ sink.old) }
+    ensures idle { result ≡ Status.NoMemory → work evals.new bytes.new ≡ work evals.old bytes.old }
 {
     match Desk::new(alloc) {
         Ok(mut desk) => serve(

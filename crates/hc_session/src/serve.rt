@@ -3,7 +3,8 @@ ghost use Rattle.std.specs.Io.KnownBytes.{Appends};
 ghost use Rattle.hc_base.specs.Faults.{HasCause};
 ghost use Rattle.hc_base.specs.Lines.{whole_lines, rest_of};
 ghost use Rattle.hc_session.specs.Sending.{AppendsFront, AnswersLine, AnswersInPart, AnswersLines};
-ghost use Rattle.hc_session.specs.Sending.{AnswersLinesInPart, work};
+ghost use Rattle.hc_session.specs.Sending.{AnswersLinesInPart};
+ghost use Rattle.hc_session.specs.Session.{work};
 ghost use Rattle.hc_session.specs.declared.limits.TheConstants.{LINE_LIMIT};
 
 use crate::line_buffer::LineBuffer;

@@ -5,8 +5,8 @@ ghost use Rattle.hc_json.specs.CommandView.{question_view, request_view};
 ghost use Rattle.hc_kept.specs.Site.{is_current_site};
 ghost use Rattle.hc_session.specs.Changes.{changed_by, done_of};
 ghost use Rattle.hc_session.specs.Session.{Counts, EditTurn, Gave, IsTurn, StepTurn, ask_turn};
-ghost use Rattle.hc_session.specs.Session.{ask_bytes, check_turn, command_bytes, end_turn, evaluated_turn, is_kept};
-ghost use Rattle.hc_session.specs.Session.{kept_turn, main_turn, new_bytes, new_turn, present, reads_nothing};
+ghost use Rattle.hc_session.specs.Session.{ask_bytes, check_turn, command_bytes, command_evals, end_turn};
+ghost use Rattle.hc_session.specs.Session.{evaluated_turn, is_kept, kept_turn, main_turn, new_bytes, new_turn, present, reads_nothing};
 ghost use Rattle.hc_session.specs.Session.{site_bytes, start, stats_turn};
 ghost use Rattle.hc_session.specs.Sound.{IsAnswerOf, IsSite};
 
@@ -101,8 +101,8 @@ impl Session {
         self.evaluations
     }
 
-    /// Answers a line with the line of its reply. Want of memory leaves all as before. `evals` rises by one where a
-    /// request is evaluated, and `bytes` by the bytes of the configuration texts that are read.
+    /// Answers a line with the line of its reply. Want of memory leaves all as before. `evals` rises by one where the
+    /// request of an ask is evaluated, and `bytes` by the bytes of the configuration texts that are read.
     #[tactic(auto, unfolding(crate::specs::Session::command_bytes))]
     pub fn step<E: Ledger, L: Ledger>(
         &mut self,
@@ -111,12 +111,12 @@ impl Session {
         bytes: &mut Steps<L>,
     ) -> Result<Stepped, NoMemory>
         ensures turned { StepTurn result self.old line.now self.new }
-        ensures evals { Counts result self.old self.new evals.old evals.new }
+        ensures evals { Counts result (command_evals (command_of line.now)) self.old self.new evals.old evals.new }
         ensures idle { reads_nothing self.old (command_of line.now) ≡ true → bytes.new ≡ bytes.old }
         ensures bytes { OnOk result (bytes.new ≤ bytes.old + command_bytes self.old (command_of line.now)) }
     {
         let value = parse(self.alloc, line)?;
-        match command_in(&value) {
+        match command_in(self.alloc, &value)? {
             Ok(Command::Put { path, text }) => self.edit(Change::Put { path, text }),
             Ok(Command::ListPath { path, kind }) => self.edit(Change::ListPath { path, kind }),
             Ok(Command::DropPath { path }) => self.edit(Change::DropPath { path }),
@@ -216,7 +216,7 @@ impl Session {
         requires { begins_with_slash asked.now.target.now ≡ true }
         ensures turned { Gave result (IsTurn (ask_turn self.old (question_view asked.now) (present self.old)))
             self.old self.new }
-        ensures evals { Counts result self.old self.new evals.old evals.new }
+        ensures evals { Counts result 1 self.old self.new evals.old evals.new }
         ensures idle { is_kept self.old (request_view asked.now) ≡ true → bytes.new ≡ bytes.old }
         ensures bytes { OnOk result (bytes.new ≤ bytes.old + ask_bytes self.old (request_view asked.now)) }
     {
@@ -255,7 +255,7 @@ impl Session {
         requires asks { self.old.asks < 2 ^ 64 - 1 }
         requires evaluations { self.old.evaluations < 2 ^ 64 - 1 }
         ensures turned { Gave result (IsTurn (new_turn self.old request trail (present self.old))) self.old self.new }
-        ensures evals { Counts result self.old self.new evals.old evals.new }
+        ensures evals { Counts result 1 self.old self.new evals.old evals.new }
         ensures bytes { OnOk result (bytes.new ≤ bytes.old + new_bytes self.old request) }
     {
         let mut site = self.take_site(bytes)?;

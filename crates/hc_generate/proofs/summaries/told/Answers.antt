@@ -1,8 +1,7 @@
-use Rattle.std.proofs.Common.{◌≡◌, ◌+◌, ◌++◌, arith, ℕ, List, [], ◌∷◌, subst, refl, append-nil}
-use Rattle.std.proofs.lemmas.Result.{IfOk-weaker}
+use Rattle.std.proofs.Common.{◌≡◌, ◌++◌, ℕ, List, [], ◌∷◌, subst, refl, append-nil}
 use Rattle.hc_json.specs.Reply.{Reply}
-use Rattle.hc_session.specs.Sending.{Work, work}
-use Rattle.hc_session.specs.Session.{AnswersReading, State, start}
+use Rattle.hc_session.proofs.Answering.{none_last}
+use Rattle.hc_session.specs.Session.{AnswersTaking, State, Work, both, start, work}
 use Rattle.hc_generate.specs.Run.{Takes}
 use Rattle.hc_generate.specs.Script.{files_behind, script_of}
 use Rattle.hc_generate.specs.Summary.{IsSummary, nothing_said, summary_line}
@@ -11,13 +10,12 @@ use Rattle.hc_generate.specs.declared.step.Step.TheVariants.{Main}
 use Rattle.hc_generate.proofs.summaries.told.Goals as goal
 
 -- No line is left.
-answered : (old first new : State) (lines : List (List ℕ)) (said : List Reply) (most : ℕ) → old ≡ first
-    → ((rest : List Reply) (end : State) (more : ℕ) → AnswersReading new [] rest end more → AnswersReading old lines (said ++ rest) end (most + more))
-    → AnswersReading first lines said new most
+answered : (old first new : State) (lines : List (List ℕ)) (said : List Reply) (most : Work) → old ≡ first
+    → ((rest : List Reply) (end : State) (more : Work) → AnswersTaking new [] rest end more → AnswersTaking old lines (said ++ rest) end (both most more))
+    → AnswersTaking first lines said new most
 answered old first new lines said most same answers =
-    let all : most + 0 ≡ most = omega arith in
-    subst (λ s. AnswersReading s lines said new most) same
-    (subst (AnswersReading old lines said new) all (subst (λ r. AnswersReading old lines r new (most + 0)) (append-nil said) (answers [] new 0 (refl, refl, refl))))
+    subst (λ s. AnswersTaking s lines said new most) same
+    (subst (AnswersTaking old lines said new) (none_last most) (subst (λ r. AnswersTaking old lines r new (both most (work 0 0))) (append-nil said) (answers [] new (work 0 0) (refl, refl, refl))))
 
 -- A run from the start that leaves no step.
 summed : (old new : Run) (seed x : ℕ) (k n : Work) (line : List ℕ) → (old.session ≡ start) × (old.tally ≡ nothing_said) → x ≡ seed
@@ -26,12 +24,10 @@ summed old new seed x k n line fresh same goes told = record {
   replies = goes.said;
   state = new.session;
   most = goes.most;
-  answers = subst (λ s. AnswersReading start (script_of s) goes.said new.session goes.most) same (answered _ start _ (script_of x) goes.said goes.most fresh.0 goes.answers);
+  answers = subst (λ s. AnswersTaking start (script_of s) goes.said new.session goes.most) same (answered _ start _ (script_of x) goes.said goes.most fresh.0 goes.answers);
   told = rw (← fresh.1, ← goes.counts) told;
   spent = rw (← fresh.0) goes.spent;
 }
 
 pub returns : goal.returns
-returns g c =
-    IfOk-weaker c.print.result _ (λ line. IsSummary c.args.seed line (work c.args.evals.now c.args.bytes.now) (work c.take_all.new.evals c.take_all.new.bytes))
-    (λ line told. summed _ _ _ _ _ _ line c.requires c.new.ensures c.in_ok-take_all.ensures told) c.print.ensures
+returns g c = summed _ _ _ _ _ _ _ c.requires.fresh c.new.ensures c.take_all.ensures c.tell.ensures

@@ -1,6 +1,6 @@
 use Rattle.hc_session.proofs.Common.{◌-◌, ◌≤◌, SCRIPT_LIMIT}
 use Rattle.hc_session.proofs.Serving.{Serving}
-use Rattle.hc_session.specs.Sending.{work}
+use Rattle.hc_session.specs.Session.{work}
 use Rattle.hc_session.proofs.conversation.serve.Given as goal
 
 abbrev pub invariant-reads : goal.invariant-reads

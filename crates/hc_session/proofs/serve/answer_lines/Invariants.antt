@@ -1,6 +1,6 @@
 use Rattle.std.proofs.Common.{◌≤◌, ◌++◌, length}
 use Rattle.hc_session.proofs.AnsweringLoop.{Answering}
-use Rattle.hc_session.specs.Sending.{work}
+use Rattle.hc_session.specs.Session.{work}
 use Rattle.hc_session.proofs.serve.answer_lines.Given as goal
 
 abbrev pub invariant-loop-end : goal.invariant-loop-end

@@ -1,5 +1,5 @@
 use Rattle.hc_generate.proofs.Ordered.{IsOn}
-use Rattle.hc_session.specs.Sending.{work}
+use Rattle.hc_session.specs.Session.{work}
 use Rattle.hc_generate.specs.Script.{file_step}
 use Rattle.hc_generate.specs.declared.draws.TheConstants.{FILES}
 use Rattle.hc_generate.proofs.run.Run.list_files.Given as goal
