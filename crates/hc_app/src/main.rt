@@ -1,5 +1,16 @@
 //! hc, an analyser of Apache HTTP Server 2.4 configuration. It reads a script of JSON lines on
 //! standard input and answers each by a line of JSON on standard output.
+//!
+//! `run` does all that the program does. `complete`: where the words ask to serve the source, the source tells its
+//! bytes, no fault was counted in the call and the status isn't 5, what was written is the replies of the session
+//! to the whole lines of these bytes, up to an `end`, and the status is the session's. `served`: in every run that
+//! served its source, the lines that were answered have these replies, what was written is theirs, or a front of it
+//! after a fault of the sink, each status comes only where its row says so, and the counters have risen by no more
+//! than these lines give. `generated`: with `--generate` the line that was written, or a front of it, sums up a run
+//! of the session over the script of the seed, and the source is as before. `words`, `refused`, `read_fault`,
+//! `write_fault`, `untouched`: status 2 comes only where the words are refused, and there comes it or 5; 3 and 4
+//! only where the count of that source or sink rose in the call; after 2 and 5 nothing was read and nothing
+//! written, and nothing counted that no line gives.
 #![tactic(auto)]
 
 ghost use Rattle.std.specs.Prelude.{◌≡◌, ◌-◌, ◌<◌, ◌^◌};

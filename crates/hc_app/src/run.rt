@@ -14,7 +14,7 @@ use std::sync::ledger::Ledger;
 /// All that the program does: it answers each line of the source by a line to the sink, until an
 /// `end` is answered, the source ends, or a line or the script reaches its limit; or it runs a
 /// script that is made from a seed, and writes its summary. `evals` rises by one for each request
-/// that is evaluated, and `bytes` by the bytes of the configuration texts that are read.
+/// that is evaluated, and `bytes` by the bytes of the configuration and `.htaccess` texts that are read.
 pub fn run<S: Source, K: Sink, E: Ledger, B: Ledger>(
     alloc: Global,
     words: &[String],

@@ -1,5 +1,11 @@
 //! What every crate of hc speaks of: texts, lists, places and refusals; sources and sinks that
 //! count their faults; a counter that costs nothing.
+//!
+//! `laws::a_text_is_its_lines`: a text is its whole lines, each with its LF, and a rest without LF, and there is no
+//! other way to cut it so. `VecSource` fails exactly at the calls of its plan, and `VecSink` there and where it has
+//! no room. `StdSource` and `StdSink` count each failure that they answer, and lose no byte where the reader or
+//! writer below tells its bytes. `Steps::tick` adds one; texts, lent texts and lists are what they were made of;
+//! `name_of_code` is the table of refusals.
 #![tactic(auto)]
 
 mod boxed;

@@ -1,4 +1,10 @@
 //! Deterministic automata over bytes, as sets of texts.
+//!
+//! Not used by the program yet: deterministic automata as sets of texts. `determinize` accepts exactly what a path
+//! of the machine reads; `product`, `complement` and `byte_image` accept exactly the sets that their names say,
+//! `single` one text alone, and `reduce` what it is given; `least` is the first of the shortest texts, or there is
+//! none; `included` says yes, or has the least text that is outside; `first_members` gives the first texts in
+//! order.
 #![tactic(auto)]
 
 mod classes;

@@ -1,4 +1,7 @@
 //! A script that is made from a seed, run, and told in one line.
+//!
+//! `summary` runs the script that a seed makes (`script_of` in specs/Script.antt) through a session, and gives the
+//! line that sums it up (`IsSummary` in specs/Summary.antt).
 #![tactic(auto)]
 
 mod draws;

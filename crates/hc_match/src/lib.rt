@@ -1,4 +1,8 @@
 //! The first match of a pattern in a text.
+//!
+//! `first_match` answers the match at the least place that has one, and of the ways there the first, with what each
+//! group holds (`first_match` in hc_ways/specs/Kept.antt). Two searches stand under this one clause: a straight one
+//! over the tree, and one with a table of failed pairs of a step and a place.
 #![tactic(auto)]
 
 mod captures;

@@ -1,4 +1,9 @@
 //! The types of the model, and in `specs/` what a world, a configuration, a name and a request mean.
+//!
+//! All types of a request, a configuration, rewriting, authorization and claims, those of claims not used yet, and
+//! the definitions of a world and a walk; each clone equals what it is made of. Rules stand in a list (`Rules`)
+//! whose copies are meant to share it, which no clause says. An `Expression` is a list of steps that contracts see
+//! as a tree, and a `Requirement` a list of trees that they see as one.
 #![tactic(auto)]
 
 mod authorization;

@@ -10,7 +10,7 @@ pub enum Scheme {
     Https,
 }
 
-/// A name with its value: a header of a request, or a variable.
+/// A header of a request: its name and its value.
 #[derive(Clone, PartialEq, Eq, Hash, Drop)]
 pub struct Header {
     pub name: Text,

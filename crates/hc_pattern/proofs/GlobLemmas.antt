@@ -1,6 +1,6 @@
 -- How a glob is read.
-use Rattle.hc_pattern.proofs.Common.{◌≡◌, ℕ, zero, suc, ◌+◌, ◌-◌, ◌<◌, ◌==◌, Bool, true, false, not, ◌&&◌, ◌||◌, List, [], ◌∷◌, ◌++◌, Result, Ok, Err, refl, sym, ap, ◌∙◌, append_assoc, arith, length, take, drop, get_or, ◌≤◌, map-append, map, GlobPiece, before_all, in_a_row, marks_from, may_be, more_of, patterns_of, piece_at, piece_pattern, pieces_of, Pattern, cat, finish, pattern_of}
-use Rattle.hc_pattern.proofs.Rests.{next_item, rest_is}
+use Rattle.hc_pattern.proofs.Common.{◌≡◌, ℕ, zero, suc, ◌+◌, ◌-◌, ◌<◌, ◌==◌, Bool, true, false, not, ◌&&◌, ◌||◌, List, [], ◌∷◌, ◌++◌, Result, Ok, Err, refl, sym, ap, ◌∙◌, append_assoc, arith, length, drop, get_or, ◌≤◌, map-append, map, GlobPiece, before_all, in_a_row, marks_from, may_be, more_of, patterns_of, piece_at, piece_pattern, pieces_of, Pattern, cat, finish, pattern_of}
+use Rattle.hc_pattern.proofs.Rests.{next_item}
 use Rattle.hc_base.specs.declared.fault.AtByte.{AtByte}
 use Rattle.hc_pattern.specs.declared.mark.Mark.{Mark}
 use Rattle.hc_pattern.specs.declared.pat.Pat.{Pat}
@@ -55,12 +55,11 @@ passed_step keeps pats marks passed i mark within some =
 
 -- The next byte begins a piece.
 pub piece_step : (keeps : Bool) (pats all : List Pat) (pat : Pat) (marks : List Mark) (passed more i : ℕ) (piece : GlobPiece) (mark : Mark) → i < length marks → passed ≤ 0
-    → piece ≡ piece_at (get_or marks i mark) (take (length marks - (i + 1)) (drop (i + 1) marks)) → more ≡ more_of piece → piece_pattern keeps piece ≡ Ok (pattern_of pat) → all ≡ pats ++ pat ∷ []
+    → piece ≡ piece_at (get_or marks i mark) (drop (i + 1) marks) → more ≡ more_of piece → piece_pattern keeps piece ≡ Ok (pattern_of pat) → all ≡ pats ++ pat ∷ []
     → behind (map pattern_of all) (patterns_of keeps (pieces_of more (drop (i + 1) marks))) ≡ behind (map pattern_of pats) (patterns_of keeps (pieces_of passed (drop i marks)))
-piece_step keeps pats all pat marks passed more i piece mark within none is follow read added =
+piece_step keeps pats all pat marks passed more i piece mark within none same follow read added =
     let rest = drop (i + 1) marks in
     let zero_passed : passed ≡ 0 = omega arith in
-    let same : piece ≡ piece_at (get_or marks i mark) rest = is ∙ ap (piece_at (get_or marks i mark)) (rest_is marks i) in
     ap (λ n. behind (map pattern_of all) (patterns_of keeps (pieces_of n rest))) (follow ∙ ap more_of same)
     ∙ sym (more_patterns keeps pats all pat (get_or marks i mark) rest added (ap (piece_pattern keeps) (sym same) ∙ read))
     ∙ ap (λ l. behind (map pattern_of pats) (patterns_of keeps (pieces_of 0 l))) (sym (next_item marks i mark within))

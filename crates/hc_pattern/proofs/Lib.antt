@@ -3,6 +3,7 @@
 -- passed, in the definition and in the loop, so that the recursion stays structural.
 pub mod Common
 pub mod Sets
+pub mod Unclosed
 pub mod GlobLemmas
 pub mod ClassLemmas
 pub mod TokenLemmas

@@ -1,8 +1,9 @@
 ghost use Rattle.std.specs.Prelude.{◌≡◌, ℕ, ◌+◌, ◌^◌, ◌<◌, ◌∷◌, [], Bool, length, map, IfOk};
-ghost use Rattle.std.specs.Prelude.{IfSome, MatchOption, if◌then◌else◌, ◌&&◌};
+ghost use Rattle.std.specs.Prelude.{IfSome, MatchOption, if◌then◌else◌, ◌&&◌, ◌||◌, not};
+ghost use Rattle.hc_base.specs.Bytes.{bracket_open};
 ghost use Rattle.hc_pattern.specs.Bits.{IsTested, set_where};
 ghost use Rattle.hc_pattern.specs.Globs.{anchored, glob_pattern, has_wildcard, in_a_row};
-ghost use Rattle.hc_pattern.specs.Globs.{in_class, is_wildcard, marks_from};
+ghost use Rattle.hc_pattern.specs.Globs.{in_class, is_wildcard, marks_from, means};
 ghost use Rattle.hc_pattern.specs.Globs.{may_be, more_of, patterns_of, piece_at};
 ghost use Rattle.hc_pattern.specs.Globs.{piece_pattern, pieces_of, some_wildcard};
 ghost use Rattle.hc_pattern.specs.GlobViews.{GivesPatterns, class_view, piece_view};
@@ -72,9 +73,9 @@ fn first_mark(text: &[u8], at: u32) -> Option<(Mark, &[u8])>
     Some((plain, rest))
 }
 
-// The piece that begins with this byte. A `[` that isn't closed is a byte.
-fn piece_at<'m>(mark: Mark, more: &'m [Mark]) -> GlobPiece<'m>
-    ensures { piece_view result ≡ piece_at mark more.now }
+// The piece that begins with this byte. A `[` that isn't closed is a byte; behind an unclosed one none is closed.
+fn piece_at<'m>(unclosed: bool, mark: Mark, more: &'m [Mark]) -> GlobPiece<'m>
+    ensures { piece_view result ≡ piece_at mark (if unclosed then [] else more.now) }
 {
     if mark.means(b'?') {
         return GlobPiece::AnyByte;
@@ -82,13 +83,20 @@ fn piece_at<'m>(mark: Mark, more: &'m [Mark]) -> GlobPiece<'m>
     if mark.means(b'*') {
         return GlobPiece::AnyBytes;
     }
-    if !mark.means(b'[') {
+    if unclosed || !mark.means(b'[') {
         return GlobPiece::Plain(mark.byte);
     }
     match class_of(more) {
         Some(class) => GlobPiece::OneOf(class),
         None => GlobPiece::Plain(mark.byte),
     }
+}
+
+// A `[` isn't closed, before this piece or in it.
+fn with_unclosed(unclosed: bool, mark: Mark, piece: GlobPiece<'_>) -> bool
+    ensures { result ≡ (unclosed || means bracket_open mark && not (is_wildcard (piece_view piece.entry))) }
+{
+    unclosed || mark.means(b'[') && !is_wildcard(piece)
 }
 
 // How many bytes of a piece follow its first one.
@@ -157,13 +165,15 @@ fn patterns(alloc: Global, marks: &[Mark], keeps_slash: bool) -> Result<Vec<Pat>
 {
     let mut patterns = Vec::new(alloc);
     let mut passed = 0usize;
+    let mut unclosed = false;
     for (i, mark) in marks.iter().enumerate() {
         if passed > 0 {
             passed -= 1;
             continue;
         }
-        let piece = piece_at(*mark, &marks[i + 1..]);
+        let piece = piece_at(unclosed, *mark, &marks[i + 1..]);
         passed = more_of(piece);
+        unclosed = with_unclosed(unclosed, *mark, piece);
         patterns.push(piece_pattern(alloc, piece, keeps_slash)?)?;
     }
     Ok(patterns)
@@ -219,10 +229,13 @@ pub fn has_wildcard(alloc: Global, text: &[u8]) -> Result<bool, NoMemory>
 fn some_wildcard(marks: &[Mark]) -> bool
     ensures { result ≡ some_wildcard marks.now }
 {
+    let mut unclosed = false;
     for (i, mark) in marks.iter().enumerate() {
-        if is_wildcard(piece_at(*mark, &marks[i + 1..])) {
+        let piece = piece_at(unclosed, *mark, &marks[i + 1..]);
+        if is_wildcard(piece) {
             return true;
         }
+        unclosed = with_unclosed(unclosed, *mark, piece);
     }
     false
 }

@@ -1,4 +1,8 @@
 //! Patterns of Apache rules: a part of Perl's regular expressions (PCRE, "pcrepattern").
+//!
+//! `parse_pattern` gives exactly the pattern that docs/RULES.md reads in a text, or the first refusal with its byte
+//! (specs/Reading.antt); `glob_pattern` does so for globs (specs/Globs.antt). `ByteSet` has exactly the bytes that
+//! its calls say.
 #![tactic(auto)]
 
 mod build;

@@ -1,7 +1,7 @@
 -- What a rule that matches does: its variables, its status and its substitution.
 -- Apache manual, mod_rewrite: RewriteRule; RewriteBase; "RewriteRule Flags". The order of variables and substitution, the longest text,
 -- and what is outside, are our own choice.
-use Rattle.std.specs.Prelude.{ℕ, ◌==◌, List, [], ◌∷◌, ◌++◌, length, Bool, true, false, not, ◌&&◌, ◌||◌, nat_lt, if◌then◌else◌}
+use Rattle.std.specs.Prelude.{ℕ, ◌==◌, List, [], ◌++◌, length, Bool, true, false, not, ◌&&◌, ◌||◌, nat_lt, if◌then◌else◌}
 use Rattle.std.specs.Prelude.{Option, Some, None, is_some, Result, Ok, Err}
 use Rattle.hc_base.specs.Paths.{begins_with_slash}
 use Rattle.hc_model.specs.declared.event.Event.TheVariants as event

@@ -1,5 +1,13 @@
 //! Runs of lists of rewriting rules, told as steps: conditions, substitutions and rounds.
 //! Apache manual, mod_rewrite; "Apache mod_rewrite Technical Details"; "RewriteRule Flags".
+//!
+//! `run_rules` runs a list of rules on a text as the steps of specs/Lists.antt: the attempt of one rule
+//! (Attempts.antt) is its pattern, its conditions in groups of OR (Conditions.antt), and then variables, statuses
+//! and the substitution (Substitutions.antt, Locations.antt). In a directory the text is searched with the path
+//! information and without the directory, and `url_path` gives the URL path that it stands for (Directories.antt).
+//! It tells each event and each look, and N begins the list again up to its bound. `laws::run_is_related`,
+//! `laws::list_is_related`: a round, and all rounds together, are what the relation of specs/Relation.antt leads
+//! to; `laws::one_run`, `laws::one_end`: that is one result.
 #![tactic(auto)]
 
 mod attempt;

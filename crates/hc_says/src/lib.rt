@@ -1,5 +1,8 @@
 //! What a directive says to the lines behind it: variables, modules and the server root; and what
 //! variables and conditions come to by that.
+//!
+//! `replaced` gives a text with its variables replaced, `said_of` what a directive says to those behind it or the
+//! rule that it breaks, `body_kept` whether IfDefine or IfModule keeps a body.
 #![tactic(auto)]
 
 mod condition;

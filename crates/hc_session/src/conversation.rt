@@ -17,7 +17,7 @@ use std::sync::ledger::Ledger;
 /// Serves a source: answers each of its lines by a line to the sink, until an `end` is answered, the
 /// source ends, or a line or the script reaches its limit. All that takes memory first (a line
 /// buffer of 16 MiB) is taken before the first byte is read. `evals` rises by one for each request
-/// that is evaluated, and `bytes` by the bytes of the configuration texts that are read.
+/// that is evaluated, and `bytes` by the bytes of the configuration and `.htaccess` texts that are read.
 pub fn serve_session<S: Source, K: Sink, E: Ledger, B: Ledger>(
     alloc: Global,
     source: &mut S,

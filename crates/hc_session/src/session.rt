@@ -102,7 +102,8 @@ impl Session {
     }
 
     /// Answers a line with the line of its reply. Want of memory leaves all as before. `evals` rises by one where the
-    /// request of an ask is evaluated, and `bytes` by the bytes of the configuration texts that are read.
+    /// request of an ask is evaluated, and `bytes` by the bytes of the configuration and `.htaccess`
+    /// texts that are read.
     #[tactic(auto, unfolding(crate::specs::Session::command_bytes))]
     pub fn step<E: Ledger, L: Ledger>(
         &mut self,
