@@ -1,5 +1,5 @@
 -- From one point of a run to another.
-use Rattle.std.proofs.Common.{◌≡◌, ◌∙◌, ◌+◌, ◌≤◌, ℕ, true, false, List, [], ◌∷◌, ◌++◌, fold, sym, ap, subst, refl, inl, inr, arith, append_assoc}
+use Rattle.std.proofs.Common.{◌≡◌, ◌∙◌, ◌+◌, ◌≤◌, ℕ, true, false, List, [], ◌∷◌, ◌++◌, fold, sym, ap, subst, refl, inl, inr, append_assoc}
 use Rattle.std.proofs.lemmas.List.Sums.{fold-append}
 use Rattle.hc_json.specs.Command.{command_of}
 use Rattle.hc_json.specs.Reply.{Reply, no_memory}
