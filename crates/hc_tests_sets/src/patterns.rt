@@ -3,7 +3,7 @@
 use hc_base::codes::{EMPTY_LOOP, PATTERN_SYNTAX, PATTERN_TOO_LARGE, PATTERN_UNSUPPORTED};
 use hc_base::{AtByte, Fault, NoMemory};
 use hc_match::first_match;
-use hc_pattern::{ByteSet, Pat, PatFault, glob_pattern, parse_pattern};
+use hc_pattern::{ByteSet, Pat, PatFault, glob_pattern, has_wildcard, parse_pattern};
 use std::alloc::Global;
 use std::process::Abort;
 use std::test::Fail;
@@ -198,6 +198,10 @@ static GLOBS: &[(&str, bool, &str, bool)] = &[
     ("[]-_]x", false, "^x", true),
     ("[", false, "[", true),
     ("x[!", false, "x[!", true),
+    ("[a[b", false, "[a[b", true),
+    ("[!][?", false, "[!][x", true),
+    ("[![]", false, "[", false),
+    ("[[a]", false, "[", true),
     ("\\*", false, "*", true),
     ("\\*", false, "a", false),
     ("\\*[ab", false, "*[ab", true),
@@ -230,15 +234,54 @@ fn globs_are_refused(rt: HostRuntime) -> Result<(), Fail> {
         at: 3,
     };
     assert!(rt; refusal(glob_pattern(alloc, b"x[az-b]", false)) == Some(falls));
-    let large = AtByte {
-        code: PATTERN_TOO_LARGE,
-        at: 0,
-    };
-    for (count, wanted) in [(4096, None), (4097, Some(large))] {
-        let glob = "?".repeat(alloc, count)?;
+    for (part, count, is_large) in [
+        ("?", 4096, false),
+        ("?", 4097, true),
+        ("[", 4096, false),
+        ("[", 100_000, true),
+    ] {
+        let glob = part.repeat(alloc, count)?;
+        let large = AtByte {
+            code: PATTERN_TOO_LARGE,
+            at: 0,
+        };
+        let wanted = if is_large { Some(large) } else { None };
         assert!(rt;
             refusal(glob_pattern(alloc, glob.as_bytes(), true)) == wanted,
-            "{count}"
+            "{count} of {part}"
+        );
+    }
+    Ok(())
+}
+
+// A part, how many of it stand in the text, what stands behind them, and whether there is a wildcard.
+static WILDCARDS: &[(&str, usize, &str, bool)] = &[
+    ("", 1, "", false),
+    ("a", 1, "?", true),
+    ("\\*", 1, "", false),
+    ("[]", 1, "", false),
+    ("[]]", 1, "", true),
+    ("[!]", 1, "", false),
+    ("[!]", 1, "*", true),
+    ("[!]]", 1, "", true),
+    ("[![", 1, "", false),
+    ("[![", 1, "]", true),
+    ("[", 3000, "]", true),
+    ("[", 100_000, "", false),
+    ("[", 100_000, "\\]", false),
+    ("[", 100_000, "*", true),
+    ("[", 100_000, "]", true),
+];
+
+#[test]
+fn wildcards_are_found(rt: HostRuntime) -> Result<(), Fail> {
+    let alloc = rt.alloc();
+    for &(part, count, behind, wanted) in WILDCARDS {
+        let mut text = part.repeat(alloc, count)?;
+        text.push_str(behind)?;
+        assert!(rt;
+            has_wildcard(alloc, text.as_bytes())? == wanted,
+            "{count} of {part} and {behind}"
         );
     }
     Ok(())
