@@ -3,7 +3,7 @@
 
 ghost use Rattle.std.specs.Prelude.{◌≡◌, ◌<◌};
 
-use crate::world::put;
+use crate::world::{put, put_at};
 use hc_base::{NoMemory, Refusal, Steps, Text};
 use hc_flat::{EntryView, Flat};
 use hc_include::flatten;
@@ -137,7 +137,11 @@ fn flat_counted<L: Ledger>(blank: Blank, alloc: Global, world: &World) -> Result
 /// The flat list of a main file and those that it includes.
 pub fn flat_of(alloc: Global, main: &str, files: &[(&str, &str)]) -> Result<Flat, WorldFault> {
     let world = world_of(alloc, main, files)?;
-    Ok(flat_counted::<Brand>(Blank::new(1), alloc, &world)?)
+    Ok(flat_in(alloc, &world)?)
+}
+
+fn flat_in(alloc: Global, world: &World) -> Result<Flat, NoMemory> {
+    flat_counted::<Brand>(Blank::new(1), alloc, world)
 }
 
 fn world_of(alloc: Global, main: &str, files: &[(&str, &str)]) -> Result<World, WorldFault> {
@@ -238,6 +242,33 @@ fn files_are_flat_lists(rt: HostRuntime) -> Result<(), WorldFault> {
     for &(main, files, wanted) in CASES {
         let shown = show_files(rt.alloc(), main, files)?;
         assert!(rt; shown.as_str() == wanted, "{main}");
+    }
+    Ok(())
+}
+
+// The flat list of a main file that includes a file of this name by a wildcard.
+fn including(alloc: Global, name: &[u8], text: &str) -> Result<Flat, WorldFault> {
+    let mut world = world_of(alloc, "Include /i/*.conf\n", &[])?;
+    put_at(&mut world, name, text)?;
+    Ok(flat_in(alloc, &world)?)
+}
+
+// The number of a refusal in this file.
+fn stopped_in(flat: &Flat, name: &[u8]) -> Option<u8> {
+    match &flat.stop {
+        Some(refusal) if refusal.place.file.as_bytes() == name => Some(refusal.code),
+        _ => None,
+    }
+}
+
+// A path that is no UTF-8 comes from no line of a session, but may come from a caller of the crates.
+#[test]
+fn an_included_file_may_have_any_name(rt: HostRuntime) -> Result<(), WorldFault> {
+    let name = b"/i/\xff.conf".as_slice();
+    for (text, entries, code) in [("User a\nUser b\n", 3, None), ("<Files x>\n", 1, Some(4))] {
+        let flat = including(rt.alloc(), name, text)?;
+        assert!(rt; flat.entries.len() == entries);
+        assert!(rt; stopped_in(&flat, name) == code);
     }
     Ok(())
 }

@@ -7,10 +7,15 @@ use std::process::Abort;
 
 /// A put into a world that can still count it.
 pub fn put(world: &mut World, path: &str, text: &str) -> Result<(), WorldFault> {
+    put_at(world, path.as_bytes(), text)
+}
+
+/// The same of a path that may be no UTF-8.
+pub fn put_at(world: &mut World, path: &[u8], text: &str) -> Result<(), WorldFault> {
     if world.edits() == u64::MAX {
         return Err(Fault::NoMemory);
     }
-    world.put(path.as_bytes(), text)
+    world.put(path, text)
 }
 
 fn list(world: &mut World, path: &str, kind: ListKind) -> Result<(), WorldFault> {
