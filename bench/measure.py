@@ -5,23 +5,21 @@ import shutil
 import statistics
 import subprocess
 import sys
-import time
 
 TIME = shutil.which("time")
 RUNS = 5
 
 
 def run_once(program, source, replies):
-    """The seconds, the peak memory in KiB and the status of one run."""
+    """The processor seconds, the peak memory in KiB and the status of one run. What other processes take doesn't count."""
     report = f"{replies}.peak"
     # A child's peak is at least that of the process that starts it, so a small one does where there
     # is one.
     words = [TIME, "-f", "%M", "-o", report] if TIME else []
     with open(source, "rb") as given, open(replies, "wb") as made:
-        began = time.perf_counter()
         child = subprocess.Popen([*words, program], stdin=given, stdout=made)
         _, status, usage = os.wait4(child.pid, 0)
-        seconds = time.perf_counter() - began
+    seconds = usage.ru_utime + usage.ru_stime
     child.returncode = os.waitstatus_to_exitcode(status)
     peak = usage.ru_maxrss
     if TIME:
@@ -37,7 +35,7 @@ def differs(replies, wanted):
 
 
 def checked_run(program, source, replies, fault_in):
-    """The seconds and the peak memory in KiB of one run, which ends with status 0 and replies without a fault."""
+    """The processor seconds and the peak memory in KiB of one run, which ends with status 0 and replies without a fault."""
     seconds, peak, status = run_once(program, source, replies)
     fault = f"the program ended with status {status}" if status else fault_in(replies)
     if fault:
