@@ -177,7 +177,7 @@ RewriteRule ^a$ d/a\n</Directory>\n",
         "DocumentRoot /srv\nLimitInternalRecursion 1\n<Directory /srv>\nRequire all granted\nRewriteEngine On\n\
 RewriteRule ^ /x\n</Directory>\n",
         "/a",
-        17,
+        16,
         "4 ",
     ),
 ];
