@@ -21,8 +21,6 @@ MAIN_FILE = "/etc/httpd/conf/httpd.conf"
 ROOT = "DocumentRoot /srv\n"
 ENGINE = ROOT + "RewriteEngine On\n"
 FEW, MANY = 10_000, 100_000
-# what grows with the square today comes with fewer
-FEWER = {"rules of directories that inherit": (200, 2_000)}
 GROWTH = 1.3
 RUNS = 5
 # what both sizes take less than this tells nothing of their growth
@@ -237,11 +235,10 @@ def main():
     for name, case in GROWING.items():
         if word not in name:
             continue
-        least, most = FEWER.get(name, (FEW, MANY))
-        few, many, peak, grown = growth(program, room, case, least, most)
+        few, many, peak, grown = growth(program, room, case, FEW, MANY)
         holds = grown <= GROWTH or many < LEAST_SECONDS
         failed = failed or not holds
-        told = f"{few:7.3f} s of {least:,}  {many:7.3f} s of {most:,}  {peak:>8} KiB"
+        told = f"{few:7.3f} s of {FEW:,}  {many:7.3f} s of {MANY:,}  {peak:>8} KiB"
         print(f"{'PASS' if holds else 'FAIL'}  {told}  an item {grown:5.2f} times as long: {name}", flush=True)
     for name, case in LONGEST.items():
         if word not in name:

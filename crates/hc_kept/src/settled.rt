@@ -6,7 +6,8 @@ use hc_base::{Fault, NoMemory, Refusal};
 
 /// What is given, or the refusal, as a value that can be kept.
 pub(crate) fn settled<T>(given: Result<T, Fault<Refusal>>) -> Result<Result<T, Refusal>, NoMemory>
-    ensures settled { IfOk result (λ settled. (wanted : Result T Refusal) → Gives given wanted → settled ≡ wanted) }
+    ensures settled { IfOk result (λ settled.
+        (wanted : Result T Refusal) → Gives given wanted → settled ≡ wanted) }
     ensures memory { OnOk result (given ≢ Err Fault.NoMemory) }
 {
     match given {

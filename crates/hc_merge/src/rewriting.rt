@@ -8,6 +8,7 @@ use crate::candidate::Candidate;
 use hc_base::{NoMemory, Text};
 use hc_model::{Inherit, Rules};
 use std::alloc::Global;
+use std::collections::VecDeque;
 
 /// What of mod_rewrite is in force so far, lent by the sections.
 #[derive(Drop)]
@@ -17,8 +18,8 @@ pub(crate) struct Rewriting<'c> {
     pub dir: Option<&'c Text>,
     /// RewriteBase.
     pub base: Option<&'c Text>,
-    /// The rules, list behind list.
-    pub rules: Vec<&'c Rules>,
+    /// The rules, list behind list; none of the lists is empty.
+    pub rules: VecDeque<&'c Rules>,
 }
 
 /// What is in force behind these sections: each that has a directive of mod_rewrite replaces what was, but
@@ -43,7 +44,7 @@ fn no_rewriting<'c>(alloc: Global) -> Rewriting<'c>
         engine: false,
         dir: None,
         base: None,
-        rules: Vec::new(alloc),
+        rules: VecDeque::new(alloc),
     }
 }
 
@@ -78,24 +79,20 @@ fn replaced<'c>(so_far: Rewriting<'c>, candidate: Candidate<'c>) -> Result<Rewri
 fn with_earlier<'c>(
     inherit: Inherit,
     own: &'c Rules,
-    mut earlier: Vec<&'c Rules>,
-) -> Result<Vec<&'c Rules>, NoMemory>
+    mut earlier: VecDeque<&'c Rules>,
+) -> Result<VecDeque<&'c Rules>, NoMemory>
     ensures { IfOk result (λ rules. rules_in rules.items
         ≡ with_earlier inherit own.now (rules_in earlier.entry.items)) }
 {
-    match inherit {
-        Inherit::No => {
-            earlier.clear();
-            earlier.push(own)?;
-            Ok(earlier)
-        }
-        Inherit::After => {
-            earlier.insert(0, own)?;
-            Ok(earlier)
-        }
-        Inherit::Before => {
-            earlier.push(own)?;
-            Ok(earlier)
-        }
+    if let Inherit::No = inherit {
+        earlier.clear();
     }
+    if own.as_slice().is_empty() {
+        return Ok(earlier);
+    }
+    match inherit {
+        Inherit::After => earlier.push_front(own)?,
+        Inherit::No | Inherit::Before => earlier.push_back(own)?,
+    }
+    Ok(earlier)
 }

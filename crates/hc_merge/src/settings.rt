@@ -19,10 +19,11 @@ use hc_authz::join;
 use hc_base::{List, NoMemory, Text};
 use hc_model::{
     Config, Effective, Event, HostId, Merging, OptStep, Overrides, Redirect, ReqTree, Requirement,
-    Rules, View, Walk,
+    Rule, Rules, View, Walk,
 };
 use hc_vhost::server_at;
 use std::alloc::Global;
+use std::collections::VecDeque;
 
 // The options by their places in the list of their names (Apache manual, core, Options).
 const FOLLOW_LINKS: u8 = 5;
@@ -178,12 +179,22 @@ fn redirects_of(alloc: Global, kept: &[Candidate<'_>]) -> Result<List<Redirect>,
 }
 
 // The rules of lists, one behind another. One list alone is shared.
-fn rules_of(alloc: Global, lists: &[&Rules]) -> Result<Rules, NoMemory>
-    ensures { IfOk result (λ rules. rules ≡ rules_in lists.now) }
+fn rules_of(alloc: Global, lists: &VecDeque<&Rules>) -> Result<Rules, NoMemory>
+    ensures { IfOk result (λ rules. rules ≡ rules_in lists.now.items) }
 {
-    let mut rules = Rules::new();
-    for list in lists {
-        rules = rules.joined(alloc, list)?;
+    match lists.len() {
+        0 => Ok(Rules::new()),
+        1 => lists[0].clone(),
+        _ => Rules::shared(alloc, gathered(alloc, lists)?),
+    }
+}
+
+fn gathered(alloc: Global, lists: &VecDeque<&Rules>) -> Result<List<Rule>, NoMemory>
+    ensures { IfOk result (λ rules. rules ≡ rules_in lists.now.items) }
+{
+    let mut rules = List::new(alloc);
+    for list in lists.iter() {
+        rules = behind(rules, list.as_slice())?;
     }
     Ok(rules)
 }

@@ -4,5 +4,6 @@ pub mod Answered
 pub mod Joining
 pub mod Looks
 pub mod Passes
+pub mod Stops
 pub mod Told
 pub mod Trees

@@ -22,7 +22,7 @@ use hc_world::text_at;
 
 /// Looks at the `.htaccess` files of a walk, from `/` down, and reads them. The first that is refused ends
 /// the request.
-#[tactic(auto, unfolding(crate::specs::Passing::files_looked), using(hc_steps::proofs::Going::ran_no_memory, crate::proofs::Costs::costs_nothing))]
+#[tactic(auto, unfolding(crate::specs::Passing::files_looked), using(crate::proofs::Stops::stopping))]
 pub(crate) fn files_looked<O: Overrides>(
     asked: &Asked<'_>,
     log: &mut Log,
@@ -83,7 +83,8 @@ fn file_looked<O: Overrides>(
     requires over { O.reading (O.fixed over.old) ≡ reading_in asked.now.world.now.files asked.now.config.now }
     requires sizes { O.size (O.fixed over.old) ≡ size_in asked.now.world.now.files }
     ensures step { (files : Files_at) → Ran (leaving result
-        (with_reading (O.reading (O.fixed over.old)) files (record { dir = dir.now; allowed = allowed }))) log.old log.new
+        (with_reading (O.reading (O.fixed over.old)) files (record { dir = dir.now; allowed = allowed })))
+        log.old log.new
         (run (file_looked asked.now.config.now files (record { dir = dir.now; allowed = allowed }))
         (shown_by asked.now.world.now.files)) }
     ensures loads { OnOk result (Contains (O.loaded over.new) (record { dir = dir.now; allowed = allowed })) }

@@ -4,7 +4,8 @@ ghost use Rattle.hc_htaccess.specs.Reading.{reading_in, size_in};
 ghost use Rattle.hc_model.specs.Overrides.{Kept};
 ghost use Rattle.hc_serve.specs.Costs.{Costs};
 ghost use Rattle.hc_serve.specs.DirectoryRules.{query_left};
-ghost use Rattle.hc_serve.specs.Passing.{admitted, admitted_by, answered, answered_by, begun, finished_there, mapped_at};
+ghost use Rattle.hc_serve.specs.Passing.{admitted, admitted_by, answered, answered_by, begun};
+ghost use Rattle.hc_serve.specs.Passing.{finished_there, mapped_at};
 ghost use Rattle.hc_serve.specs.Passing.{merged, name_of, outcome_at, passed, passed_from, passed_there, reached};
 ghost use Rattle.hc_serve.specs.Passing.{seen_there, sent_by, sent_there, stopped, walked, without_dots};
 ghost use Rattle.hc_serve.specs.Site.{site_of};
@@ -95,7 +96,7 @@ fn tree_of(here: Here) -> Requirement
 }
 
 // Up to what is in force.
-#[tactic(auto, unfolding(crate::specs::Passing::reached), using(hc_steps::proofs::Going::going, crate::proofs::Costs::costs_nothing))]
+#[tactic(auto, unfolding(crate::specs::Passing::reached), using(crate::proofs::Stops::going_free))]
 fn reached<O: Overrides>(
     asked: &Asked<'_>,
     log: &mut Log,

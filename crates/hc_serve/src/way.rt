@@ -27,7 +27,7 @@ pub(crate) const BAD_REQUEST: u16 = 400;
 const NOT_FOUND: u16 = 404;
 
 /// The way of a request: it ends, or leaves a pass that would be one too many.
-#[tactic(auto, unfolding(crate::specs::Request::way), using(crate::proofs::Trees::treed, crate::proofs::Costs::costs_nothing))]
+#[tactic(auto, unfolding(crate::specs::Request::way), using(crate::proofs::Stops::treed_free))]
 pub(crate) fn way<O: Overrides>(
     config: &Config,
     world: &World,
@@ -63,7 +63,7 @@ fn opened(config: &Config, world: &World, log: &mut Log, request: &Request) -> R
     Ok(Opened { host, pass })
 }
 
-#[tactic(auto, unfolding(crate::specs::Request::passes_of), using(hc_steps::proofs::Going::ran_no_memory, crate::proofs::Costs::costs_nothing))]
+#[tactic(auto, unfolding(crate::specs::Request::passes_of), using(crate::proofs::Stops::stopping))]
 fn passes_of<O: Overrides>(
     config: &Config,
     world: &World,

@@ -68,6 +68,14 @@ static LONG: &[Row] = &[
         closing: "",
         after: "\nask /f\n{\"outcome\":{\"status\":403}}\n",
     },
+    Row {
+        before: r"main DocumentRoot /srv\n",
+        opening: r"<Directory /srv>\nRewriteEngine On\nRewriteOptions Inherit\nRewriteRule ^x$ y\n</Directory>\n",
+        times: 50_000,
+        inside: r"<Directory /srv>\nRewriteOptions InheritBefore\nRewriteRule ^f$ - [F]\n</Directory>\n",
+        closing: "",
+        after: "\nfile /srv/g\nask /f\n{\"outcome\":{\"status\":403}}\n",
+    },
 ];
 
 #[test]
