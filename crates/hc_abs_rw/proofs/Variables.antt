@@ -16,7 +16,7 @@ use Rattle.hc_plan.specs.Plan.{Plan, bound, store, from, from_hand, from_text}
 use Rattle.hc_plan.specs.Running.{storing}
 use Rattle.hc_plan.specs.Slots.{put}
 use Rattle.hc_plan.proofs.Slots.{own_bytes, same_bytes}
-use Rattle.hc_rw_eval.specs.Substitutions.{is_long, set_by as real_set_by, set_to, variable_set as set_in_order}
+use Rattle.hc_rw_eval.specs.Substitutions.{is_long, set_by as real_set_by, set_to, with_set as set_in_order}
 use Rattle.hc_rw_eval.specs.Substitutions.{variables_set, with_variable, without_variable}
 use Rattle.hc_rw_expand.specs.Lookups.{expanded, filled_with}
 use Rattle.hc_rw_expand.specs.Values.{filling_in}
@@ -82,7 +82,8 @@ set_again name value other same is (each ∷ vars) =
         ∙ ap (λ it. first_or it each.1 (variable_set vars other)) (here false own is))
     by false own true is later =
         first_is other each (with_value vars name value)
-        ∙ ap (λ it. first_or it each.1 (variable_set (with_value vars name value) other)) (elsewhere own is) ∙ later
+        ∙ ap (λ it. first_or it each.1 (variable_set (with_value vars name value) other)) (elsewhere own is)
+        ∙ later
     by false own false is later =
         first_is other each (with_value vars name value)
         ∙ ap (first_or (bytes_eq other each.0) each.1) later ∙ sym (first_is other each vars)

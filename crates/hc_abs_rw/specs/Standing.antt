@@ -4,8 +4,8 @@ use Rattle.std.specs.Prelude.{nat_lt}
 use Rattle.std.specs.Prelude.{if◌then◌else◌, codes}
 use Rattle.std.specs.List.{flat_map}
 use Rattle.hc_addr.specs.declared.addr.Addr.{Addr}
-use Rattle.hc_model.specs.declared.claim.Decision.{Decision}
-use Rattle.hc_model.specs.declared.claim.Decision.TheVariants as decision
+use Rattle.hc_model.specs.declared.event.Decision.{Decision}
+use Rattle.hc_model.specs.declared.event.Decision.TheVariants as decision
 use Rattle.hc_model.specs.declared.event.Event.{Event}
 use Rattle.hc_model.specs.declared.event.Event.TheVariants as event
 use Rattle.hc_model.specs.declared.outcome.Outcome.{Outcome}
@@ -151,8 +151,8 @@ AttemptLike context substituted so_far state attempt way decisions =
 abbrev pub StopsLike : Context → Shown → ℕ → SoFar → State → Stop → Way Outcome Round → Type 0
 StopsLike context shown round so_far state (over passed) way =
     Leads context (λ left. is_over_by passed (rewritten_so so_far.substituted left)) state on way
-StopsLike context shown round so_far state (again flags) way =
-    (left : RwState) × (way ≡ (run (begun_again flags round (rewritten_so so_far.substituted left)) shown).way)
+StopsLike context shown round so_far state (again rule) way =
+    (left : RwState) × (way ≡ (run (begun_again rule round (rewritten_so so_far.substituted left)) shown).way)
     × Meets context left state
 StopsLike context shown round so_far state (answered next) way =
     Leads context (λ left. is_over_by false (rewritten_so so_far.substituted left)) state next way

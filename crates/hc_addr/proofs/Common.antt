@@ -1,5 +1,8 @@
 -- The names that the proofs of this crate cite, passed on from one place. Declares nothing.
-pub use Rattle.std.proofs.Common.{◌≡◌, ℕ, zero, suc, ◌+◌, ◌/◌, ◌%◌, ◌^◌, ◌<◌, ◌≤◌, Bool, true, false, cond, eqb, ltb, leb, List, [], ◌∷◌, length, Some, refl, ap, arith, get_or, drop, Option, None, add-one, drop-cons, ◌++◌, ◌∙◌, ◌-◌, ◌*◌, lit<, lit≤, map, sym, ◌==◌, rules, tests}
+pub use Rattle.std.proofs.Common.{◌≡◌, ℕ, zero, suc, ◌+◌, ◌/◌, ◌%◌, ◌^◌, ◌<◌, ◌≤◌}
+pub use Rattle.std.proofs.Common.{Bool, true, false, cond, eqb, ltb, leb, List, [], ◌∷◌, length, Some, refl, ap}
+pub use Rattle.std.proofs.Common.{arith, get_or, drop, Option, None, add-one, drop-cons, ◌++◌, ◌∙◌, ◌-◌}
+pub use Rattle.std.proofs.Common.{◌*◌, lit<, lit≤, map, sym, ◌==◌, rules, tests}
 pub use Rattle.std.proofs.Math.Nat.{div-lt_iff_lt-mul, pow-suc, pow-zero, pow-le-pow_right, mul-le-mul, mod-lt}
 pub use Rattle.std.proofs.lemmas.Bool.Decides.{nat_tests}
 pub use Rattle.std.specs.Char.{digit_value, is_digit}

@@ -1,5 +1,6 @@
 -- Addresses in text.
-use Rattle.std.specs.Prelude.{ℕ, ◌==◌, ◌+◌, ◌-◌, ◌*◌, ◌^◌, List, [], ◌∷◌, take, drop, Bool, false, ◌&&◌, nat_lt, Option, Some, None, if◌then◌else◌, option_map}
+use Rattle.std.specs.Prelude.{ℕ, ◌==◌, ◌+◌, ◌-◌, ◌*◌, ◌^◌, List, [], ◌∷◌, take, drop, Bool}
+use Rattle.std.specs.Prelude.{false, ◌&&◌, nat_lt, Option, Some, None, if◌then◌else◌, option_map}
 use Rattle.std.specs.List.{list_any}
 use Rattle.hc_addr.specs.declared.addr.Addr.{Addr}
 use Rattle.hc_addr.specs.declared.addr.Addr.TheVariants.{V4, V6}
@@ -37,7 +38,8 @@ abbrev pub around : Option NumberRow → Option NumberRow → Option ℕ
 around None after = None
 around (Some before) None = None
 around (Some before) (Some after) =
-    if nat_lt (before.count + after.count) GROUPS then Some (before.value * GROUP_VALUES ^ (GROUPS - before.count) + after.value) else None
+    if nat_lt (before.count + after.count) GROUPS
+    then Some (before.value * GROUP_VALUES ^ (GROUPS - before.count) + after.value) else None
 
 abbrev pub v6_at : List ℕ → Option ℕ → Option ℕ
 v6_at text None = whole GROUPS (coloned_of text)

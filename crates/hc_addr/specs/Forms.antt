@@ -27,9 +27,11 @@ most_of Dotted = BYTES
 most_of Coloned = GROUPS
 
 abbrev pub row_in : Form → List ℕ → Option NumberRow
-row_in form text = row_of (base_of form) (most_of form) (numbers_of (number_in form) (slice_split (λ b. b == separator_of form) text))
+row_in form text =
+    row_of (base_of form) (most_of form) (numbers_of (number_in form) (slice_split (λ b. b == separator_of form) text))
 
 -- The row with one number more, if there is room.
 abbrev pub row_with : ℕ → ℕ → NumberRow → Option ℕ → Option NumberRow
 row_with base most row None = None
-row_with base most row (Some n) = if nat_lt row.count most then Some (record { value = row.value * base + n; count = row.count + 1 }) else None
+row_with base most row (Some n) = if nat_lt row.count most
+    then Some (record { value = row.value * base + n; count = row.count + 1 }) else None

@@ -1,5 +1,6 @@
 -- Networks in text, and the addresses that a network holds. Apache manual, mod_authz_host, "Require ip".
-use Rattle.std.specs.Prelude.{ℕ, ◌==◌, ◌+◌, ◌-◌, ◌*◌, ◌^◌, List, take, drop, Bool, false, Option, Some, None, Result, option_map, ok_or, bit_and, position, if◌then◌else◌}
+use Rattle.std.specs.Prelude.{ℕ, ◌==◌, ◌+◌, ◌-◌, ◌*◌, ◌^◌, List, take, drop, Bool, false, Option}
+use Rattle.std.specs.Prelude.{Some, None, Result, option_map, ok_or, bit_and, position, if◌then◌else◌}
 use Rattle.std.specs.Option.{option_or}
 use Rattle.hc_base.specs.Paths.{is_slash}
 use Rattle.hc_addr.specs.declared.addr.Addr.{Addr}
@@ -21,7 +22,11 @@ single_of a = record { addr = V6 a; mask = front_mask V6_BITS V6_BITS }
 
 -- The bytes of an IPv4 address, or only the first of them, each with eight bits of the mask.
 abbrev pub leading_of : NumberRow → Net
-leading_of row = record { addr = V4 (row.value * BYTE_VALUES ^ (BYTES - row.count)); mask = front_mask V4_BITS (BYTE_BITS * row.count) }
+leading_of row =
+    record {
+      addr = V4 (row.value * BYTE_VALUES ^ (BYTES - row.count));
+      mask = front_mask V4_BITS (BYTE_BITS * row.count);
+    }
 
 -- A network with no slash: an address, or the first bytes of an IPv4 address.
 abbrev pub unmasked_of : List ℕ → Option Net

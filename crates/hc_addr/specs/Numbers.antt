@@ -1,12 +1,14 @@
 -- Numbers in text, and rows of numbers that a separator divides.
-use Rattle.std.specs.Prelude.{ℕ, ◌==◌, List, [], ◌∷◌, length, Bool, ◌&&◌, nat_lt, nat_le, Option, Some, None, if◌then◌else◌}
+use Rattle.std.specs.Prelude.{ℕ, ◌==◌, List, [], ◌∷◌, length, Bool, ◌&&◌, nat_lt, nat_le, Option, Some}
+use Rattle.std.specs.Prelude.{None, if◌then◌else◌}
 use Rattle.std.specs.Char.{is_digit}
 use Rattle.std.specs.Int.Digits.{number_from_digits}
 use Rattle.std.specs.List.{list_all, slice_split}
 use Rattle.std.specs.Str.Parse.{digits_value}
 use Rattle.hc_base.specs.Bytes.{colon, dot}
 use Rattle.hc_addr.specs.declared.numbers.NumberRow.{NumberRow}
-use Rattle.hc_addr.specs.declared.sizes.TheConstants.{BYTES, BYTE_DIGITS, BYTE_VALUES, DECIMAL, GROUPS, GROUP_DIGITS, GROUP_VALUES, HEXADECIMAL, HIGHEST_BYTE}
+use Rattle.hc_addr.specs.declared.sizes.TheConstants.{BYTES, BYTE_DIGITS, BYTE_VALUES, DECIMAL, GROUPS, GROUP_DIGITS}
+use Rattle.hc_addr.specs.declared.sizes.TheConstants.{GROUP_VALUES, HEXADECIMAL, HIGHEST_BYTE}
 
 abbrev pub is_dot : ℕ → Bool
 is_dot b = b == dot
@@ -56,7 +58,8 @@ numbers_of number (piece ∷ pieces) = with_first (number piece) (numbers_of num
 -- At most so many numbers in a row: how many they are, and the number whose digits they are.
 abbrev pub row_of : ℕ → ℕ → Option (List ℕ) → Option NumberRow
 row_of base most None = None
-row_of base most (Some ns) = if nat_le (length ns) most then Some (record { value = number_from_digits base ns; count = length ns }) else None
+row_of base most (Some ns) = if nat_le (length ns) most
+    then Some (record { value = number_from_digits base ns; count = length ns }) else None
 
 -- One to four bytes with dots between them.
 abbrev pub dotted_of : List ℕ → Option NumberRow

@@ -1,11 +1,13 @@
 -- Addresses as they are printed. Our own choice.
-use Rattle.std.specs.Prelude.{◌≡◌, ℕ, zero, suc, ◌/◌, ◌%◌, ◌^◌, ◌<◌, List, [], ◌∷◌, ◌++◌, map, false, Some}
+use Rattle.std.specs.Prelude.{◌≡◌, ℕ, zero, suc, ◌/◌, ◌%◌, ◌^◌, ◌<◌, List, [], ◌∷◌}
+use Rattle.std.specs.Prelude.{◌++◌, map, false, Some}
 use Rattle.std.specs.Fmt.{decimal, digits}
 use Rattle.std.specs.List.{join_with_byte}
 use Rattle.hc_base.specs.Bytes.{colon, dot}
 use Rattle.hc_addr.specs.declared.addr.Addr.{Addr}
 use Rattle.hc_addr.specs.declared.addr.Addr.TheVariants.{V4, V6}
-use Rattle.hc_addr.specs.declared.sizes.TheConstants.{BYTES, BYTE_VALUES, GROUPS, GROUP_VALUES, HEXADECIMAL, V4_BITS, V6_BITS}
+use Rattle.hc_addr.specs.declared.sizes.TheConstants.{BYTES, BYTE_VALUES, GROUPS, GROUP_VALUES, HEXADECIMAL, V4_BITS}
+use Rattle.hc_addr.specs.declared.sizes.TheConstants.{V6_BITS}
 use Rattle.hc_addr.specs.Addresses.{addr_of}
 
 -- The last digits of a number in a base, so many of them, the highest first.

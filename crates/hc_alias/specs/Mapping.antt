@@ -42,10 +42,11 @@ abbrev pub alias_spot : Alias → Spot
 alias_spot alias = record { place = alias.place; span = alias.span }
 
 abbrev pub named_by : Alias × Found → Mapped
-named_by taken = mapped.Name (filled (filling_with taken.1.groups) taken.0.to ++ taken.1.rest) (Some (alias_spot taken.0))
+named_by taken = mapped.Name (filled (filling_with taken.1.groups) taken.0.to ++ taken.1.rest)
+    (Some (alias_spot taken.0))
 
 abbrev pub maps_of : List Server → List Alias
-maps_of servers = flat_map (λ server. server.maps) servers
+maps_of servers = flat_map (λ server. server.aliases) servers
 
 -- The name that the first alias of a list gives that takes the path.
 abbrev pub aliased : List Alias → List ℕ → Option Mapped

@@ -44,4 +44,5 @@ or_later entry None later = later
 
 abbrev pub first_taking : {A : Type 0} → (A → PathTest) → List A → List ℕ → Option (A × Found)
 first_taking from [] path = None
-first_taking from (entry ∷ entries) path = or_later entry (found_by (from entry) path) (first_taking from entries path)
+first_taking from (entry ∷ entries) path =
+    or_later entry (found_by (from entry) path) (first_taking from entries path)

@@ -145,11 +145,11 @@ impl<'c> Servers<'c> {
     fn aliased(&self, alloc: Global, path: &[u8]) -> Result<Option<Mapped>, NoMemory>
         ensures { IfOk result (λ name. name ≡ aliased (maps_of (servers_view self.now)) path.now) }
     {
-        let main = self.main.maps.as_slice();
+        let main = self.main.aliases.as_slice();
         let Some(host) = self.host else {
             return aliased(alloc, main, path);
         };
-        match aliased(alloc, host.maps.as_slice(), path)? {
+        match aliased(alloc, host.aliases.as_slice(), path)? {
             Some(name) => Ok(Some(name)),
             None => aliased(alloc, main, path),
         }

@@ -24,7 +24,8 @@ Writes WriteFault old new line = AppendsFront old new line
 Writes status old new line = Appends old new line
 
 -- A run that made the script of a seed: the summary was written, or a front of it after a fault of the sink.
-pub record Generated (seed : ℕ) (written grown : Option (List ℕ)) (before after : Work) (status : Status) : Type 0 where
+pub record Generated (seed : ℕ) (written grown : Option (List ℕ)) (before after : Work) (status : Status) : Type
+    0 where
   pub line : List ℕ
   pub told : IsSummary seed line before after
   pub writes : Writes status written grown line

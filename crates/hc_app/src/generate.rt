@@ -2,7 +2,7 @@ ghost use Rattle.std.specs.Prelude.{◌≡◌, ◌≢◌, ◌<◌, ◌^◌, ◌-
 ghost use Rattle.hc_session.specs.Session.{work};
 ghost use Rattle.hc_app.specs.Run.{Generated};
 
-use hc_base::{Failed, Sink, Steps};
+use hc_base::{Counter, Failed, Sink};
 use hc_generate::summary;
 use hc_session::{Status, send};
 use std::alloc::Global;
@@ -13,8 +13,8 @@ pub fn generate<K: Sink, E: Ledger, B: Ledger>(
     alloc: Global,
     seed: u64,
     sink: &mut K,
-    evals: &mut Steps<E>,
-    bytes: &mut Steps<B>,
+    evals: &mut Counter<E>,
+    bytes: &mut Counter<B>,
 ) -> Status
     requires sink_counts { K.faults sink.old < 2 ^ 64 - 1 }
     ensures generated { result ≢ Status.NoMemory

@@ -20,7 +20,7 @@ mod run;
 #[cfg(test)]
 mod tests;
 
-use hc_base::{Sink, Source, StdSink, StdSource, Steps};
+use hc_base::{Counter, Sink, Source, StdSink, StdSource};
 use hc_session::Status;
 pub use run::run;
 use std::alloc::Global;
@@ -65,8 +65,8 @@ fn run_counted<S: Source, K: Sink, E: Ledger, B: Ledger>(
     requires bytes_parts { for_bytes.parts ≡ B.parts }
     requires bytes_whole { 0 < for_bytes.parts }
 {
-    let mut evals = Steps::<E>::new(for_evals);
-    let mut bytes = Steps::<B>::new(for_bytes);
+    let mut evals = Counter::<E>::new(for_evals);
+    let mut bytes = Counter::<B>::new(for_bytes);
     run(alloc, words, source, sink, &mut evals, &mut bytes)
 }
 

@@ -1,11 +1,12 @@
-ghost use Rattle.std.specs.Prelude.{◌≡◌, ◌≢◌, ◌⊎◌, ◌<◌, ◌^◌, ◌-◌, ℕ, None, map, string_bytes};
+ghost use Rattle.std.specs.Prelude.{◌≡◌, ◌≢◌, ◌⊎◌, ◌<◌, ◌^◌, ◌-◌, ℕ, None, map};
+ghost use Rattle.std.specs.Prelude.{string_bytes};
 ghost use Rattle.hc_session.specs.Conversation.{Completes, Served};
 ghost use Rattle.hc_session.specs.Session.{work};
 ghost use Rattle.hc_words.specs.Words.{words_of};
 ghost use Rattle.hc_app.specs.Run.{AsksFor, AsksToServe, Generated};
 
 use crate::generate::generate;
-use hc_base::{Sink, Source, Steps};
+use hc_base::{Counter, Sink, Source};
 use hc_session::{Status, serve_session};
 use hc_words::{WordsFault, read_words};
 use std::alloc::Global;
@@ -20,8 +21,8 @@ pub fn run<S: Source, K: Sink, E: Ledger, B: Ledger>(
     words: &[String],
     source: &mut S,
     sink: &mut K,
-    evals: &mut Steps<E>,
-    bytes: &mut Steps<B>,
+    evals: &mut Counter<E>,
+    bytes: &mut Counter<B>,
 ) -> Status
     requires source_counts { S.faults source.old < 2 ^ 64 - 1 }
     requires sink_counts { K.faults sink.old < 2 ^ 64 - 1 }

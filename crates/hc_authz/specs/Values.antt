@@ -1,6 +1,7 @@
 -- Whether a request is let in.
 -- Apache manual, mod_authz_core: Require, RequireAll, RequireAny, RequireNone; mod_authz_host.
-use Rattle.std.specs.Prelude.{ℕ, ◌==◌, List, [], ◌∷◌, Bool, true, false, ◌||◌, codes, if◌then◌else◌, Option, Some, None}
+use Rattle.std.specs.Prelude.{ℕ, ◌==◌, List, [], ◌∷◌, Bool, true, false, ◌||◌, codes}
+use Rattle.std.specs.Prelude.{if◌then◌else◌, Option, Some, None}
 use Rattle.std.specs.List.{list_any}
 use Rattle.std.specs.Str.{bytes_eq}
 use Rattle.hc_addr.specs.Networks.{holds_in}
@@ -35,7 +36,8 @@ same_addr a b = false
 -- The machine itself: 127.0.0.0/8, ::1, or the address that the connection was made to.
 abbrev pub is_local : Request → Bool
 is_local request =
-    holds_in LOOPBACK_V4 request.client || (holds_in LOOPBACK_V6 request.client || same_addr request.client request.server)
+    holds_in LOOPBACK_V4 request.client
+    || (holds_in LOOPBACK_V6 request.client || same_addr request.client request.server)
 
 abbrev pub is_met : Request → Need → Bool
 is_met request need.Granted = true

@@ -1,5 +1,7 @@
 -- Lemmas that crates above cite.
-use Rattle.std.proofs.Common.{◌≡◌, ◌≢◌, ℕ, zero, suc, ◌<◌, List, [], ◌∷◌, ◌++◌, length, Some, slice_get, slice_set, Bool, true, false, ◌||◌, refl, ap, arith, eqb-true, ◌==◌}
+use Rattle.std.proofs.Common.{◌≡◌, ◌≢◌, ℕ, zero, suc, ◌<◌, List, [], ◌∷◌, ◌++◌, length}
+use Rattle.std.proofs.Common.{Some, slice_get, slice_set, Bool, true, false, ◌||◌, refl, ap, arith, eqb-true}
+use Rattle.std.proofs.Common.{◌==◌}
 use mathlib.Core.Logic.{⊎_elim}
 use Rattle.std.specs.Ordering.{is_lt}
 use Rattle.std.specs.declared.cmp.Ordering.{Ordering}
@@ -27,12 +29,14 @@ pub get_last : {A : Type 0} (xs : List A) (x : A) → slice_get (xs ++ x ∷ [])
 get_last [] x = refl
 get_last (y ∷ xs) x = get_last xs x
 
-pub get_set_same : {A : Type 0} (xs : List A) (i : ℕ) (x : A) → i < length xs → slice_get (slice_set xs i x) i ≡ Some x
+pub get_set_same : {A : Type 0} (xs : List A) (i : ℕ) (x : A) → i < length xs → slice_get (slice_set xs i x) i
+    ≡ Some x
 get_set_same [] i x within = absurd (omega (arith, within))
 get_set_same (y ∷ xs) zero x within = refl
 get_set_same (y ∷ xs) (suc i) x within = get_set_same xs i x (omega (arith, within))
 
-pub get_set_other : {A : Type 0} (xs : List A) (i j : ℕ) (x : A) → j ≢ i → slice_get (slice_set xs i x) j ≡ slice_get xs j
+pub get_set_other : {A : Type 0} (xs : List A) (i j : ℕ) (x : A) → j ≢ i → slice_get (slice_set xs i x) j
+    ≡ slice_get xs j
 get_set_other [] i j x other = refl
 get_set_other (y ∷ xs) zero zero x other = absurd (other refl)
 get_set_other (y ∷ xs) zero (suc j) x other = refl

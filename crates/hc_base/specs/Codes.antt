@@ -1,6 +1,18 @@
 -- The numbers of the rules that a refusal names, and their names as they are printed. Our own choice.
 use Rattle.std.specs.Prelude.{ℕ, ◌==◌, List, [], ◌∷◌, if◌then◌else◌, codes}
-use Rattle.hc_base.specs.declared.codes.TheConstants.{UNSUPPORTED_DIRECTIVE, WRONG_CONTEXT, WRONG_ARGUMENTS, UNCLOSED_SECTION, UNMATCHED_CLOSE, UNCLOSED_QUOTE, LINE_TOO_LONG, INCLUDE_MISSING, INCLUDE_CYCLE, INCLUDE_TOO_DEEP, NO_SERVER_ROOT, BAD_DEFINE_NAME, PATTERN_UNSUPPORTED, PATTERN_SYNTAX, PATTERN_TOO_LARGE, EMPTY_LOOP, BAD_FLAG, UNSUPPORTED_FLAG, UNSUPPORTED_VARIABLE, UNSUPPORTED_CONDITION, NEGATED_IN_ANY, NEGATED_IN_NONE, ONLY_NEGATIVE, EMPTY_CONTAINER, MIXED_OPTIONS, BAD_ADDRESS, NO_DOCUMENT_ROOT, VHOST_ADDRESS, OVERRIDE_NOT_ALLOWED, NESTED_TOO_DEEP, CONTROL_BYTE, BAD_EXPRESSION, REDIRECT_WITHOUT_LAST, REWRITE_CONTEXT, CONTENT_MISSING, MAP_FORM, NO_SUCH_PATH, PATH_FORM, UNDER_FILE, BAD_RANGE, SET_SYNTAX, BAD_JSON, BAD_COMMAND, IS_DIRECTORY, NO_SUCH_PLACE}
+use Rattle.hc_base.specs.declared.codes.TheConstants.{UNSUPPORTED_DIRECTIVE, WRONG_CONTEXT, WRONG_ARGUMENTS}
+use Rattle.hc_base.specs.declared.codes.TheConstants.{UNCLOSED_SECTION, UNMATCHED_CLOSE, UNCLOSED_QUOTE, LINE_TOO_LONG}
+use Rattle.hc_base.specs.declared.codes.TheConstants.{INCLUDE_MISSING, INCLUDE_CYCLE, INCLUDE_TOO_DEEP, NO_SERVER_ROOT}
+use Rattle.hc_base.specs.declared.codes.TheConstants.{BAD_DEFINE_NAME, PATTERN_UNSUPPORTED, PATTERN_SYNTAX}
+use Rattle.hc_base.specs.declared.codes.TheConstants.{PATTERN_TOO_LARGE, EMPTY_LOOP, BAD_FLAG, UNSUPPORTED_FLAG}
+use Rattle.hc_base.specs.declared.codes.TheConstants.{UNSUPPORTED_VARIABLE, UNSUPPORTED_CONDITION, NEGATED_IN_ANY}
+use Rattle.hc_base.specs.declared.codes.TheConstants.{NEGATED_IN_NONE, ONLY_NEGATIVE, EMPTY_CONTAINER, MIXED_OPTIONS}
+use Rattle.hc_base.specs.declared.codes.TheConstants.{BAD_ADDRESS, NO_DOCUMENT_ROOT, VHOST_ADDRESS}
+use Rattle.hc_base.specs.declared.codes.TheConstants.{OVERRIDE_NOT_ALLOWED, NESTED_TOO_DEEP, CONTROL_BYTE}
+use Rattle.hc_base.specs.declared.codes.TheConstants.{BAD_EXPRESSION, REDIRECT_WITHOUT_LAST, REWRITE_CONTEXT}
+use Rattle.hc_base.specs.declared.codes.TheConstants.{CONTENT_MISSING, MAP_FORM, NO_SUCH_PATH, PATH_FORM, UNDER_FILE}
+use Rattle.hc_base.specs.declared.codes.TheConstants.{BAD_RANGE, SET_SYNTAX, BAD_JSON, BAD_COMMAND, IS_DIRECTORY}
+use Rattle.hc_base.specs.declared.codes.TheConstants.{NO_SUCH_PLACE}
 
 -- Each rule with its name.
 abbrev pub named_codes : List (ℕ × List ℕ)

@@ -1,7 +1,8 @@
 -- The lines of a text, and what stands between its blanks.
 -- Apache manual, "Configuration Files": a directive stands on one line, and its arguments are
 -- separated by white space. What a last piece without LF counts for is our own choice.
-use Rattle.std.specs.Prelude.{◌≡◌, ℕ, ◌==◌, List, [], ◌∷◌, ◌++◌, length, Bool, false, not, ◌||◌, filter, if◌then◌else◌}
+use Rattle.std.specs.Prelude.{◌≡◌, ℕ, ◌==◌, List, [], ◌∷◌, ◌++◌, length, Bool, false, not}
+use Rattle.std.specs.Prelude.{◌||◌, filter, if◌then◌else◌}
 use Rattle.std.specs.List.{AllByRecursion, flat_map, list_any, slice_split}
 use Rattle.hc_base.specs.Bytes.{lf, space, tab}
 
@@ -36,7 +37,8 @@ pub record IsCutInto (text : List ℕ) (lines : List (List ℕ)) (rest : List �
 -- `whole_lines` and `rest_of` are the one way to cut a text so.
 pub record AreLinesOf (text : List ℕ) : Type 0 where
   pub cut : IsCutInto text (whole_lines text) (rest_of text)
-  pub only : (lines : List (List ℕ)) (rest : List ℕ) → IsCutInto text lines rest → (lines ≡ whole_lines text) × (rest ≡ rest_of text)
+  pub only : (lines : List (List ℕ)) (rest : List ℕ) → IsCutInto text lines rest → (lines ≡ whole_lines text)
+      × (rest ≡ rest_of text)
 
 abbrev pub onto_piece : ℕ → List (List ℕ) → List (List ℕ)
 onto_piece b [] = (b ∷ []) ∷ []

@@ -1,5 +1,6 @@
 -- Absolute paths, as bytes.
-use Rattle.std.specs.Prelude.{ℕ, ◌-◌, ◌==◌, List, [], ◌∷◌, length, take, nat_lt, Bool, false, not, ◌&&◌, ◌||◌, if◌then◌else◌}
+use Rattle.std.specs.Prelude.{ℕ, ◌-◌, ◌==◌, List, [], ◌∷◌, length, take, nat_lt, Bool, false, not}
+use Rattle.std.specs.Prelude.{◌&&◌, ◌||◌, if◌then◌else◌}
 use Rattle.std.specs.List.{list_any, slice_split}
 use Rattle.hc_base.specs.Bytes.{begins_with, dot, ends_with, slash}
 
@@ -37,7 +38,8 @@ is_clean path = begins_with_slash path && not (has_double_slash path) && not (ha
 abbrev pub merge_slashes : List ℕ → List ℕ
 merge_slashes [] = []
 merge_slashes (b ∷ []) = b ∷ []
-merge_slashes (b ∷ c ∷ bs) = if (is_slash b && is_slash c) then merge_slashes (c ∷ bs) else b ∷ merge_slashes (c ∷ bs)
+merge_slashes (b ∷ c ∷ bs) = if (is_slash b && is_slash c) then merge_slashes (c ∷ bs)
+    else b ∷ merge_slashes (c ∷ bs)
 
 -- A final slash is dropped, but for `/`.
 abbrev pub without_final_slash : List ℕ → List ℕ

@@ -1,5 +1,6 @@
 -- What is kept with what it rests on. Our own choice.
-use Rattle.std.specs.Prelude.{ℕ, nat_le, List, [], ◌∷◌, ◌++◌, length, drop, filter, Bool, not, if◌then◌else◌, Option, Some, None, option_and_then}
+use Rattle.std.specs.Prelude.{ℕ, nat_le, List, [], ◌∷◌, ◌++◌, length, drop, filter, Bool, not}
+use Rattle.std.specs.Prelude.{if◌then◌else◌, Option, Some, None, option_and_then}
 use Rattle.std.specs.List.{find, list_all}
 use Rattle.hc_model.specs.declared.read.Read.{Read}
 use Rattle.hc_world.specs.Edits.{Edited, changed_at}

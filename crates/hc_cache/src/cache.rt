@@ -1,4 +1,5 @@
-ghost use Rattle.std.specs.Prelude.{◌≡◌, ◌<◌, ◌≤◌, ◌++◌, ◌∷◌, [], None, IsOk, OnErr, OnOk, drop, length, option_map};
+ghost use Rattle.std.specs.Prelude.{◌≡◌, ◌<◌, ◌≤◌, ◌++◌, ◌∷◌, [], None, IsOk, OnErr, OnOk};
+ghost use Rattle.std.specs.Prelude.{drop, length, option_map};
 ghost use Rattle.indexmap.specs.IndexMap.{IsUnique, get, spare};
 ghost use Rattle.hc_cache.specs.Entries.{Entry, stored, value_of, without};
 ghost use Rattle.hc_cache.specs.Views.{entry_of, in_order, value_kept};

@@ -7,7 +7,8 @@ module _ (entries rest : List Entry) (at : ℕ) (entry : Entry) (is : drop at en
   pub followed_here : is_rule entry ≡ true → rule_follows (drop at entries) ≡ true
   followed_here here = ap rule_follows is ∙ rw here refl
 
-  pub follows_more : is_rule entry ≡ false → ends_look entry ≡ false → rule_follows (drop at entries) ≡ rule_follows rest
+  pub follows_more : is_rule entry ≡ false → ends_look entry ≡ false → rule_follows (drop at entries)
+      ≡ rule_follows rest
   follows_more here more = ap rule_follows is ∙ rw (here, more) refl
 
   pub follows_none : is_rule entry ≡ false → ends_look entry ≡ true → rule_follows (drop at entries) ≡ false

@@ -1,5 +1,6 @@
 -- The last opening leaves.
-use Rattle.std.proofs.Common.{◌≡◌, ◌-◌, List, [], ◌∷◌, ◌++◌, length, map, take, Result, Ok, Err, Some, OnOk, refl, ap, sym, ◌∙◌, arith}
+use Rattle.std.proofs.Common.{◌≡◌, ◌-◌, List, [], ◌∷◌, ◌++◌, length, map, take, Result, Ok, Err}
+use Rattle.std.proofs.Common.{Some, OnOk, refl, ap, sym, ◌∙◌, arith}
 use Rattle.std.specs.List.{slice_get}
 use Rattle.std.proofs.lemmas.List.{length-map, length_push}
 use Rattle.hc_config.specs.Levels as definition
@@ -29,12 +30,14 @@ module _ {A B : Type 0} (f : A → B) (x : A) where
 
 -- What is left once an opening is closed.
 abbrev left : Around → Gathered → List definition.Around → definition.Standing
-left around so_far rest = record { so_far = so_far; held = around.held.items; around = rest; chained = around.opening.chained }
+left around so_far rest =
+    record { so_far = so_far; held = around.held.items; around = rest; chained = around.opening.chained }
 
 abbrev closed_in : Standing → Around → Gathered
 closed_in standing around = with_closed around.opening.spot around.opening.opened standing.so_far around.gathered
 
-closed_last : (standing : Standing) (before : List Around) (around : Around) → standing.around.items ≡ before ++ around ∷ []
+closed_last : (standing : Standing) (before : List Around) (around : Around)
+    → standing.around.items ≡ before ++ around ∷ []
     → innermost_closed (standing_of standing) ≡ left around (closed_in standing around) (map around_of before)
 closed_last standing before around is =
     ap (λ items. closed_by (standing_of standing) (last_of (map around_of items))) is
@@ -42,7 +45,8 @@ closed_last standing before around is =
     ∙ ap (λ items. left around (closed_in standing around) (without_last (map around_of items))) is
     ∙ ap (left around (closed_in standing around)) (front_is around_of around before)
 
-pub on_closed : {R : Type 0} (result : Result Unit R) (standing : Standing) (before : List Around) (around : Around) (closed : Gathered)
+pub on_closed : {R : Type 0} (result : Result Unit R) (standing : Standing) (before : List Around) (around : Around)
+    (closed : Gathered)
     → standing.around.items ≡ before ++ around ∷ [] → OnOk result (closed ≡ closed_in standing around)
     → OnOk result (left around closed (map around_of before) ≡ innermost_closed (standing_of standing))
 on_closed (Err fault) standing before around closed is closed_is = closed_is

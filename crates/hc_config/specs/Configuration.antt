@@ -1,7 +1,9 @@
 -- The configuration that a flat list gives, and what that of a `.htaccess` gives, or the first refusal.
--- Apache manual, "Configuration Files"; ".htaccess files"; core, DocumentRoot and Define; mod_alias, Alias. The refusals
+-- Apache manual, "Configuration Files"; ".htaccess files"; core, DocumentRoot and Define; mod_alias, Alias. The
+-- refusals
 -- and their order are our own choice.
-use Rattle.std.specs.Prelude.{ℕ, ◌==◌, List, [], ◌∷◌, ◌++◌, length, Bool, not, ◌&&◌, ◌||◌, is_some, if◌then◌else◌, Option, Some, None, Result, Ok, Err}
+use Rattle.std.specs.Prelude.{ℕ, ◌==◌, List, [], ◌∷◌, ◌++◌, length, Bool, not, ◌&&◌, ◌||◌}
+use Rattle.std.specs.Prelude.{is_some, if◌then◌else◌, Option, Some, None, Result, Ok, Err}
 use Rattle.std.specs.List.{list_any}
 use Rattle.hc_base.specs.Rules.{refusal_at, rule}
 use Rattle.hc_base.specs.declared.codes.TheConstants.{NO_DOCUMENT_ROOT}
@@ -15,7 +17,9 @@ use Rattle.hc_model.specs.declared.entry.Entry.{Entry}
 use Rattle.hc_model.specs.declared.section.Allowed.{Allowed}
 use Rattle.hc_model.specs.declared.section.Body.{Body}
 use Rattle.hc_config.specs.Among.{Among}
-use Rattle.hc_config.specs.Levels.{Standing, chain_ended, container_of, context_of, holding_opened, innermost_closed, innermost_released, nothing_standing, opened, section_body, server_of, wild_of, with_given}
+use Rattle.hc_config.specs.Levels.{Standing, chain_ended, container_of, context_of, holding_opened, innermost_closed}
+use Rattle.hc_config.specs.Levels.{innermost_released, nothing_standing, opened, section_body, server_of, wild_of}
+use Rattle.hc_config.specs.Levels.{with_given}
 use Rattle.hc_config.specs.Rules.{judged}
 use Rattle.hc_config.specs.declared.source.Source.{Source}
 use Rattle.hc_config.specs.declared.source.Source.TheVariants.{Configuration, Override}
@@ -41,7 +45,8 @@ abbrev pub goes_on : (Standing → Result Standing Refusal) → Result Standing 
 goes_on more (Err refusal) = Err refusal
 goes_on more (Ok standing) = more standing
 
-abbrev pub gathered_next : Standing → Entry → (Standing → Result Standing Refusal) → Result Effect AtByte → Result Standing Refusal
+abbrev pub gathered_next : Standing → Entry → (Standing → Result Standing Refusal) → Result Effect AtByte
+    → Result Standing Refusal
 gathered_next standing entry more (Err broken) = Err (refusal_at entry.spot.place broken)
 gathered_next standing entry more (Ok effect) = goes_on more (after_entry standing effect)
 
@@ -83,7 +88,8 @@ abbrev pub has_no_root : Server → Bool
 has_no_root server = not (is_some server.root)
 
 abbrev pub is_rootless : Gathered → Bool
-is_rootless gathered = not (is_some gathered.root) && ((length gathered.hosts == 0) || list_any has_no_root gathered.hosts)
+is_rootless gathered =
+    not (is_some gathered.root) && ((length gathered.hosts == 0) || list_any has_no_root gathered.hosts)
 
 -- Such a configuration is refused as a whole, when all else is accepted.
 abbrev pub rootless : List ℕ → Refusal

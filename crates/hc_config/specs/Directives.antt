@@ -1,11 +1,10 @@
 -- The directives and sections: what words each takes, and what it gives.
 -- Apache manual: core; mod_alias, Alias; mod_rewrite; mod_so, LoadModule; mod_userdir, UserDir.
-use Rattle.std.specs.Prelude.{ℕ, List, [], ◌∷◌, length, Bool, ◌&&◌, true, false, nat_le, if◌then◌else◌}
+use Rattle.std.specs.Prelude.{ℕ, List, [], ◌∷◌, length, Bool, ◌&&◌, true, false, nat_le}
+use Rattle.std.specs.Prelude.{if◌then◌else◌}
 use Rattle.std.specs.Prelude.{Option, Some, None, Result, Ok, Err, codes}
 use Rattle.std.specs.Str.{str_eq_ignore_ascii_case}
 use Rattle.hc_base.specs.Paths.{begins_with_slash, without_final_slash}
-use Rattle.hc_base.specs.Rules.{rule}
-use Rattle.hc_base.specs.declared.codes.TheConstants.{WRONG_CONTEXT}
 use Rattle.hc_base.specs.declared.fault.AtByte.{AtByte}
 use Rattle.hc_expr.specs.Reading.{parse_expr}
 use Rattle.hc_model.specs.declared.authorization.Merging.{Merging}
@@ -18,15 +17,12 @@ use Rattle.hc_model.specs.declared.section.Reach.{Reach}
 use Rattle.hc_model.specs.declared.section.Reach.TheVariants.{DirSearch, Files, LocationSearch, Otherwise, When}
 use Rattle.hc_model.specs.declared.spot.Spot.{Spot}
 use Rattle.hc_model.specs.declared.template.Piece.{Piece}
-use Rattle.hc_table.specs.declared.meaning.TheConstants.{ACCESS_FILE_NAME, ALIAS, ALIAS_MATCH, DEFINE, DOCUMENT_ROOT}
-use Rattle.hc_table.specs.declared.meaning.TheConstants.{IF_DEFINE, IF_MODULE, INCLUDE, INCLUDE_OPTIONAL, INERT, LOAD_MODULE}
-use Rattle.hc_table.specs.declared.meaning.TheConstants.{REDIRECT, REDIRECT_MATCH, REDIRECT_PERMANENT, REDIRECT_TEMP}
-use Rattle.hc_table.specs.declared.meaning.TheConstants.{SCRIPT_ALIAS, SERVER_ROOT, USER_DIR, USE_CANONICAL_NAME}
-use Rattle.hc_table.specs.declared.meaning.TheConstants.{ALLOW_OVERRIDE, OPTIONS, SERVER_ALIAS, SERVER_NAME, VIRTUAL_HOST}
-use Rattle.hc_table.specs.declared.meaning.TheConstants.{DIRECTORY, DIRECTORY_MATCH, FILES, FILES_MATCH, LOCATION, LOCATION_MATCH}
-use Rattle.hc_table.specs.declared.meaning.TheConstants.{LIMIT_INTERNAL_RECURSION, REWRITE_BASE, REWRITE_COND, REWRITE_ENGINE, REWRITE_MAP}
-use Rattle.hc_table.specs.declared.meaning.TheConstants.{REWRITE_OPTIONS, REWRITE_RULE}
-use Rattle.hc_table.specs.declared.meaning.TheConstants.{AUTH_MERGING, ELSE, ELSE_IF, IF, REQUIRE, REQUIRE_ALL, REQUIRE_ANY, REQUIRE_NONE}
+use Rattle.hc_table.specs.declared.directive.Directive.{Directive}
+use Rattle.hc_table.specs.declared.directive.Directive.TheVariants as directive
+use Rattle.hc_table.specs.declared.directive.Meaning.{Meaning}
+use Rattle.hc_table.specs.declared.directive.Meaning.TheVariants as meaning
+use Rattle.hc_table.specs.declared.directive.SectionName.{SectionName}
+use Rattle.hc_table.specs.declared.directive.SectionName.TheVariants as named
 use Rattle.hc_pattern.specs.Globs.{has_wildcard}
 use Rattle.hc_rw_parse.specs.Rules.{cond_of}
 use Rattle.hc_config.specs.Among.{Among}
@@ -34,7 +30,6 @@ use Rattle.hc_config.specs.Hosts.{host_addrs, name_without_port}
 use Rattle.hc_config.specs.Options.{allowed_by, options_step}
 use Rattle.hc_config.specs.Requires.{Line, asked_by, is_none_of, line_of, merging_named, negated_rule, unless_broken}
 use Rattle.hc_config.specs.Rewrites.{base_of, engine_of, inherit_of, map_of, recursion_of, rule_read}
-use Rattle.hc_config.specs.Rows.{by_number}
 use Rattle.hc_config.specs.Sections.{directory, location, name_glob, pattern_alone, plain_or_tilde}
 use Rattle.hc_config.specs.Statuses.{first_status, has_url}
 use Rattle.hc_config.specs.Targets.{own_target_by, target_by, test_by, wrong}
@@ -86,7 +81,8 @@ document_root words = Err wrong
 -- ---- aliases and redirects
 
 -- A target and a test of paths. What is wrong with the target comes first: no number is smaller.
-abbrev pub aimed : Result (List Piece) AtByte → Result PathTest AtByte → (List Piece → PathTest → Effect) → Result Effect AtByte
+abbrev pub aimed : Result (List Piece) AtByte → Result PathTest AtByte → (List Piece → PathTest → Effect)
+    → Result Effect AtByte
 aimed (Err broken) from gives = Err broken
 aimed (Ok to) (Err broken) gives = Err broken
 aimed (Ok to) (Ok from) gives = Ok (gives to from)
@@ -100,11 +96,13 @@ alias_by form among (from ∷ to ∷ []) = aimed (own_target_by form to) (test_b
 alias_by form among words = Err wrong
 
 abbrev pub sent : Spot → ℕ → List Piece → PathTest → Effect
-sent spot status to from = Gives (given.Send (record { place = spot.place; span = spot.span; from = from; to = to; status = status }))
+sent spot status to from =
+    Gives (given.Send (record { place = spot.place; span = spot.span; from = from; to = to; status = status }))
 
 -- Which paths, and the URL.
 abbrev pub sent_to_url : PathForm → ℕ → Giving
-sent_to_url form status among (from ∷ url ∷ []) = aimed (target_by form url) (test_by form from) (sent among.entry.spot status)
+sent_to_url form status among (from ∷ url ∷ []) =
+    aimed (target_by form url) (test_by form from) (sent among.entry.spot status)
 sent_to_url form status among words = Err wrong
 
 -- Which paths alone.
@@ -164,7 +162,8 @@ abbrev pub holds : Among → Container → Effect
 holds among container = Holds (record { place = among.entry.spot.place; container = container })
 
 abbrev pub require_container : Container → Giving
-require_container container among [] = unless_broken (negated_rule (is_none_of container) among.container) (Ok (holds among container))
+require_container container among [] = unless_broken (negated_rule (is_none_of container) among.container)
+    (Ok (holds among container))
 require_container container among (word ∷ words) = Err wrong
 
 abbrev pub merges : Option Merging → Result Effect AtByte
@@ -186,7 +185,8 @@ opens among opened = opens_as false among opened
 -- One address or more.
 abbrev pub virtual_host : Giving
 virtual_host among [] = Err wrong
-virtual_host among (word ∷ words) = given_by (λ addresses. opens among (Host addresses)) (host_addrs (word ∷ words))
+virtual_host among (word ∷ words) =
+    given_by (λ addresses. opens among (Host addresses)) (host_addrs (word ∷ words))
 
 abbrev pub section : (List (List ℕ) → Result Reach AtByte) → Giving
 section reach among words = given_by (λ reach. opens among (Reached reach)) (reach words)
@@ -215,7 +215,8 @@ abbrev pub rewrite_cond : Giving
 rewrite_cond among words = given_by (λ cond. Gives (given.Condition cond)) (cond_of among.entry.spot words)
 
 abbrev pub rewrite_rule : Giving
-rewrite_rule among words = given_by (λ made. Gives (given.Rewrite made)) (rule_read among.entry.spot among.behind words)
+rewrite_rule among words =
+    given_by (λ made. Gives (given.Rewrite made)) (rule_read among.entry.spot among.behind words)
 
 abbrev pub rewrite_map : List (List ℕ) → Result Effect AtByte
 rewrite_map words = given_by (λ map. Gives (given.Values map)) (map_of words)
@@ -227,16 +228,13 @@ recursion words = given_by (λ limit. Gives (given.Recursion limit)) (recursion_
 
 -- Behind an If or ElseIf the chain may go on.
 abbrev pub branch : Among → Bool → Reach → Effect
-branch among goes_on reach = Opens (record { spot = among.entry.spot; opened = Reached reach; chained = goes_on; wild = false })
+branch among goes_on reach =
+    Opens (record { spot = among.entry.spot; opened = Reached reach; chained = goes_on; wild = false })
 
 -- One word, which is an expression.
 abbrev pub branch_by : (Expr → Reach) → Giving
 branch_by reach among (text ∷ []) = given_by (λ expr. branch among true (reach expr)) (parse_expr text)
 branch_by reach among words = Err wrong
-
--- Behind sections of the chain.
-abbrev pub behind_chain : Giving → Giving
-behind_chain gives among words = if among.chained then gives among words else Err (rule WRONG_CONTEXT)
 
 -- No word: where none of the chain before it applies.
 abbrev pub last_branch : Giving
@@ -245,72 +243,56 @@ last_branch among words = Err wrong
 
 -- ---- by meaning
 
-abbrev pub rewrite_givings : List (ℕ × Giving)
-rewrite_givings =
-    (REWRITE_ENGINE, by_words rewrite_engine) ∷
-    (REWRITE_BASE, by_words rewrite_base) ∷
-    (REWRITE_COND, rewrite_cond) ∷
-    (REWRITE_RULE, rewrite_rule) ∷
-    (REWRITE_OPTIONS, by_words rewrite_options) ∷
-    (REWRITE_MAP, by_words rewrite_map) ∷
-    (LIMIT_INTERNAL_RECURSION, by_words recursion) ∷
-    []
+abbrev pub directive_giving : Directive → Giving
+directive_giving directive.ServerRoot = by_words server_root
+directive_giving directive.DocumentRoot = by_words document_root
+directive_giving directive.Define = by_words (counted 1 2)
+directive_giving directive.Include = by_words (counted 1 1)
+directive_giving directive.IncludeOptional = by_words (counted 1 1)
+directive_giving directive.Alias = alias_by Plain
+directive_giving directive.ScriptAlias = alias_by Plain
+directive_giving directive.AliasMatch = alias_by Match
+directive_giving directive.Redirect = redirect_by Plain
+directive_giving directive.RedirectMatch = redirect_by Match
+directive_giving directive.RedirectPermanent = sent_to_url Plain PERMANENT
+directive_giving directive.RedirectTemp = sent_to_url Plain TEMPORARY
+directive_giving directive.UseCanonicalName = by_words (this_argument (codes "Off"))
+directive_giving directive.UserDir = by_words (this_argument (codes "disabled"))
+directive_giving directive.AccessFileName = by_words (this_argument (codes ".htaccess"))
+directive_giving directive.LoadModule = by_words any_arguments
+directive_giving directive.Inert = by_words any_arguments
+directive_giving directive.ServerName = by_words server_name
+directive_giving directive.ServerAlias = by_words server_alias
+directive_giving directive.Options = by_words options
+directive_giving directive.AllowOverride = by_words allow_override
+directive_giving directive.Require = require
+directive_giving directive.AuthMerging = by_words auth_merging
+directive_giving directive.RewriteEngine = by_words rewrite_engine
+directive_giving directive.RewriteBase = by_words rewrite_base
+directive_giving directive.RewriteCond = rewrite_cond
+directive_giving directive.RewriteRule = rewrite_rule
+directive_giving directive.RewriteOptions = by_words rewrite_options
+directive_giving directive.RewriteMap = by_words rewrite_map
+directive_giving directive.LimitInternalRecursion = by_words recursion
 
-abbrev pub condition_givings : List (ℕ × Giving)
-condition_givings =
-    (IF, branch_by When) ∷
-    (ELSE_IF, behind_chain (branch_by Otherwise)) ∷
-    (ELSE, behind_chain last_branch) ∷
-    rewrite_givings
-
-abbrev pub require_givings : List (ℕ × Giving)
-require_givings =
-    (REQUIRE, require) ∷
-    (AUTH_MERGING, by_words auth_merging) ∷
-    (REQUIRE_ALL, require_container All) ∷
-    (REQUIRE_ANY, require_container Any) ∷
-    (REQUIRE_NONE, require_container NoneOf) ∷
-    condition_givings
-
--- A further directive is a further row.
-abbrev pub server_givings : List (ℕ × Giving)
-server_givings =
-    (SERVER_NAME, by_words server_name) ∷
-    (SERVER_ALIAS, by_words server_alias) ∷
-    (OPTIONS, by_words options) ∷
-    (ALLOW_OVERRIDE, by_words allow_override) ∷
-    (VIRTUAL_HOST, virtual_host) ∷
-    (DIRECTORY, directory_section) ∷
-    (DIRECTORY_MATCH, section (pattern_alone DirSearch)) ∷
-    (FILES, section (plain_or_tilde name_glob Files)) ∷
-    (FILES_MATCH, section (pattern_alone Files)) ∷
-    (LOCATION, section (plain_or_tilde location LocationSearch)) ∷
-    (LOCATION_MATCH, section (pattern_alone LocationSearch)) ∷
-    require_givings
-
-abbrev pub givings : List (ℕ × Giving)
-givings =
-    (SERVER_ROOT, by_words server_root) ∷
-    (DOCUMENT_ROOT, by_words document_root) ∷
-    (DEFINE, by_words (counted 1 2)) ∷
-    (INCLUDE, by_words (counted 1 1)) ∷
-    (INCLUDE_OPTIONAL, by_words (counted 1 1)) ∷
-    (ALIAS, alias_by Plain) ∷
-    (SCRIPT_ALIAS, alias_by Plain) ∷
-    (ALIAS_MATCH, alias_by Match) ∷
-    (REDIRECT, redirect_by Plain) ∷
-    (REDIRECT_MATCH, redirect_by Match) ∷
-    (REDIRECT_PERMANENT, sent_to_url Plain PERMANENT) ∷
-    (REDIRECT_TEMP, sent_to_url Plain TEMPORARY) ∷
-    (USE_CANONICAL_NAME, by_words (this_argument (codes "Off"))) ∷
-    (USER_DIR, by_words (this_argument (codes "disabled"))) ∷
-    (ACCESS_FILE_NAME, by_words (this_argument (codes ".htaccess"))) ∷
-    (LOAD_MODULE, by_words any_arguments) ∷
-    (INERT, by_words any_arguments) ∷
-    (IF_DEFINE, by_words (counted 1 1)) ∷
-    (IF_MODULE, by_words (counted 1 1)) ∷
-    server_givings
+abbrev pub section_giving : SectionName → Giving
+section_giving named.IfDefine = by_words (counted 1 1)
+section_giving named.IfModule = by_words (counted 1 1)
+section_giving named.VirtualHost = virtual_host
+section_giving named.Directory = directory_section
+section_giving named.DirectoryMatch = section (pattern_alone DirSearch)
+section_giving named.Files = section (plain_or_tilde name_glob Files)
+section_giving named.FilesMatch = section (pattern_alone Files)
+section_giving named.Location = section (plain_or_tilde location LocationSearch)
+section_giving named.LocationMatch = section (pattern_alone LocationSearch)
+section_giving named.RequireAll = require_container All
+section_giving named.RequireAny = require_container Any
+section_giving named.RequireNone = require_container NoneOf
+section_giving named.If = branch_by When
+section_giving named.ElseIf = branch_by Otherwise
+section_giving named.Else = last_branch
 
 -- What a directive or section of this meaning gives.
-abbrev pub giving : ℕ → Option Giving
-giving meaning = by_number meaning givings
+abbrev pub giving : Meaning → Giving
+giving (meaning.Directive directive) = directive_giving directive
+giving (meaning.Section section) = section_giving section

@@ -1,7 +1,8 @@
 -- The words of VirtualHost, ServerName and ServerAlias.
 -- Apache manual, core: VirtualHost, ServerName, ServerAlias. That an address is IPv4 with a port, and
 -- that the port of a ServerName is ignored, is our own choice.
-use Rattle.std.specs.Prelude.{ℕ, Bool, ◌+◌, List, [], ◌∷◌, ◌++◌, ◌==◌, ◌||◌, take, drop, Option, Some, None, option_and_then, option_map, Result, Ok, Err, codes, if◌then◌else◌}
+use Rattle.std.specs.Prelude.{ℕ, Bool, ◌+◌, List, [], ◌∷◌, ◌++◌, ◌==◌, ◌||◌, take, drop, Option}
+use Rattle.std.specs.Prelude.{Some, None, option_and_then, option_map, Result, Ok, Err, codes, if◌then◌else◌}
 use Rattle.std.specs.List.{position}
 use Rattle.std.specs.Str.{bytes_eq, str_eq_ignore_ascii_case}
 use Rattle.hc_addr.specs.Addresses.{addr_of}
@@ -47,13 +48,15 @@ abbrev pub host_addr_of : List ℕ → Option HostAddr
 host_addr_of word = host_addr_at (position is_colon word) word
 
 -- All words behind these, or that one is no address.
-abbrev pub addrs_next : Option HostAddr → (HostAddr → Result (List HostAddr) AtByte) → Result (List HostAddr) AtByte
+abbrev pub addrs_next : Option HostAddr → (HostAddr → Result (List HostAddr) AtByte)
+    → Result (List HostAddr) AtByte
 addrs_next None more = Err (rule VHOST_ADDRESS)
 addrs_next (Some address) more = more address
 
 abbrev pub addrs_from : List HostAddr → List (List ℕ) → Result (List HostAddr) AtByte
 addrs_from addrs [] = Ok addrs
-addrs_from addrs (word ∷ words) = addrs_next (host_addr_of word) (λ address. addrs_from (addrs ++ address ∷ []) words)
+addrs_from addrs (word ∷ words) =
+    addrs_next (host_addr_of word) (λ address. addrs_from (addrs ++ address ∷ []) words)
 
 abbrev pub host_addrs : List (List ℕ) → Result (List HostAddr) AtByte
 host_addrs words = addrs_from [] words

@@ -1,7 +1,8 @@
 -- What is open around an entry, and what the servers and sections have so far, while the entries of a
 -- list are taken one after another.
 -- Apache manual, "Configuration Sections"; core, DocumentRoot, ServerName, Options, AllowOverride.
-use Rattle.std.specs.Prelude.{ℕ, ◌-◌, Bool, List, [], ◌∷◌, ◌++◌, length, take, slice_get, false, Option, Some, None, option_map, Result, Ok, Err}
+use Rattle.std.specs.Prelude.{ℕ, ◌-◌, Bool, List, [], ◌∷◌, ◌++◌, length, take, slice_get, false, Option}
+use Rattle.std.specs.Prelude.{Some, None, option_map, Result, Ok, Err}
 use Rattle.hc_base.specs.declared.place.Place.{Place}
 use Rattle.hc_base.specs.Rules.{refusal_at, rule}
 use Rattle.hc_base.specs.declared.place.Refusal.{Refusal}
@@ -12,10 +13,12 @@ use Rattle.hc_model.specs.declared.config.Server.{Server}
 use Rattle.hc_model.specs.declared.section.Body.{Body, roll-Body}
 use Rattle.hc_model.specs.declared.section.OptStep.{OptStep}
 use Rattle.hc_model.specs.declared.section.Reach.{Reach}
-use Rattle.hc_model.specs.declared.section.Reach.TheVariants.{Dir, DirSearch, Files, Location, LocationGlob, LocationSearch, Otherwise, When}
+use Rattle.hc_model.specs.declared.section.Reach.TheVariants.{Dir, DirSearch, Files, Location, LocationGlob}
+use Rattle.hc_model.specs.declared.section.Reach.TheVariants.{LocationSearch, Otherwise, When}
 use Rattle.hc_model.specs.declared.section.Section.{Section, roll-Section}
 use Rattle.hc_model.specs.declared.spot.Spot.{Spot}
-use Rattle.hc_table.specs.declared.context.TheConstants as context
+use Rattle.hc_table.specs.declared.context.Context.{Context}
+use Rattle.hc_table.specs.declared.context.Context.TheVariants as context
 use Rattle.hc_config.specs.declared.gathered.Gathered.{Gathered}
 use Rattle.hc_config.specs.declared.gathered.Given.{Given}
 use Rattle.hc_config.specs.declared.gathered.Given.TheVariants as given
@@ -33,18 +36,18 @@ use Rattle.hc_config.specs.Sources.{top_context}
 
 -- ---- contexts
 
-abbrev pub context_of_reach : Reach → ℕ
-context_of_reach (Dir pattern) = context.DIRECTORY
-context_of_reach (DirSearch pattern) = context.DIRECTORY_MATCH
-context_of_reach (Files pattern) = context.FILES
-context_of_reach (Location path) = context.LOCATION
-context_of_reach (LocationGlob pattern) = context.LOCATION
-context_of_reach (LocationSearch pattern) = context.LOCATION
-context_of_reach (When test) = context.IF_SECTION
-context_of_reach (Otherwise test) = context.IF_SECTION
+abbrev pub context_of_reach : Reach → Context
+context_of_reach (Dir pattern) = context.Directory
+context_of_reach (DirSearch pattern) = context.DirectoryMatch
+context_of_reach (Files pattern) = context.Files
+context_of_reach (Location path) = context.Location
+context_of_reach (LocationGlob pattern) = context.Location
+context_of_reach (LocationSearch pattern) = context.Location
+context_of_reach (When test) = context.IfSection
+context_of_reach (Otherwise test) = context.IfSection
 
-abbrev pub context_inside : Opened → ℕ
-context_inside (Host addresses) = context.VIRTUAL_HOST
+abbrev pub context_inside : Opened → Context
+context_inside (Host addresses) = context.VirtualHost
 context_inside (Reached reach) = context_of_reach reach
 
 -- ---- what one server or section has so far
@@ -53,9 +56,9 @@ abbrev pub nothing_gathered : Gathered
 nothing_gathered = record {
   root = None;
   name = None;
-  aliases = [];
+  names = [];
   redirects = [];
-  maps = [];
+  aliases = [];
   options = [];
   allow = None;
   sections = [];
@@ -64,16 +67,17 @@ nothing_gathered = record {
   members = [];
   rewriting = no_rewriting;
   recursion = None;
-  maps_by_name = [];
+  rewrite_maps = [];
 }
 
--- The last line counts of DocumentRoot, ServerName, AllowOverride, AuthMerging, RewriteEngine, RewriteBase, RewriteOptions
+-- The last line counts of DocumentRoot, ServerName, AllowOverride, AuthMerging, RewriteEngine, RewriteBase,
+-- RewriteOptions
 -- and LimitInternalRecursion; of all else every line, in its order.
 abbrev pub with_given : Gathered → Given → Gathered
 with_given gathered (given.Root path) = record gathered { root = Some path }
 with_given gathered (given.Name name) = record gathered { name = Some name }
-with_given gathered (given.Names names) = record gathered { aliases = gathered.aliases ++ names }
-with_given gathered (given.Map alias) = record gathered { maps = gathered.maps ++ alias ∷ [] }
+with_given gathered (given.Names names) = record gathered { names = gathered.names ++ names }
+with_given gathered (given.Map alias) = record gathered { aliases = gathered.aliases ++ alias ∷ [] }
 with_given gathered (given.Send redirect) = record gathered { redirects = gathered.redirects ++ redirect ∷ [] }
 with_given gathered (given.Options step) = record gathered { options = gathered.options ++ step ∷ [] }
 with_given gathered (given.Allow allowed) = record gathered { allow = Some allowed }
@@ -85,7 +89,7 @@ with_given gathered (given.Inherits inherit) = record gathered { rewriting = wit
 with_given gathered (given.Condition cond) = record gathered { rewriting = with_cond gathered.rewriting cond }
 with_given gathered (given.Rewrite made) = record gathered { rewriting = with_rule gathered.rewriting made }
 with_given gathered (given.Recursion limit) = record gathered { recursion = Some limit }
-with_given gathered (given.Values map) = record gathered { maps_by_name = gathered.maps_by_name ++ map ∷ [] }
+with_given gathered (given.Values map) = record gathered { rewrite_maps = gathered.rewrite_maps ++ map ∷ [] }
 
 -- ---- bodies
 
@@ -125,14 +129,14 @@ server_of place addresses gathered = record {
   place = place;
   addresses = addresses;
   name = gathered.name;
-  aliases = gathered.aliases;
+  names = gathered.names;
   root = gathered.root;
   redirects = gathered.redirects;
-  maps = gathered.maps;
+  aliases = gathered.aliases;
   body = server_body gathered.options gathered.rewriting;
   sections = gathered.sections;
   recursion = gathered.recursion;
-  maps_by_name = gathered.maps_by_name;
+  rewrite_maps = gathered.rewrite_maps;
 }
 
 abbrev pub section_of : Spot → Reach → Gathered → Section
@@ -176,7 +180,7 @@ last_of items = slice_get items (length items - 1)
 abbrev pub without_last : {A : Type 0} → List A → List A
 without_last items = take (length items - 1) items
 
-abbrev pub context_within : Source → Option Around → ℕ
+abbrev pub context_within : Source → Option Around → Context
 context_within source None = top_context source
 context_within source (Some around) = context_inside around.opening.opened
 
@@ -189,7 +193,7 @@ abbrev pub wild_of : Standing → Bool
 wild_of standing = is_wild (last_of standing.around)
 
 -- That of the innermost opening, else that outside all.
-abbrev pub context_of : Source → Standing → ℕ
+abbrev pub context_of : Source → Standing → Context
 context_of source standing = context_within source (last_of standing.around)
 
 abbrev pub opened : Standing → Opening → Standing
@@ -244,7 +248,8 @@ unless_refused standing held (Some code) = Err (refusal_at held.holding.place (r
 
 abbrev pub released_by : Standing → Option Held → Result Standing Refusal
 released_by standing None = Ok standing
-released_by standing (Some held) = unless_refused standing held (container_rule held.holding.container standing.so_far.members)
+released_by standing (Some held) =
+    unless_refused standing held (container_rule held.holding.container standing.so_far.members)
 
 -- The innermost container is closed.
 abbrev pub innermost_released : Standing → Result Standing Refusal

@@ -1,4 +1,3 @@
-pub mod Rows
 pub mod Kinds
 pub mod Rewriting
 pub mod Targets

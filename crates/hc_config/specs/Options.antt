@@ -1,7 +1,9 @@
 -- The words of Options and of AllowOverride.
 -- Apache manual, core: Options, AllowOverride. That `+None` and `-None` do nothing, and that a line without
 -- signs is the union of its words, is our own choice.
-use Rattle.std.specs.Prelude.{ℕ, ◌==◌, List, [], ◌∷◌, ◌++◌, Bool, true, false, not, ◌&&◌, filter, Option, Some, None, Result, Ok, Err, codes, if◌then◌else◌}
+use Rattle.std.specs.Prelude.{ℕ, ◌==◌, List, [], ◌∷◌, ◌++◌, Bool, true, false, not, ◌&&◌, filter}
+use Rattle.std.specs.Prelude.{Option, Some, None}
+use Rattle.std.specs.Prelude.{option_map, Result, Ok, Err, codes, if◌then◌else◌}
 use Rattle.std.specs.List.{fold, list_all, list_any}
 use Rattle.std.specs.Str.{str_eq_ignore_ascii_case}
 use Rattle.hc_base.specs.Bytes.{dash, plus}
@@ -10,56 +12,39 @@ use Rattle.hc_base.specs.declared.codes.TheConstants.{MIXED_OPTIONS}
 use Rattle.hc_base.specs.declared.fault.AtByte.{AtByte}
 use Rattle.hc_model.specs.declared.section.Allowed.{Allowed}
 use Rattle.hc_model.specs.declared.section.OptStep.{OptStep}
-use Rattle.hc_config.specs.Statuses.{named_in}
+use Rattle.hc_table.specs.Options.{class_rows, is_option, option_rows}
+use Rattle.hc_table.specs.Table.{find_in}
+use Rattle.hc_table.specs.declared.directive.Class.{Class}
+use Rattle.hc_table.specs.declared.directive.Class.TheVariants as class
+use Rattle.hc_table.specs.declared.option_name.OptionName.{OptionName}
+use Rattle.hc_table.specs.declared.option_name.OptionName.TheVariants.{ExecCgi, FollowSymLinks, Includes}
+use Rattle.hc_table.specs.declared.option_name.OptionName.TheVariants.{IncludesNoExec, Indexes, SymLinksIfOwnerMatch}
+use Rattle.hc_table.specs.declared.option_name.OptionWord.{OptionWord}
+use Rattle.hc_table.specs.declared.option_name.OptionWord.TheVariants.{All, Nothing, One}
 use Rattle.hc_config.specs.Targets.{wrong}
-use Rattle.hc_config.specs.declared.options.TheConstants.{ALL_OPTIONS, EXEC_CGI, FOLLOW_LINKS, INCLUDES, INCLUDES_NO_EXEC}
-use Rattle.hc_config.specs.declared.options.TheConstants.{INDEXES, LINKS_IF_OWNER_MATCH, MULTI_VIEWS, NO_OPTION}
 use Rattle.hc_config.specs.declared.options.Sign.{Sign}
 use Rattle.hc_config.specs.declared.options.Sign.TheVariants.{Add, Take, Unsigned}
 use Rattle.hc_config.specs.declared.options.Signed.{Signed}
 
 -- ---- options
 
--- The names of options, with their places.
-abbrev pub last_rows : List (List ℕ × ℕ)
-last_rows =
-    (codes "SymLinksIfOwnerMatch", LINKS_IF_OWNER_MATCH) ∷
-    (codes "ExecCGI", EXEC_CGI) ∷
-    (codes "MultiViews", MULTI_VIEWS) ∷
-    []
-
-abbrev pub further_rows : List (List ℕ × ℕ)
-further_rows =
-    (codes "Includes", INCLUDES) ∷
-    (codes "IncludesNOEXEC", INCLUDES_NO_EXEC) ∷
-    (codes "FollowSymLinks", FOLLOW_LINKS) ∷
-    last_rows
-
-abbrev pub option_rows : List (List ℕ × ℕ)
-option_rows =
-    (codes "None", NO_OPTION) ∷
-    (codes "All", ALL_OPTIONS) ∷
-    (codes "Indexes", INDEXES) ∷
-    further_rows
-
 -- `None` is no option, and `All` stands for all but MultiViews.
-abbrev pub options_at : ℕ → List ℕ
-options_at place =
-    if place == NO_OPTION then []
-    else if place == ALL_OPTIONS then INDEXES ∷ INCLUDES ∷ INCLUDES_NO_EXEC ∷ FOLLOW_LINKS ∷ LINKS_IF_OWNER_MATCH ∷ EXEC_CGI ∷ []
-    else place ∷ []
+abbrev pub options_of : OptionWord → List OptionName
+options_of Nothing = []
+options_of All = Indexes ∷ Includes ∷ IncludesNoExec ∷ FollowSymLinks ∷ SymLinksIfOwnerMatch ∷ ExecCgi ∷ []
+options_of (One option) = option ∷ []
 
 -- A word's option, with its sign.
-abbrev pub with_sign : Sign → Option ℕ → Option Signed
+abbrev pub with_sign : Sign → Option OptionWord → Option Signed
 with_sign sign None = None
-with_sign sign (Some place) = Some (record { sign = sign; place = place })
+with_sign sign (Some option) = Some (record { sign = sign; option = option })
 
 abbrev pub signed_of : List ℕ → Option Signed
 signed_of [] = None
 signed_of (b ∷ name) =
-    if b == plus then with_sign Add (named_in name option_rows)
-    else if b == dash then with_sign Take (named_in name option_rows)
-    else with_sign Unsigned (named_in (b ∷ name) option_rows)
+    if b == plus then with_sign Add (find_in option_rows name)
+    else if b == dash then with_sign Take (find_in option_rows name)
+    else with_sign Unsigned (find_in option_rows (b ∷ name))
 
 abbrev pub has_none : Sign → Bool
 has_none Add = false
@@ -70,29 +55,26 @@ abbrev pub is_unsigned : Signed → Bool
 is_unsigned word = has_none word.sign
 
 -- Options without these.
-abbrev pub is_option : ℕ → ℕ → Bool
-is_option option other = option == other
-
-abbrev pub is_apart : List ℕ → ℕ → Bool
+abbrev pub is_apart : List OptionName → OptionName → Bool
 is_apart options option = not (list_any (is_option option) options)
 
-abbrev pub without : List ℕ → List ℕ → List ℕ
+abbrev pub without : List OptionName → List OptionName → List OptionName
 without options held = filter (is_apart options) held
 
 -- Words take effect in their order.
-abbrev pub added : OptStep → List ℕ → OptStep
+abbrev pub added : OptStep → List OptionName → OptStep
 added step options = record step { add = step.add ++ options; take = without options step.take }
 
-abbrev pub taken : OptStep → List ℕ → OptStep
+abbrev pub taken : OptStep → List OptionName → OptStep
 taken step options = record step { add = without options step.add; take = step.take ++ options }
 
-abbrev pub with_options : OptStep → Sign → List ℕ → OptStep
+abbrev pub with_options : OptStep → Sign → List OptionName → OptStep
 with_options step Add options = added step options
 with_options step Take options = taken step options
 with_options step Unsigned options = added step options
 
 abbrev pub with_word : OptStep → Signed → OptStep
-with_word step word = with_options step word.sign (options_at word.place)
+with_word step word = with_options step word.sign (options_of word.option)
 
 -- Words without signs replace what was in force.
 abbrev pub step_of : List Signed → OptStep
@@ -132,22 +114,15 @@ nothing_allowed = record { auth = false; file_info = false; indexes = false; lim
 abbrev pub all_allowed : Allowed
 all_allowed = record { auth = true; file_info = true; indexes = true; limit = true; options = true }
 
-abbrev pub further_classes : Allowed → List (List ℕ × Allowed)
-further_classes allowed =
-    (codes "Limit", record allowed { limit = true }) ∷
-    (codes "Options", record allowed { options = true }) ∷
-    []
-
--- The classes by their names, each with what is allowed with it.
-abbrev pub classes : Allowed → List (List ℕ × Allowed)
-classes allowed =
-    (codes "AuthConfig", record allowed { auth = true }) ∷
-    (codes "FileInfo", record allowed { file_info = true }) ∷
-    (codes "Indexes", record allowed { indexes = true }) ∷
-    further_classes allowed
+abbrev pub allowing : Allowed → Class → Allowed
+allowing allowed class.AuthConfig = record allowed { auth = true }
+allowing allowed class.FileInfo = record allowed { file_info = true }
+allowing allowed class.Indexes = record allowed { indexes = true }
+allowing allowed class.Limit = record allowed { limit = true }
+allowing allowed class.Options = record allowed { options = true }
 
 abbrev pub with_class : Allowed → List ℕ → Option Allowed
-with_class allowed word = named_in word (classes allowed)
+with_class allowed word = option_map (allowing allowed) (find_in class_rows word)
 
 abbrev pub classes_next : Option Allowed → (Allowed → Result Allowed AtByte) → Result Allowed AtByte
 classes_next None more = Err wrong

@@ -1,14 +1,16 @@
 -- Require lines, and the containers that they stand in.
 -- Apache manual, mod_authz_core: Require, RequireAll, RequireAny, RequireNone, AuthMerging; mod_authz_host. What may
 -- be negated where, and the order of refusals, are our own choice.
-use Rattle.std.specs.Prelude.{ℕ, List, [], ◌∷◌, Bool, true, false, not, ◌||◌, is_some, Option, Some, None, Result, Ok, Err, codes, if◌then◌else◌}
+use Rattle.std.specs.Prelude.{ℕ, List, [], ◌∷◌, Bool, true, false, not, ◌||◌, is_some, Option, Some, None}
+use Rattle.std.specs.Prelude.{Result, Ok, Err, codes, if◌then◌else◌}
 use Rattle.std.specs.List.{list_all, list_any}
 use Rattle.std.specs.Str.{str_eq_ignore_ascii_case}
 use Rattle.hc_addr.specs.Networks.{net_of}
 use Rattle.hc_addr.specs.declared.net.BadAddress.{BadAddress}
 use Rattle.hc_addr.specs.declared.net.Net.{Net}
 use Rattle.hc_base.specs.Rules.{rule}
-use Rattle.hc_base.specs.declared.codes.TheConstants.{BAD_ADDRESS, EMPTY_CONTAINER, NEGATED_IN_ANY, NEGATED_IN_NONE, ONLY_NEGATIVE, UNSUPPORTED_DIRECTIVE}
+use Rattle.hc_base.specs.declared.codes.TheConstants.{BAD_ADDRESS, EMPTY_CONTAINER, NEGATED_IN_ANY, NEGATED_IN_NONE}
+use Rattle.hc_base.specs.declared.codes.TheConstants.{ONLY_NEGATIVE, UNSUPPORTED_DIRECTIVE}
 use Rattle.hc_base.specs.declared.fault.AtByte.{AtByte}
 use Rattle.hc_model.specs.declared.authorization.Merging.{Merging}
 use Rattle.hc_model.specs.declared.authorization.Merging.TheVariants as merging

@@ -1,8 +1,10 @@
 -- The words of the directives of rewriting, and of LimitInternalRecursion.
 -- Apache manual, mod_rewrite: RewriteEngine, RewriteBase, RewriteCond, RewriteRule, RewriteOptions, RewriteMap; core,
--- LimitInternalRecursion. Which sources of maps there are, the range of a limit, and that a rule which redirects has L or
+-- LimitInternalRecursion. Which sources of maps there are, the range of a limit, and that a rule which redirects has L
+-- or
 -- END where another follows, is our own choice.
-use Rattle.std.specs.Prelude.{ℕ, ◌==◌, List, [], ◌∷◌, length, take, drop, Bool, true, false, not, ◌&&◌, ◌||◌, nat_le, if◌then◌else◌, codes}
+use Rattle.std.specs.Prelude.{ℕ, ◌==◌, List, [], ◌∷◌, length, take, drop, Bool, true, false, not, ◌&&◌}
+use Rattle.std.specs.Prelude.{◌||◌, nat_le, if◌then◌else◌, codes}
 use Rattle.std.specs.Prelude.{Option, Some, None, Result, Ok, Err}
 use Rattle.std.specs.Str.{str_eq_ignore_ascii_case}
 use Rattle.hc_addr.specs.Numbers.{at_most, decimal_of}
@@ -22,10 +24,10 @@ use Rattle.hc_model.specs.declared.section.Inherit.{Inherit}
 use Rattle.hc_model.specs.declared.section.Inherit.TheVariants.{After, Before}
 use Rattle.hc_model.specs.declared.spot.Spot.{Spot}
 use Rattle.hc_rw_parse.specs.Rules.{rule_of}
-use Rattle.hc_table.specs.Directives.{directive_rows}
-use Rattle.hc_table.specs.Table.{find_in}
-use Rattle.hc_table.specs.declared.meaning.TheConstants.{REWRITE_RULE}
-use Rattle.hc_table.specs.declared.table.RowKind.{RowKind}
+use Rattle.hc_table.specs.Directives.{meaning_of}
+use Rattle.hc_table.specs.declared.directive.Directive.TheVariants as directive
+use Rattle.hc_table.specs.declared.directive.Meaning.{Meaning}
+use Rattle.hc_table.specs.declared.directive.Meaning.TheVariants as meaning
 use Rattle.hc_target.specs.Urls.{is_url}
 use Rattle.hc_template.specs.MapNames.{is_map_name}
 use Rattle.hc_config.specs.Kinds.{is_transparent}
@@ -83,7 +85,8 @@ abbrev pub map_kind : List ℕ → Option MapKind
 map_kind source =
     if str_eq_ignore_ascii_case (codes "int:toupper") source then Some kind.Upper
     else (if str_eq_ignore_ascii_case (codes "int:tolower") source then Some kind.Lower
-    else (if str_eq_ignore_ascii_case text_front (take (length text_front) source) && begins_with_slash (drop (length text_front) source)
+    else (if str_eq_ignore_ascii_case text_front (take (length text_front) source) && begins_with_slash
+    (drop (length text_front) source)
     then Some (kind.File (drop (length text_front) source)) else None))
 
 abbrev pub map_with : List ℕ → Option MapKind → Result Map AtByte
@@ -96,12 +99,9 @@ map_of words = Err wrong
 
 -- ---- a rule that redirects
 
-abbrev pub row_of_entry : Entry → Option RowKind
-row_of_entry entry = find_in directive_rows entry.name
-
-abbrev pub is_meaning : ℕ → Option RowKind → Bool
-is_meaning meaning None = false
-is_meaning meaning (Some kind) = kind.meaning == meaning
+abbrev pub is_rewrite_rule : Option Meaning → Bool
+is_rewrite_rule (Some (meaning.Directive directive.RewriteRule)) = true
+is_rewrite_rule meaning = false
 
 abbrev pub is_directive : EntryForm → Bool
 is_directive Directive = true
@@ -109,11 +109,11 @@ is_directive Opening = false
 is_directive Close = false
 
 abbrev pub is_rule : Entry → Bool
-is_rule entry = is_directive entry.form && is_meaning REWRITE_RULE (row_of_entry entry)
+is_rule entry = is_directive entry.form && is_rewrite_rule (meaning_of entry.name)
 
 -- A section other than IfDefine, IfModule and the containers of Require begins or ends.
 abbrev pub ends_look : Entry → Bool
-ends_look entry = not (is_directive entry.form) && not (is_transparent (row_of_entry entry))
+ends_look entry = not (is_directive entry.form) && not (is_transparent (meaning_of entry.name))
 
 -- Another RewriteRule follows, before any other section begins or the one around ends.
 abbrev pub rule_follows : List Entry → Bool

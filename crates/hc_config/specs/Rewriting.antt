@@ -25,4 +25,8 @@ with_cond rewriting cond = record rewriting { stands = true; conds = rewriting.c
 
 abbrev pub with_rule : Rewriting → Rule → Rewriting
 with_rule rewriting made =
-    record rewriting { stands = true; rules = rewriting.rules ++ record made { conds = rewriting.conds } ∷ []; conds = [] }
+    record rewriting {
+      stands = true;
+      rules = rewriting.rules ++ record made { conds = rewriting.conds } ∷ [];
+      conds = [];
+    }

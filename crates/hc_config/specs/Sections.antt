@@ -42,7 +42,8 @@ abbrev pub unless_tilde : (List ℕ → Result Reach AtByte) → List ℕ → Re
 unless_tilde plain word = if bytes_eq word (codes "~") then Err wrong else plain word
 
 -- One word, or `~` and a pattern.
-abbrev pub plain_or_tilde : (List ℕ → Result Reach AtByte) → (Pattern → Reach) → List (List ℕ) → Result Reach AtByte
+abbrev pub plain_or_tilde : (List ℕ → Result Reach AtByte) → (Pattern → Reach) → List (List ℕ)
+    → Result Reach AtByte
 plain_or_tilde plain reach (word ∷ []) = unless_tilde plain word
 plain_or_tilde plain reach (sign ∷ word ∷ []) = behind_tilde reach sign word
 plain_or_tilde plain reach words = Err wrong

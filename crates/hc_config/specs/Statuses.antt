@@ -1,23 +1,20 @@
 -- The status of a redirect (Apache manual, mod_alias, Redirect).
-use Rattle.std.specs.Prelude.{ℕ, ◌+◌, ◌*◌, ◌-◌, ◌==◌, List, [], ◌∷◌, length, ◌&&◌, not, Bool, codes, nat_le, nat_lt}
+use Rattle.std.specs.Prelude.{ℕ, ◌+◌, ◌*◌, ◌-◌, ◌==◌, List, [], ◌∷◌, length, ◌&&◌, not}
+use Rattle.std.specs.Prelude.{Bool, codes, nat_le, nat_lt}
 use Rattle.std.specs.Prelude.{if◌then◌else◌, Option, Some, None, Result, Ok, Err}
 use Rattle.std.specs.Char.{is_ascii_digit}
 use Rattle.std.specs.List.{list_all}
-use Rattle.std.specs.Str.{str_eq_ignore_ascii_case}
 use Rattle.hc_base.specs.Bytes.{digit_zero}
 use Rattle.hc_base.specs.declared.fault.AtByte.{AtByte}
+use Rattle.hc_table.specs.Table.{find_in}
 use Rattle.hc_config.specs.Targets.{wrong}
 use Rattle.hc_config.specs.declared.status.TheConstants.{GONE, PERMANENT, SEE_OTHER, TEMPORARY}
 use Rattle.hc_config.specs.declared.status.TheConstants.{BEHIND_REDIRECTS, BEHIND_STATUSES, FIRST_STATUS}
 
 -- Statuses by their names, without case.
 abbrev pub status_names : List (List ℕ × ℕ)
-status_names = (codes "permanent", PERMANENT) ∷ (codes "temp", TEMPORARY) ∷ (codes "seeother", SEE_OTHER) ∷ (codes "gone", GONE) ∷ []
-
--- What the first row of this name has, without case.
-abbrev pub named_in : {A : Type 0} → List ℕ → List (List ℕ × A) → Option A
-named_in word [] = None
-named_in word (row ∷ rows) = if str_eq_ignore_ascii_case row.0 word then Some row.1 else named_in word rows
+status_names = (codes "permanent", PERMANENT) ∷ (codes "temp", TEMPORARY) ∷ (codes "seeother", SEE_OTHER)
+    ∷ (codes "gone", GONE) ∷ []
 
 abbrev pub in_range : ℕ → Option ℕ
 in_range status = if nat_le FIRST_STATUS status && nat_lt status BEHIND_STATUSES then Some status else None
@@ -27,7 +24,8 @@ digits_status a b c = in_range (100 * (a - digit_zero) + 10 * (b - digit_zero) +
 
 -- Three digits, from 300 to 599.
 abbrev pub numbered : List ℕ → Option ℕ
-numbered (a ∷ b ∷ c ∷ []) = if is_ascii_digit a && is_ascii_digit b && is_ascii_digit c then digits_status a b c else None
+numbered (a ∷ b ∷ c ∷ []) = if is_ascii_digit a && is_ascii_digit b && is_ascii_digit c then digits_status a b c
+    else None
 numbered word = None
 
 abbrev pub or_numbered : Option ℕ → List ℕ → Option ℕ
@@ -35,7 +33,7 @@ or_numbered (Some status) word = Some status
 or_numbered None word = numbered word
 
 abbrev pub redirect_status : List ℕ → Option ℕ
-redirect_status word = or_numbered (named_in word status_names) word
+redirect_status word = or_numbered (find_in status_names word) word
 
 -- Digits alone.
 abbrev pub is_digits : List ℕ → Bool

@@ -6,19 +6,17 @@ use crate::source::Source;
 use hc_base::{NoMemory, Place};
 use hc_flat::{Entries, EntryView};
 use hc_model::Spot;
-use hc_table::Row;
+use hc_table::Context;
 use std::alloc::Global;
 
 /// An entry among the others of its list: a rule may look at those before it and those behind it.
 #[derive(Clone, Copy)]
 pub(crate) struct Among<'e> {
     pub alloc: Global,
-    /// The rows of the table of directives.
-    pub names: &'e [Row],
     /// Whose text it stands in.
     pub source: Source,
     /// The context in which it stands.
-    pub context: u16,
+    pub context: Context,
     /// The innermost container of Require lines that it stands in.
     pub container: Option<Container>,
     /// An `<If>` or `<ElseIf>` is closed right before it.

@@ -1,12 +1,12 @@
 ghost use Rattle.std.specs.Prelude.{◌≡◌, ◌∷◌, []};
 ghost use Rattle.hc_base.specs.Gives.{Gives};
-ghost use Rattle.hc_config.specs.Options.{allowed_alone, allowed_by, classes_from, further_classes};
+ghost use Rattle.hc_config.specs.Options.{allowed_alone, allowed_by, allowing, classes_from};
 ghost use Rattle.hc_config.specs.Options.{nothing_allowed, with_class};
-ghost use Rattle.hc_config.specs.Statuses.{named_in};
 
 use crate::effect::{EffectFault, REFUSED};
 use hc_base::CowStr;
 use hc_model::Allowed;
+use hc_table::{Class, class_named};
 
 /// What AllowOverride allows (Apache manual, core): `All`, `None`, or classes.
 pub(crate) fn allowed_by(words: &[CowStr]) -> Result<Allowed, EffectFault>
@@ -72,40 +72,19 @@ fn classes_of(words: &[CowStr]) -> Result<Allowed, EffectFault>
 fn with_class(allowed: Allowed, word: &str) -> Option<Allowed>
     ensures { result ≡ with_class allowed word.now }
 {
-    if "AuthConfig".eq_ignore_ascii_case(word) {
-        Some(Allowed {
-            auth: true,
-            ..allowed
-        })
-    } else if "FileInfo".eq_ignore_ascii_case(word) {
-        Some(Allowed {
-            file_info: true,
-            ..allowed
-        })
-    } else if "Indexes".eq_ignore_ascii_case(word) {
-        Some(Allowed {
-            indexes: true,
-            ..allowed
-        })
-    } else {
-        with_further_class(allowed, word)
-    }
+    let class = class_named(word.as_bytes())?;
+    Some(allowing(allowed, class))
 }
 
-fn with_further_class(allowed: Allowed, word: &str) -> Option<Allowed>
-    ensures { result ≡ named_in word.now (further_classes allowed) }
+fn allowing(mut allowed: Allowed, class: Class) -> Allowed
+    ensures { result ≡ allowing allowed class }
 {
-    if "Limit".eq_ignore_ascii_case(word) {
-        Some(Allowed {
-            limit: true,
-            ..allowed
-        })
-    } else if "Options".eq_ignore_ascii_case(word) {
-        Some(Allowed {
-            options: true,
-            ..allowed
-        })
-    } else {
-        None
+    match class {
+        Class::AuthConfig => allowed.auth = true,
+        Class::FileInfo => allowed.file_info = true,
+        Class::Indexes => allowed.indexes = true,
+        Class::Limit => allowed.limit = true,
+        Class::Options => allowed.options = true,
     }
+    allowed
 }

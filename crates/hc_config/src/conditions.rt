@@ -2,15 +2,14 @@
 ghost use Rattle.std.specs.Prelude.{◌≡◌, IfOk};
 ghost use Rattle.hc_base.specs.Gives.{Gives};
 ghost use Rattle.hc_config.specs.Among.{among_of};
-ghost use Rattle.hc_config.specs.Directives.{behind_chain, branch, branch_by, last_branch};
+ghost use Rattle.hc_config.specs.Directives.{branch, branch_by, last_branch};
 ghost use Rattle.hc_model.specs.declared.expression.Expr.TheVariants.{Yes};
 ghost use Rattle.hc_model.specs.declared.section.Reach.TheVariants.{Otherwise, When};
 
 use crate::among::{Among, spot_of};
 use crate::effect::{Effect, EffectFault, REFUSED};
 use crate::gathered::{Opened, Opening};
-use hc_base::codes::WRONG_CONTEXT;
-use hc_base::{AtByte, CowStr, Fault, List, NoMemory};
+use hc_base::{CowStr, List, NoMemory};
 use hc_expr::parse_expr;
 use hc_model::{ExprStep, Expression, Reach};
 use std::alloc::Global;
@@ -28,11 +27,8 @@ pub(crate) fn if_section(among: &Among, words: &[CowStr]) -> Result<Effect, Effe
 
 /// `<ElseIf expression>` (core): one word.
 pub(crate) fn else_if(among: &Among, words: &[CowStr]) -> Result<Effect, EffectFault>
-    ensures { Gives result (behind_chain (branch_by Otherwise) (among_of among.now) words.now) }
+    ensures { Gives result (branch_by Otherwise (among_of among.now) words.now) }
 {
-    if !among.chained {
-        return Err(MISPLACED);
-    }
     let [text] = words else {
         return Err(REFUSED);
     };
@@ -42,22 +38,14 @@ pub(crate) fn else_if(among: &Among, words: &[CowStr]) -> Result<Effect, EffectF
 
 /// `<Else>` (core): no word.
 pub(crate) fn else_section(among: &Among, words: &[CowStr]) -> Result<Effect, EffectFault>
-    ensures { Gives result (behind_chain last_branch (among_of among.now) words.now) }
+    ensures { Gives result (last_branch (among_of among.now) words.now) }
 {
-    if !among.chained {
-        return Err(MISPLACED);
-    }
     if !words.is_empty() {
         return Err(REFUSED);
     }
     let always = always(among.alloc)?;
     Ok(branch(among, false, Reach::Otherwise(always))?)
 }
-
-const MISPLACED: EffectFault = Fault::Refused(AtByte {
-    code: WRONG_CONTEXT,
-    at: 0,
-});
 
 // Behind an `<If>` or `<ElseIf>` the chain may go on.
 fn branch(among: &Among, goes_on: bool, reach: Reach) -> Result<Effect, NoMemory>

@@ -19,7 +19,6 @@ use hc_base::codes::NO_DOCUMENT_ROOT;
 use hc_base::{AtByte, Fault, List, NoMemory, Place, Refusal, Text};
 use hc_flat::{Entries, EntryView, Flat};
 use hc_model::{Allowed, Body, Config, Server};
-use hc_table::directives;
 use std::alloc::Global;
 use std::mem::replace;
 
@@ -108,12 +107,10 @@ fn any_without_root(hosts: &[Server]) -> bool
 fn gather(alloc: Global, source: Source, entries: &Entries) -> Result<Standing, BuildFault>
     ensures { Gives (gathered_view result) (gathered_from source nothing_standing [] entries.now) }
 {
-    let names = directives();
     let mut standing = Standing::nothing(alloc, entries.len());
     for (place, entry) in entries.iter().enumerate() {
         let among = Among {
             alloc,
-            names: names.rows,
             source,
             context: standing.context(source),
             container: standing.container(),

@@ -1,17 +1,14 @@
 //! A rule that redirects and goes on, and what stands behind it.
-ghost use Rattle.std.specs.Prelude.{◌≡◌, ◌+◌, ◌&&◌, ◌||◌, drop, map, not};
-ghost use Rattle.hc_table.specs.Directives.{directive_rows};
-ghost use Rattle.hc_table.specs.Table.{row_of};
-ghost use Rattle.hc_table.specs.declared.meaning.TheConstants.{REWRITE_RULE};
+ghost use Rattle.std.specs.Prelude.{◌≡◌, ◌+◌, ◌&&◌, ◌||◌, drop, not};
 ghost use Rattle.hc_config.specs.Among.{among_of};
 ghost use Rattle.hc_config.specs.Kinds.{is_transparent};
-ghost use Rattle.hc_config.specs.Rewrites.{goes_on_behind, is_directive, is_meaning, may_redirect, rule_follows};
+ghost use Rattle.hc_config.specs.Rewrites.{goes_on_behind, is_directive, is_rewrite_rule, may_redirect, rule_follows};
 
 use crate::among::Among;
 use crate::kinds::is_transparent;
 use hc_flat::Entries;
 use hc_model::{EntryForm, Flags, Rule};
-use hc_table::{Row, RowKind, find_in, meaning};
+use hc_table::{Directive, Meaning, meaning_of};
 use hc_target::is_url;
 
 /// The rule redirects without L and END (Apache manual, "RewriteRule Flags").
@@ -37,15 +34,13 @@ fn ends_set(flags: &Flags) -> bool
 /// Another RewriteRule follows an entry, before any section but `<IfDefine>`, `<IfModule>` and the containers of
 /// Require begins or ends.
 pub(crate) fn rule_follows(among: &Among) -> bool
-    requires { map row_of among.now.names.now ≡ directive_rows }
     ensures { result ≡ rule_follows (among_of among.now).behind }
 {
-    follows(among.names, among.entries, among.place)
+    follows(among.entries, among.place)
 }
 
 #[tactic(auto, using(crate::proofs::Behind::following))]
-fn follows(names: &[Row], entries: &Entries, place: usize) -> bool
-    requires { map row_of names.now ≡ directive_rows }
+fn follows(entries: &Entries, place: usize) -> bool
     ensures { result ≡ rule_follows (drop (place + 1) entries.now) }
 {
     let count = entries.len();
@@ -54,27 +49,27 @@ fn follows(names: &[Row], entries: &Entries, place: usize) -> bool
     }
     for at in place + 1..count {
         let entry = entries.entry(at);
-        let kind = find_in(names, entry.name.as_bytes());
-        if is_rule(entry.form, kind) {
+        let meaning = meaning_of(entry.name.as_bytes());
+        if is_rule(entry.form, meaning) {
             return true;
         }
-        if ends_look(entry.form, kind) {
+        if ends_look(entry.form, meaning) {
             return false;
         }
     }
     false
 }
 
-fn is_rule(form: EntryForm, kind: Option<RowKind>) -> bool
-    ensures { result ≡ (is_directive form && is_meaning REWRITE_RULE kind) }
+fn is_rule(form: EntryForm, meaning: Option<Meaning>) -> bool
+    ensures { result ≡ (is_directive form && is_rewrite_rule meaning) }
 {
-    is_directive(form) && is_meaning(meaning::REWRITE_RULE, kind)
+    is_directive(form) && is_rewrite_rule(meaning)
 }
 
-fn ends_look(form: EntryForm, kind: Option<RowKind>) -> bool
-    ensures { result ≡ (not (is_directive form) && not (is_transparent kind)) }
+fn ends_look(form: EntryForm, meaning: Option<Meaning>) -> bool
+    ensures { result ≡ (not (is_directive form) && not (is_transparent meaning)) }
 {
-    !is_directive(form) && !is_transparent(kind)
+    !is_directive(form) && !is_transparent(meaning)
 }
 
 fn is_directive(form: EntryForm) -> bool
@@ -83,11 +78,8 @@ fn is_directive(form: EntryForm) -> bool
     matches!(form, EntryForm::Directive)
 }
 
-fn is_meaning(meaning: u16, kind: Option<RowKind>) -> bool
-    ensures { result ≡ is_meaning meaning kind }
+fn is_rewrite_rule(meaning: Option<Meaning>) -> bool
+    ensures { result ≡ is_rewrite_rule meaning }
 {
-    match kind {
-        Some(kind) => kind.meaning == meaning,
-        None => false,
-    }
+    matches!(meaning, Some(Meaning::Directive(Directive::RewriteRule)))
 }

@@ -88,9 +88,9 @@ pub(crate) struct Held {
 pub(crate) struct Gathered {
     pub root: Option<Text>,
     pub name: Option<Text>,
-    pub aliases: List<Text>,
+    pub names: List<Text>,
     pub redirects: List<Redirect>,
-    pub maps: List<Alias>,
+    pub aliases: List<Alias>,
     pub options: List<OptStep>,
     pub allow: Option<Allowed>,
     pub sections: List<Section>,
@@ -100,7 +100,7 @@ pub(crate) struct Gathered {
     pub members: List<ReqTree>,
     pub rewriting: Rewriting,
     pub recursion: Option<u32>,
-    pub maps_by_name: List<Map>,
+    pub rewrite_maps: List<Map>,
 }
 
 impl Gathered {
@@ -112,9 +112,9 @@ impl Gathered {
         Gathered {
             root: None,
             name: None,
-            aliases: List::new(alloc),
+            names: List::new(alloc),
             redirects: List::new(alloc),
-            maps: room_for(alloc, aliases),
+            aliases: room_for(alloc, aliases),
             options: List::new(alloc),
             allow: None,
             sections: List::new(alloc),
@@ -123,7 +123,7 @@ impl Gathered {
             members: List::new(alloc),
             rewriting: Rewriting::nothing(alloc),
             recursion: None,
-            maps_by_name: List::new(alloc),
+            rewrite_maps: List::new(alloc),
         }
     }
 
@@ -136,11 +136,11 @@ impl Gathered {
             Given::Root(path) => self.root = Some(path),
             Given::Name(name) => self.name = Some(name),
             Given::Names(names) => {
-                let alloc = self.aliases.allocator();
-                let own = replace(&mut self.aliases, List::new(alloc));
-                self.aliases = joined(own, names.as_slice())?;
+                let alloc = self.names.allocator();
+                let own = replace(&mut self.names, List::new(alloc));
+                self.names = joined(own, names.as_slice())?;
             }
-            Given::Map(alias) => self.maps.push(alias)?,
+            Given::Map(alias) => self.aliases.push(alias)?,
             Given::Send(redirect) => self.redirects.push(redirect)?,
             Given::Options(step) => self.options.push(step)?,
             Given::Allow(allowed) => self.allow = Some(allowed),
@@ -152,7 +152,7 @@ impl Gathered {
             Given::Condition(cond) => self.rewriting.push_cond(cond)?,
             Given::Rewrite(rule) => self.rewriting.push_rule(rule)?,
             Given::Recursion(limit) => self.recursion = Some(limit),
-            Given::Values(map) => self.maps_by_name.push(map)?,
+            Given::Values(map) => self.rewrite_maps.push(map)?,
         }
         Ok(())
     }
@@ -170,14 +170,14 @@ impl Gathered {
             place,
             addresses,
             name: self.name,
-            aliases: self.aliases,
+            names: self.names,
             root: self.root,
             redirects: self.redirects,
-            maps: self.maps,
+            aliases: self.aliases,
             body: server_body(alloc, self.options, self.rewriting),
             sections: self.sections,
             recursion: self.recursion,
-            maps_by_name: self.maps_by_name,
+            rewrite_maps: self.rewrite_maps,
         }
     }
 

@@ -12,7 +12,7 @@ use crate::gathered::{Gathered, Given, Held, Holding, Opened, Opening};
 use crate::source::Source;
 use hc_base::{AtByte, Fault, List, NoMemory, Place, Refusal};
 use hc_model::Reach;
-use hc_table::context;
+use hc_table::Context;
 use std::alloc::Global;
 use std::mem::replace;
 
@@ -51,7 +51,7 @@ impl Standing {
 
     /// The context of an entry that comes next (Apache manual, the "Context" of each directive): that of
     /// the innermost opening, else that outside all.
-    pub(crate) fn context(&self, source: Source) -> u16
+    pub(crate) fn context(&self, source: Source) -> Context
         ensures { result ≡ context_of source (standing_of self.now) }
     {
         match self.around.last() {
@@ -145,24 +145,24 @@ impl Standing {
     }
 }
 
-fn context_inside(opened: &Opened) -> u16
+fn context_inside(opened: &Opened) -> Context
     ensures { result ≡ context_inside opened.now }
 {
     match opened {
-        Opened::Host(_) => context::VIRTUAL_HOST,
+        Opened::Host(_) => Context::VirtualHost,
         Opened::Reached(reach) => context_of_reach(reach),
     }
 }
 
-fn context_of_reach(reach: &Reach) -> u16
+fn context_of_reach(reach: &Reach) -> Context
     ensures { result ≡ context_of_reach reach.now }
 {
     match reach {
-        Reach::Dir(_) => context::DIRECTORY,
-        Reach::DirSearch(_) => context::DIRECTORY_MATCH,
-        Reach::Files(_) => context::FILES,
-        Reach::Location(_) | Reach::LocationGlob(_) | Reach::LocationSearch(_) => context::LOCATION,
-        Reach::When(_) | Reach::Otherwise(_) => context::IF_SECTION,
+        Reach::Dir(_) => Context::Directory,
+        Reach::DirSearch(_) => Context::DirectoryMatch,
+        Reach::Files(_) => Context::Files,
+        Reach::Location(_) | Reach::LocationGlob(_) | Reach::LocationSearch(_) => Context::Location,
+        Reach::When(_) | Reach::Otherwise(_) => Context::IfSection,
     }
 }
 

@@ -1,36 +1,17 @@
 ghost use Rattle.std.specs.Prelude.{◌≡◌, ◌++◌, option_map, IfOk};
 ghost use Rattle.std.specs.List.{list_all, list_any};
-ghost use Rattle.std.specs.Str.{str_eq_ignore_ascii_case};
 ghost use Rattle.hc_base.specs.Gives.{Gives};
-ghost use Rattle.hc_config.specs.Options.{all_signed, further_rows, is_apart, is_mixed, is_option, is_unsigned};
-ghost use Rattle.hc_config.specs.Options.{last_rows, option_rows, options_at, options_step, signed_of, step_of};
-ghost use Rattle.hc_config.specs.Options.{with_sign, with_word, without};
-ghost use Rattle.hc_config.specs.Statuses.{named_in};
+ghost use Rattle.hc_table.specs.Options.{is_option, option_rows};
+ghost use Rattle.hc_table.specs.Table.{find_in};
+ghost use Rattle.hc_config.specs.Options.{all_signed, is_apart, is_mixed, is_unsigned, options_of, options_step};
+ghost use Rattle.hc_config.specs.Options.{signed_of, step_of, with_sign, with_word, without};
 
 use crate::effect::{EffectFault, REFUSED};
 use hc_base::codes::MIXED_OPTIONS;
 use hc_base::{AtByte, CowStr, Fault, List, NoMemory};
 use hc_model::OptStep;
+use hc_table::{OptionName, OptionWord, option_named};
 use std::alloc::Global;
-
-// The options by their places in the list of their names (Apache manual, core, Options).
-pub(crate) const NO_OPTION: u8 = 0;
-
-pub(crate) const ALL_OPTIONS: u8 = 1;
-
-pub(crate) const INDEXES: u8 = 2;
-
-pub(crate) const INCLUDES: u8 = 3;
-
-pub(crate) const INCLUDES_NO_EXEC: u8 = 4;
-
-pub(crate) const FOLLOW_LINKS: u8 = 5;
-
-pub(crate) const LINKS_IF_OWNER_MATCH: u8 = 6;
-
-pub(crate) const EXEC_CGI: u8 = 7;
-
-pub(crate) const MULTI_VIEWS: u8 = 8;
 
 /// How a word of Options takes effect.
 #[derive(Clone, Copy)]
@@ -41,11 +22,11 @@ pub(crate) enum Sign {
     Unsigned,
 }
 
-/// A word of Options: its sign, and the place of its name among the names of options.
+/// A word of Options, with its sign.
 #[derive(Clone, Copy)]
 pub(crate) struct Signed {
     sign: Sign,
-    place: u8,
+    option: OptionWord,
 }
 
 /// What a line of Options does (Apache manual, core).
@@ -91,60 +72,10 @@ fn signed_of(word: &[u8]) -> Option<Signed>
 }
 
 fn with_sign(sign: Sign, name: &[u8]) -> Option<Signed>
-    ensures { result ≡ with_sign sign (named_in name.now option_rows) }
+    ensures { result ≡ with_sign sign (find_in option_rows name.now) }
 {
-    let place = option_named(name)?;
-    Some(Signed { sign, place })
-}
-
-// The place of a name among those of options.
-fn option_named(name: &[u8]) -> Option<u8>
-    ensures { result ≡ named_in name.now option_rows }
-{
-    if is_named("None", name) {
-        Some(NO_OPTION)
-    } else if is_named("All", name) {
-        Some(ALL_OPTIONS)
-    } else if is_named("Indexes", name) {
-        Some(INDEXES)
-    } else {
-        further_option(name)
-    }
-}
-
-fn further_option(name: &[u8]) -> Option<u8>
-    ensures { result ≡ named_in name.now further_rows }
-{
-    if is_named("Includes", name) {
-        Some(INCLUDES)
-    } else if is_named("IncludesNOEXEC", name) {
-        Some(INCLUDES_NO_EXEC)
-    } else if is_named("FollowSymLinks", name) {
-        Some(FOLLOW_LINKS)
-    } else {
-        last_option(name)
-    }
-}
-
-fn last_option(name: &[u8]) -> Option<u8>
-    ensures { result ≡ named_in name.now last_rows }
-{
-    if is_named("SymLinksIfOwnerMatch", name) {
-        Some(LINKS_IF_OWNER_MATCH)
-    } else if is_named("ExecCGI", name) {
-        Some(EXEC_CGI)
-    } else if is_named("MultiViews", name) {
-        Some(MULTI_VIEWS)
-    } else {
-        None
-    }
-}
-
-// A name that is equal without case.
-fn is_named(own: &str, name: &[u8]) -> bool
-    ensures { result ≡ str_eq_ignore_ascii_case own.now name.now }
-{
-    own.as_bytes().eq_ignore_ascii_case(name)
+    let option = option_named(name)?;
+    Some(Signed { sign, option })
 }
 
 fn is_mixed(words: &[Signed]) -> bool
@@ -189,7 +120,7 @@ fn step_of(alloc: Global, words: &[Signed]) -> Result<OptStep, NoMemory>
 fn with_word(alloc: Global, step: OptStep, word: Signed) -> Result<OptStep, NoMemory>
     ensures { IfOk result (λ later. later ≡ with_word step word) }
 {
-    let options = options_at(alloc, word.place)?;
+    let options = options_of(alloc, word.option)?;
     let (add, take) = (step.add.as_slice(), step.take.as_slice());
     match word.sign {
         Sign::Take => Ok(OptStep {
@@ -206,26 +137,30 @@ fn with_word(alloc: Global, step: OptStep, word: Signed) -> Result<OptStep, NoMe
 }
 
 // `None` is no option, and `All` stands for all but MultiViews.
-fn options_at(alloc: Global, place: u8) -> Result<Vec<u8>, NoMemory>
-    ensures { IfOk result (λ options. options.items ≡ options_at place) }
+fn options_of(alloc: Global, word: OptionWord) -> Result<Vec<OptionName>, NoMemory>
+    ensures { IfOk result (λ options. options.items ≡ options_of word) }
 {
-    match place {
-        NO_OPTION => Ok(Vec::new(alloc)),
-        ALL_OPTIONS => [
-            INDEXES,
-            INCLUDES,
-            INCLUDES_NO_EXEC,
-            FOLLOW_LINKS,
-            LINKS_IF_OWNER_MATCH,
-            EXEC_CGI,
+    match word {
+        OptionWord::Nothing => Ok(Vec::new(alloc)),
+        OptionWord::All => [
+            OptionName::Indexes,
+            OptionName::Includes,
+            OptionName::IncludesNoExec,
+            OptionName::FollowSymLinks,
+            OptionName::SymLinksIfOwnerMatch,
+            OptionName::ExecCgi,
         ]
         .to_vec(alloc),
-        _ => [place].to_vec(alloc),
+        OptionWord::One(option) => [option].to_vec(alloc),
     }
 }
 
 // Options without these.
-fn without(alloc: Global, options: &[u8], held: &[u8]) -> Result<List<u8>, NoMemory>
+fn without(
+    alloc: Global,
+    options: &[OptionName],
+    held: &[OptionName],
+) -> Result<List<OptionName>, NoMemory>
     ensures { IfOk result (λ left. left ≡ without options.now held.now) }
 {
     let mut left = List::new(alloc);
@@ -238,19 +173,23 @@ fn without(alloc: Global, options: &[u8], held: &[u8]) -> Result<List<u8>, NoMem
     Ok(left)
 }
 
-fn is_apart(options: &[u8], option: u8) -> bool
+fn is_apart(options: &[OptionName], option: OptionName) -> bool
     ensures { result ≡ is_apart options.now option }
 {
     !is_among(options, option)
 }
 
-fn is_among(options: &[u8], option: u8) -> bool
+fn is_among(options: &[OptionName], option: OptionName) -> bool
     ensures { result ≡ list_any (is_option option) options.now }
 {
     options.iter().any(|other| option == *other)
 }
 
-fn joined(alloc: Global, held: &[u8], options: &[u8]) -> Result<List<u8>, NoMemory>
+fn joined(
+    alloc: Global,
+    held: &[OptionName],
+    options: &[OptionName],
+) -> Result<List<OptionName>, NoMemory>
     ensures { IfOk result (λ joined. joined ≡ held.now ++ options.now) }
 {
     let mut joined = held.to_vec(alloc)?;

@@ -1,9 +1,7 @@
 //! The directives of rewriting, and LimitInternalRecursion.
-ghost use Rattle.std.specs.Prelude.{◌≡◌, ◌&&◌, drop, length, map, IfOk};
+ghost use Rattle.std.specs.Prelude.{◌≡◌, ◌&&◌, drop, length, IfOk};
 ghost use Rattle.hc_base.specs.Gives.{Gives};
 ghost use Rattle.hc_base.specs.Paths.{begins_with_slash};
-ghost use Rattle.hc_table.specs.Directives.{directive_rows};
-ghost use Rattle.hc_table.specs.Table.{row_of};
 ghost use Rattle.hc_target.specs.Urls.{begins_without_case};
 ghost use Rattle.hc_config.specs.Among.{among_of};
 ghost use Rattle.hc_config.specs.Directives as definition;
@@ -197,7 +195,6 @@ pub(crate) fn rewrite_cond(among: &Among, words: &[CowStr]) -> Result<Effect, Ef
 
 /// `RewriteRule pattern substitution [flags]` (mod_rewrite).
 pub(crate) fn rewrite_rule(among: &Among, words: &[CowStr]) -> Result<Effect, EffectFault>
-    requires { map row_of among.now.names.now ≡ directive_rows }
     ensures { Gives result (rewrite_rule (among_of among.now) words.now) }
 {
     match rule_read(among, words) {
@@ -207,7 +204,6 @@ pub(crate) fn rewrite_rule(among: &Among, words: &[CowStr]) -> Result<Effect, Ef
 }
 
 fn rule_read(among: &Among, words: &[CowStr]) -> Result<Rule, EffectFault>
-    requires { map row_of among.now.names.now ≡ directive_rows }
     ensures { Gives result (rule_read (among_of among.now).entry.spot (among_of among.now).behind words.now) }
 {
     match parse_rule(among.alloc, words, spot_of(among.entry)?) {
@@ -218,7 +214,6 @@ fn rule_read(among: &Among, words: &[CowStr]) -> Result<Rule, EffectFault>
 
 // A rule that redirects has L or END where another follows it; our own choice.
 fn unless_followed(among: &Among, substitution: &[u8], rule: Rule) -> Result<Rule, EffectFault>
-    requires { map row_of among.now.names.now ≡ directive_rows }
     ensures { Gives result (unless_followed substitution.now (among_of among.now).behind rule) }
 {
     if goes_on_behind(&rule, substitution) && rule_follows(among) {

@@ -1,41 +1,40 @@
-ghost use Rattle.std.specs.Prelude.{◌≡◌, ◌==◌, ◌&&◌, map, true, IfOk, Result, Some};
-ghost use Rattle.std.specs.List.{list_any};
+ghost use Rattle.std.specs.Prelude.{◌≡◌, ◌&&◌, true, IfOk, Result};
 ghost use Rattle.hc_base.specs.Gives.{Gives, GivesList};
 ghost use Rattle.hc_base.specs.Rules.{rule};
 ghost use Rattle.hc_flat.specs.EntriesView.{entry_of};
 ghost use Rattle.hc_lines.specs.Words.{read_words};
 ghost use Rattle.hc_table.specs.Directives.{directive_rows};
-ghost use Rattle.hc_table.specs.Table.{find_in, row_of};
+ghost use Rattle.hc_table.specs.Table.{find_in};
 ghost use Rattle.hc_config.specs.Among.{among_of};
-ghost use Rattle.hc_config.specs.Rules.{apart, closing, follows_its_chain, if_known, if_placed};
-ghost use Rattle.hc_config.specs.Rules.{in_wild_directory, is_closing, is_of_form, is_one_of, judged};
-ghost use Rattle.hc_config.specs.Rules.{judged_apart, of_directories, of_rewriting, read_given, refused_behind};
-ghost use Rattle.hc_config.specs.Rules.{require_containers, spelling_of, stands_apart, supported, unknown_kind};
+ghost use Rattle.hc_config.specs.Rules.{closing, follows_its_chain, if_known, if_placed, in_wild_directory, is_apart};
+ghost use Rattle.hc_config.specs.Rules.{is_closing, is_later_branch, is_of_directories, is_of_form, is_of_rewriting};
+ghost use Rattle.hc_config.specs.Rules.{is_require, judged, judged_apart, read_given, refused_behind, spelling_of};
+ghost use Rattle.hc_config.specs.Rules.{stands_apart, supported, unknown_kind};
 ghost use Rattle.hc_config.specs.Sources.{may_stand, unless_forbidden};
 
 use crate::among::Among;
 use crate::effect::{Effect, EffectFault};
 use crate::giving::give;
-use crate::kinds::is_level;
 use crate::requiring::has_unknown_kind;
 use hc_base::codes::{OVERRIDE_NOT_ALLOWED, REWRITE_CONTEXT, UNSUPPORTED_DIRECTIVE, WRONG_CONTEXT};
 use hc_base::{AtByte, CowStr, Fault, NoMemory};
 use hc_flat::EntryView;
 use hc_lines::{conf_words, rewrite_words};
 use hc_model::EntryForm;
-use hc_table::{Row, RowKind, Wording, context, find_in, meaning};
+use hc_table::{
+    Context, Directive, DirectiveKind, Meaning, SectionName, Wording, directive_named, meaning_of,
+};
 use std::alloc::Global;
 
 /// What an entry gives, or the first rule that it breaks.
 #[tactic(auto, unfolding(crate::specs::Rules::judged))]
 pub(crate) fn judge(among: &Among) -> Result<Effect, EffectFault>
-    requires { map row_of among.now.names.now ≡ directive_rows }
     ensures { Gives result (judged among.now.source among.now.context (among_of among.now)) }
 {
     if is_closing(among.entry.form) {
-        return Ok(closing(find_in(among.names, among.entry.name.as_bytes())));
+        return Ok(closing(meaning_of(among.entry.name.as_bytes())));
     }
-    match kind_of(among.names, among.entry) {
+    match kind_of(among.entry) {
         Some(kind) => judge_as(kind, among),
         None => Err(broken(UNSUPPORTED_DIRECTIVE)),
     }
@@ -47,24 +46,20 @@ fn is_closing(form: EntryForm) -> bool
     matches!(form, EntryForm::Close)
 }
 
-// The end of a section that has settings of its own.
-fn closing(kind: Option<RowKind>) -> Effect
-    ensures { result ≡ closing kind }
+// The end of a section that has settings of its own, or of a container of Require lines.
+fn closing(meaning: Option<Meaning>) -> Effect
+    ensures { result ≡ closing meaning }
 {
-    match kind {
-        kind if is_level(kind) => Effect::Closes,
-        Some(kind) if is_require_container(kind.meaning) => Effect::Releases,
-        _ => Effect::Nothing,
+    let Some(Meaning::Section(section)) = meaning else {
+        return Effect::Nothing;
+    };
+    match section {
+        SectionName::IfDefine | SectionName::IfModule => Effect::Nothing,
+        SectionName::RequireAll | SectionName::RequireAny | SectionName::RequireNone => {
+            Effect::Releases
+        }
+        _ => Effect::Closes,
     }
-}
-
-fn is_require_container(meaning: u16) -> bool
-    ensures { result ≡ list_any (λ container. meaning == container) require_containers }
-{
-    matches!(
-        meaning,
-        meaning::REQUIRE_ALL | meaning::REQUIRE_ANY | meaning::REQUIRE_NONE
-    )
 }
 
 fn broken(code: u8) -> EffectFault
@@ -74,30 +69,27 @@ fn broken(code: u8) -> EffectFault
 }
 
 // The row of an entry's name, where it is one of its form.
-fn kind_of(names: &[Row], entry: EntryView) -> Option<RowKind>
-    requires { map row_of names.now ≡ directive_rows }
+fn kind_of(entry: EntryView) -> Option<DirectiveKind>
     ensures { result ≡ supported (entry_of entry.entry).form (find_in directive_rows (entry_of entry.entry).name) }
 {
-    match find_in(names, entry.name.as_bytes()) {
+    match directive_named(entry.name.as_bytes()) {
         Some(kind) if is_of_form(entry.form, kind.meaning) => Some(kind),
         _ => None,
     }
 }
 
 // Only a container opens a section, and only another name is a directive.
-fn is_of_form(form: EntryForm, meaning: u16) -> bool
+fn is_of_form(form: EntryForm, meaning: Meaning) -> bool
     ensures { result ≡ is_of_form form meaning }
 {
-    match form {
-        EntryForm::Directive => !meaning::is_container(meaning),
-        EntryForm::Opening => meaning::is_container(meaning),
-        EntryForm::Close => false,
-    }
+    matches!(
+        (form, meaning),
+        (EntryForm::Directive, Meaning::Directive(_)) | (EntryForm::Opening, Meaning::Section(_))
+    )
 }
 
 // An entry of this row.
-fn judge_as(kind: RowKind, among: &Among) -> Result<Effect, EffectFault>
-    requires { map row_of among.now.names.now ≡ directive_rows }
+fn judge_as(kind: DirectiveKind, among: &Among) -> Result<Effect, EffectFault>
     ensures { Gives result (if_known among.now.source among.now.context kind (among_of among.now)) }
 {
     if stands_apart(kind, among) {
@@ -108,8 +100,7 @@ fn judge_as(kind: RowKind, among: &Among) -> Result<Effect, EffectFault>
 }
 
 // Where it may stand.
-fn judge_placed(kind: RowKind, among: &Among) -> Result<Effect, EffectFault>
-    requires { map row_of among.now.names.now ≡ directive_rows }
+fn judge_placed(kind: DirectiveKind, among: &Among) -> Result<Effect, EffectFault>
     ensures { Gives result (if_placed among.now.source
         (may_stand among.now.source among.now.context kind && follows_its_chain kind (among_of among.now))
         kind (among_of among.now)) }
@@ -117,14 +108,20 @@ fn judge_placed(kind: RowKind, among: &Among) -> Result<Effect, EffectFault>
     if among.source.may_stand(among.context, kind) && follows_its_chain(kind, among) {
         return read_where_allowed(kind, among);
     }
-    if kind.meaning == meaning::REQUIRE && unknown_kind(kind, among)? {
+    if is_require(kind.meaning) && unknown_kind(kind, among)? {
         return Err(broken(UNSUPPORTED_DIRECTIVE));
     }
     Err(broken(WRONG_CONTEXT))
 }
 
+fn is_require(meaning: Meaning) -> bool
+    ensures { result ≡ is_require meaning }
+{
+    matches!(meaning, Meaning::Directive(Directive::Require))
+}
+
 // A directive of rewriting where no directory of its own stands.
-fn stands_apart(kind: RowKind, among: &Among) -> bool
+fn stands_apart(kind: DirectiveKind, among: &Among) -> bool
     ensures { result ≡ stands_apart among.now.context kind (among_of among.now) }
 {
     (is_of_rewriting(kind.meaning) && is_apart(among.context))
@@ -134,41 +131,43 @@ fn stands_apart(kind: RowKind, among: &Among) -> bool
 fn in_wild_directory(among: &Among) -> bool
     ensures { result ≡ in_wild_directory among.now.context (among_of among.now) }
 {
-    among.context == context::DIRECTORY && among.wild
+    matches!(among.context, Context::Directory) && among.wild
 }
 
-fn is_of_rewriting(meaning: u16) -> bool
-    ensures { result ≡ is_one_of of_rewriting meaning }
+fn is_of_rewriting(meaning: Meaning) -> bool
+    ensures { result ≡ is_of_rewriting meaning }
 {
-    meaning == meaning::REWRITE_MAP || is_of_directories(meaning)
+    matches!(meaning, Meaning::Directive(Directive::RewriteMap)) || is_of_directories(meaning)
 }
 
 // The directives of rewriting that directories may have.
-fn is_of_directories(meaning: u16) -> bool
-    ensures { result ≡ is_one_of of_directories meaning }
+fn is_of_directories(meaning: Meaning) -> bool
+    ensures { result ≡ is_of_directories meaning }
 {
     matches!(
         meaning,
-        meaning::REWRITE_ENGINE
-            | meaning::REWRITE_BASE
-            | meaning::REWRITE_COND
-            | meaning::REWRITE_RULE
-            | meaning::REWRITE_OPTIONS
+        Meaning::Directive(
+            Directive::RewriteEngine
+                | Directive::RewriteBase
+                | Directive::RewriteCond
+                | Directive::RewriteRule
+                | Directive::RewriteOptions
+        )
     )
 }
 
 // Sections that no directory stands for.
-fn is_apart(context: u16) -> bool
-    ensures { result ≡ is_one_of apart context }
+fn is_apart(context: Context) -> bool
+    ensures { result ≡ is_apart context }
 {
     matches!(
         context,
-        context::DIRECTORY_MATCH | context::FILES | context::LOCATION | context::IF_SECTION
+        Context::DirectoryMatch | Context::Files | Context::Location | Context::IfSection
     )
 }
 
 // A Require line of a kind that is not known.
-fn unknown_kind(kind: RowKind, among: &Among) -> Result<bool, NoMemory>
+fn unknown_kind(kind: DirectiveKind, among: &Among) -> Result<bool, NoMemory>
     ensures { IfOk result (λ is. is
         ≡ unknown_kind (read_words (spelling_of kind.wording) (among_of among.now).entry.rest)) }
 {
@@ -180,15 +179,23 @@ fn unknown_kind(kind: RowKind, among: &Among) -> Result<bool, NoMemory>
 }
 
 // `<ElseIf>` and `<Else>` stand right behind a section of their chain.
-fn follows_its_chain(kind: RowKind, among: &Among) -> bool
+fn follows_its_chain(kind: DirectiveKind, among: &Among) -> bool
     ensures { result ≡ follows_its_chain kind (among_of among.now) }
 {
-    among.chained || !matches!(kind.meaning, meaning::ELSE_IF | meaning::ELSE)
+    among.chained || !is_later_branch(kind.meaning)
+}
+
+fn is_later_branch(meaning: Meaning) -> bool
+    ensures { result ≡ is_later_branch meaning }
+{
+    matches!(
+        meaning,
+        Meaning::Section(SectionName::ElseIf | SectionName::Else)
+    )
 }
 
 // Of a rule that it breaks and that its class is not allowed the smaller number counts.
-fn read_where_allowed(kind: RowKind, among: &Among) -> Result<Effect, EffectFault>
-    requires { map row_of among.now.names.now ≡ directive_rows }
+fn read_where_allowed(kind: DirectiveKind, among: &Among) -> Result<Effect, EffectFault>
     ensures { Gives result (if_placed among.now.source true kind (among_of among.now)) }
 {
     let given = read_and_give(kind, among);
@@ -196,8 +203,7 @@ fn read_where_allowed(kind: RowKind, among: &Among) -> Result<Effect, EffectFaul
 }
 
 // The same of a rule that it breaks, of where it stands and of its class.
-fn judge_apart(kind: RowKind, among: &Among) -> Result<Effect, EffectFault>
-    requires { map row_of among.now.names.now ≡ directive_rows }
+fn judge_apart(kind: DirectiveKind, among: &Among) -> Result<Effect, EffectFault>
     ensures { Gives result (judged_apart among.now.source kind (among_of among.now)) }
 {
     let refused = refused_behind(&read_and_give(kind, among));
@@ -244,8 +250,7 @@ fn refused_behind(given: &Result<Effect, EffectFault>) -> Result<Effect, EffectF
 }
 
 #[tactic(auto, unfolding(crate::specs::Rules::read_given))]
-fn read_and_give(kind: RowKind, among: &Among) -> Result<Effect, EffectFault>
-    requires { map row_of among.now.names.now ≡ directive_rows }
+fn read_and_give(kind: DirectiveKind, among: &Among) -> Result<Effect, EffectFault>
     ensures { Gives result (read_given kind (among_of among.now)) }
 {
     match read_as(among.alloc, kind.wording, among.entry.rest) {

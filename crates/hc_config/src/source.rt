@@ -1,8 +1,8 @@
-ghost use Rattle.std.specs.Prelude.{◌≡◌, ◌==◌, not};
-ghost use Rattle.hc_config.specs.Sources.{is_class_allowed, is_forbidden, may_stand, stands_in, top_context};
+ghost use Rattle.std.specs.Prelude.{◌≡◌};
+ghost use Rattle.hc_config.specs.Sources.{is_class_allowed, is_forbidden, may_stand, top_context};
 
 use hc_model::Allowed;
-use hc_table::{RowKind, class, context};
+use hc_table::{Class, Context, DirectiveKind};
 
 /// Whose text is built.
 #[derive(Clone, Copy)]
@@ -15,27 +15,29 @@ pub(crate) enum Source {
 
 impl Source {
     /// The context outside all sections.
-    pub(crate) fn top_context(self) -> u16
+    pub(crate) fn top_context(self) -> Context
         ensures { result ≡ top_context self }
     {
         match self {
-            Source::Configuration => context::MAIN_SERVER,
-            Source::Override(_) => context::HTACCESS,
+            Source::Configuration => Context::MainServer,
+            Source::Override(_) => Context::Htaccess,
         }
     }
 
     /// A directive may stand in this context: in a section of a `.htaccess` only where it may in both.
-    pub(crate) fn may_stand(self, context: u16, kind: RowKind) -> bool
+    pub(crate) fn may_stand(self, context: Context, kind: DirectiveKind) -> bool
         ensures { result ≡ may_stand self context kind }
     {
         match self {
-            Source::Configuration => stands_in(context, kind),
-            Source::Override(_) => stands_in(context, kind) && stands_in(context::HTACCESS, kind),
+            Source::Configuration => kind.contexts.contain(context),
+            Source::Override(_) => {
+                kind.contexts.contain(context) && kind.contexts.contain(Context::Htaccess)
+            }
         }
     }
 
     /// Its class is not allowed.
-    pub(crate) fn is_forbidden(self, kind: RowKind) -> bool
+    pub(crate) fn is_forbidden(self, kind: DirectiveKind) -> bool
         ensures { result ≡ is_forbidden self kind }
     {
         match self {
@@ -45,21 +47,15 @@ impl Source {
     }
 }
 
-fn stands_in(context: u16, kind: RowKind) -> bool
-    ensures { result ≡ stands_in context kind }
-{
-    kind.contexts & context != 0
-}
-
-fn is_class_allowed(allowed: Allowed, class: u8) -> bool
+fn is_class_allowed(allowed: Allowed, class: Option<Class>) -> bool
     ensures { result ≡ is_class_allowed allowed class }
 {
     match class {
-        class::AUTH_CONFIG => allowed.auth,
-        class::FILE_INFO => allowed.file_info,
-        class::INDEXES => allowed.indexes,
-        class::LIMIT => allowed.limit,
-        class::OPTIONS => allowed.options,
-        _ => true,
+        None => true,
+        Some(Class::AuthConfig) => allowed.auth,
+        Some(Class::FileInfo) => allowed.file_info,
+        Some(Class::Indexes) => allowed.indexes,
+        Some(Class::Limit) => allowed.limit,
+        Some(Class::Options) => allowed.options,
     }
 }

@@ -1,7 +1,8 @@
 ghost use Rattle.std.specs.Prelude.{◌≡◌};
 ghost use Rattle.std.specs.Char.{is_ascii_digit};
 ghost use Rattle.std.specs.List.{list_all};
-ghost use Rattle.hc_config.specs.Statuses.{first_status, has_url, in_range, is_digits, named_in, numbered};
+ghost use Rattle.hc_table.specs.Table.{find_in};
+ghost use Rattle.hc_config.specs.Statuses.{first_status, has_url, in_range, is_digits, numbered};
 ghost use Rattle.hc_config.specs.Statuses.{redirect_status, status_names, unless_digits};
 
 use crate::effect::WRONG;
@@ -44,7 +45,7 @@ fn redirect_status(word: &str) -> Option<u16>
 }
 
 fn named(word: &str) -> Option<u16>
-    ensures { result ≡ named_in word.now status_names }
+    ensures { result ≡ find_in status_names word.now }
 {
     if "permanent".eq_ignore_ascii_case(word) {
         Some(PERMANENT)

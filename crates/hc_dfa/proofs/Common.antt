@@ -1,5 +1,10 @@
 -- The names that the proofs of this crate cite, passed on from one place. Declares nothing.
-pub use Rattle.std.proofs.Common.{◌≡◌, ℕ, ◌+◌, ◌*◌, ◌<◌, ◌≤◌, ◌/◌, ◌%◌, ◌⊎◌, nat_eq, List, [], ◌∷◌, length, drop, slice_index, false, refl, ◌∙◌, ap, inl, inr, arith, drop-cons, add-one, sym, ◌||◌, subst, not, count_by, length-set, slice_index_or, slice_set, Bool, true, get_or-set_same, get_or-set_other, slice_get, Some, Vec, ◌&&◌, IsTrue, ◌++◌, length-append, Option, None, ◌-◌, map, get_or, ◌^◌, if◌then◌else◌, vec_len, ◌==◌, append_assoc, append-nil}
+pub use Rattle.std.proofs.Common.{◌≡◌, ℕ, ◌+◌, ◌*◌, ◌<◌, ◌≤◌, ◌/◌, ◌%◌, ◌⊎◌}
+pub use Rattle.std.proofs.Common.{nat_eq, List, [], ◌∷◌, length, drop, slice_index, false, refl, ◌∙◌, ap}
+pub use Rattle.std.proofs.Common.{inl, inr, arith, drop-cons, add-one, sym, ◌||◌, subst, not, count_by, length-set}
+pub use Rattle.std.proofs.Common.{slice_index_or, slice_set, Bool, true, get_or-set_same, get_or-set_other, slice_get}
+pub use Rattle.std.proofs.Common.{Some, Vec, ◌&&◌, IsTrue, ◌++◌, length-append, Option, None, ◌-◌, map}
+pub use Rattle.std.proofs.Common.{get_or, ◌^◌, if◌then◌else◌, vec_len, ◌==◌, append_assoc, append-nil}
 pub use Rattle.std.proofs.Math.Nat.{div-add-mod, div-lt_iff_lt-mul, mod-lt, add-mul}
 pub use Rattle.std.proofs.Math.Seq.{get_or-append_seam}
 pub use Rattle.std.proofs.lemmas.Grind.{common_steps, same_number_lists}
@@ -12,14 +17,18 @@ pub use Rattle.std.specs.declared.alloc.Global.{Global}
 pub use Rattle.hc_dfa.specs.Automata.{Automaton, next_state, accepts_from, states, value_on, is_final, IsTable, run}
 unfoldable pub use Rattle.hc_dfa.specs.Automata.{accepts}
 pub use Rattle.hc_dfa.specs.Blocks.{RespectsFinals, Refines, IsStable, AreLeaders, IsSignature, Represents, IsSameList}
-pub use Rattle.hc_dfa.specs.Built.{Accepts, AreFirst, IsInOrder, product_of, Includes, inclusion_of, kept, AcceptsImages, complement_of}
-pub use Rattle.hc_dfa.specs.Classings.{Classing, IsAsFine, AreClasses, AreColumns, IsColumn, Tells, TellsByNumber, class_of, class_count, first_of, AreClassesBelow, IsRows}
+pub use Rattle.hc_dfa.specs.Built.{Accepts, AreFirst, IsInOrder, product_of, Includes, inclusion_of, kept}
+pub use Rattle.hc_dfa.specs.Built.{AcceptsImages, complement_of}
+pub use Rattle.hc_dfa.specs.Classings.{Classing, IsAsFine, AreClasses, AreColumns, IsColumn, Tells, TellsByNumber}
+pub use Rattle.hc_dfa.specs.Classings.{class_of, class_count, first_of, AreClassesBelow, IsRows}
 unfoldable pub use Rattle.hc_dfa.specs.Classings.{expanded}
 pub use Rattle.hc_dfa.specs.Distances.{Bounds, Distances, IsNearest, IsSettled, IsWalk}
 pub use Rattle.hc_dfa.specs.Explored.{IsOne, Extends, IsMet, Leads, Explored}
 pub use Rattle.hc_dfa.specs.Machines.{Steps, Reads, IsSilent, PathToFinal, AcceptsPathsOf}
 pub use Rattle.hc_dfa.specs.Pairs.{IsPair, pair_step, PairsExplored}
-pub use Rattle.hc_dfa.specs.Sets.{AreChanges, AreMoves, ArePieces, AreStates, FollowsTo, Gathers, GathersAll, HitsAt, ReadsTo, Marks, Has, IsClosed, IsStep, SilentPath, TellsSteps, IsSetOf, IsClosure, IsProper, IsMark, SetsExplored, IsRead}
+pub use Rattle.hc_dfa.specs.Sets.{AreChanges, AreMoves, ArePieces, AreStates, FollowsTo, Gathers, GathersAll, HitsAt}
+pub use Rattle.hc_dfa.specs.Sets.{ReadsTo, Marks, Has, IsClosed, IsStep, SilentPath, TellsSteps, IsSetOf, IsClosure}
+pub use Rattle.hc_dfa.specs.Sets.{IsProper, IsMark, SetsExplored, IsRead}
 pub use Rattle.hc_dfa.specs.Sets.SilentPath.{stays, goes_on}
 pub use Rattle.hc_dfa.specs.Singles.{single, single_step, IsSingle, is_among, AreFound}
 pub use Rattle.hc_dfa.specs.Texts.{IsText, TextSet, IsEmptySet, IsLeast, comes_before, byte_order, IsLeastOf}

@@ -1,11 +1,16 @@
 -- The machine of the images of an automaton's texts.
-use Rattle.hc_dfa.proofs.Common.{◌≡◌, ℕ, ◌+◌, ◌*◌, ◌<◌, ◌/◌, ◌%◌, ◌⊎◌, List, [], ◌∷◌, ◌++◌, length, map, slice_index, slice_index_or, true, false, refl, sym, ◌∙◌, ap, subst, inl, inr, arith, Contains, div-mul-add, mod-mul-add, div-add-mod, Automaton, states, next_state, is_final, accepts_from, accepts, AcceptsImages, Steps, Reads, PathToFinal, AcceptsPathsOf, IsText, ReadingStep, SilentStep}
+use Rattle.hc_dfa.proofs.Common.{◌≡◌, ℕ, ◌+◌, ◌*◌, ◌<◌, ◌/◌, ◌%◌, ◌⊎◌, List, []}
+use Rattle.hc_dfa.proofs.Common.{◌∷◌, ◌++◌, length, map, slice_index, slice_index_or, true, false, refl, sym}
+use Rattle.hc_dfa.proofs.Common.{◌∙◌, ap, subst, inl, inr, arith, Contains, div-mul-add, mod-mul-add, div-add-mod}
+use Rattle.hc_dfa.proofs.Common.{Automaton, states, next_state, is_final, accepts_from, accepts, AcceptsImages, Steps}
+use Rattle.hc_dfa.proofs.Common.{Reads, PathToFinal, AcceptsPathsOf, IsText, ReadingStep, SilentStep}
 use Rattle.std.proofs.lemmas.List.Elements.{Contains-append_left, Contains-push, Contains-push_cases}
 use Rattle.hc_dfa.specs.Images.{image_step, HasSteps, HasFinalsBelow}
 use Rattle.hc_dfa.specs.Machines.PathToFinal.{ends, silently, by_byte}
 use Rattle.hc_dfa.proofs.Runs.{IsAutomaton, next_within}
 
-pub finals_kept : (a : Automaton) (count : ℕ) (bare m : Steps) → HasFinalsBelow a count bare m → is_final a count ≡ false → HasFinalsBelow a (count + 1) bare m
+pub finals_kept : (a : Automaton) (count : ℕ) (bare m : Steps) → HasFinalsBelow a count bare m
+    → is_final a count ≡ false → HasFinalsBelow a (count + 1) bare m
 finals_kept a count bare m has isnt = record {
   same = has.same;
   sound = has.sound;
@@ -14,10 +19,13 @@ finals_kept a count bare m has isnt = record {
       elim cases [ inl less ↦ has.complete state less final | inr e ↦ absurd (let f = rw e at final in cc) ];
 }
 
-pub finals_added : (a : Automaton) (count : ℕ) (bare m more : Steps) → HasFinalsBelow a count bare m → is_final a count ≡ true → more ≡ record m { finals = m.finals ++ count ∷ [] }
+pub finals_added : (a : Automaton) (count : ℕ) (bare m more : Steps) → HasFinalsBelow a count bare m
+    → is_final a count ≡ true → more ≡ record m { finals = m.finals ++ count ∷ [] }
     → HasFinalsBelow a (count + 1) bare more
 finals_added a count bare m more has is added = record {
-  same = added ∙ (ap (λ (x : Steps). record x { finals = m.finals ++ count ∷ [] }) has.same ∙ ap (λ (xs : List ℕ). record bare { finals = xs }) (sym finals));
+  same = added
+      ∙ (ap (λ (x : Steps). record x { finals = m.finals ++ count ∷ [] }) has.same
+      ∙ ap (λ (xs : List ℕ). record bare { finals = xs }) (sym finals));
   sound = λ state among.
       elim (Contains-push_cases m.finals count state (subst (λ (xs : List ℕ). Contains xs state) finals among)) [
         | inl old ↦ has.sound state old
@@ -38,20 +46,23 @@ finals_added a count bare m more has is added = record {
 -- A machine with a step for each cell of the automaton's table, and its start and finals.
 pub record IsImageMachine (a : Automaton) (table : List ℕ) (m : Steps) : Type 0 where
   pub len : length m.reading ≡ 256 * states a
-  pub each : (cell : ℕ) (d : ReadingStep) → cell < 256 * states a → slice_index_or m.reading cell d ≡ image_step a table cell
+  pub each : (cell : ℕ) (d : ReadingStep) → cell < 256 * states a → slice_index_or m.reading cell d
+      ≡ image_step a table cell
   pub silent : m.silent ≡ []
   pub starts : m.starts ≡ 0 ∷ []
   pub sound : (state : ℕ) → Contains m.finals state → is_final a state ≡ true
   pub complete : (state : ℕ) → state < states a → is_final a state ≡ true → Contains m.finals state
 
-pub image_machine : (a : Automaton) (table : List ℕ) (m stepped final : Steps) → HasSteps a table (256 * states a) m stepped → HasFinalsBelow a (states a) stepped final
+pub image_machine : (a : Automaton) (table : List ℕ) (m stepped final : Steps)
+    → HasSteps a table (256 * states a) m stepped → HasFinalsBelow a (states a) stepped final
     → m.silent ≡ [] → m.starts ≡ 0 ∷ [] → IsImageMachine a table final
 image_machine a table m stepped final steps finals silent starts =
     let same = finals.same ∙ ap (λ (x : Steps). record x { finals = final.finals }) steps.same in
     let reading : final.reading ≡ stepped.reading = ap (λ (x : Steps). x.reading) finals.same in
     record {
       len = ap length reading ∙ steps.len;
-      each = λ cell d below. ap (λ (xs : List ReadingStep). slice_index_or xs cell d) reading ∙ steps.each cell d below;
+      each = λ cell d below. ap (λ (xs : List ReadingStep). slice_index_or xs cell d) reading
+          ∙ steps.each cell d below;
       silent = ap (λ (x : Steps). x.silent) same ∙ silent;
       starts = ap (λ (x : Steps). x.starts) same ∙ starts;
       sound = finals.sound;
@@ -76,7 +87,8 @@ module _ (a : Automaton) (is : IsAutomaton a) (table : List ℕ) (m : Steps) (ma
   step_of : (state byte next : ℕ) → state < states a → Reads m state byte next → StepOf state byte next
   step_of state byte next s reads =
       let cell : ℕ = reads.among.0 in
-      let e : reads.step ≡ image_step a table cell = sym reads.among.2 ∙ made.each cell reads.step (let w = reads.among.1 in let l = made.len in omega arith) in
+      let e : reads.step ≡ image_step a table cell = sym reads.among.2
+      ∙ made.each cell reads.step (let w = reads.among.1 in let l = made.len in omega arith) in
       let from : cell / 256 ≡ state = ap (λ (x : ReadingStep). x.from) (sym e) ∙ reads.leaves in
       let low : reads.step.low ≡ slice_index table (cell % 256) = ap (λ (x : ReadingStep). x.low) e in
       let high : reads.step.high ≡ slice_index table (cell % 256) = ap (λ (x : ReadingStep). x.high) e in
@@ -90,11 +102,19 @@ module _ (a : Automaton) (is : IsAutomaton a) (table : List ℕ) (m : Steps) (ma
       }
 
   to_image : {state : ℕ} {text : List ℕ} → state < states a → PathToFinal m state text → ImageFrom state text
-  to_image {state = state} s (ends final) = record { original = []; bytes = tt; member = made.sound state final; replaced = refl }
-  to_image s (silently step path) = absurd (let among = subst (λ (xs : List SilentStep). Contains xs step.step) made.silent step.among in omega (arith, among.1))
+  to_image {state = state} s (ends final) = record {
+    original = [];
+    bytes = tt;
+    member = made.sound state final;
+    replaced = refl;
+  }
+  to_image s (silently step path) =
+      absurd (let among = subst (λ (xs : List SilentStep). Contains xs step.step) made.silent step.among in
+      omega (arith, among.1))
   to_image {state = state} s (by_byte {next = next} {byte = byte} reads path) =
       let step = step_of state byte next s reads in
-      let t : next < states a = subst (λ (x : ℕ). x < states a) step.leads (next_within a is state step.original s step.below) in
+      let t : next < states a =
+      subst (λ (x : ℕ). x < states a) step.leads (next_within a is state step.original s step.below) in
       let later = to_image t path in
       record {
         original = step.original ∷ later.original;
@@ -103,7 +123,8 @@ module _ (a : Automaton) (is : IsAutomaton a) (table : List ℕ) (m : Steps) (ma
         replaced = cc (step.replaced, later.replaced);
       }
 
-  image_reads : (state byte : ℕ) → state < states a → byte < 256 → Reads m state (slice_index table byte) (next_state a state byte)
+  image_reads : (state byte : ℕ) → state < states a → byte < 256
+      → Reads m state (slice_index table byte) (next_state a state byte)
   image_reads state byte s b =
       let cell : ℕ = 256 * state + byte in
       let turned : cell ≡ state * 256 + byte = omega arith in
@@ -119,17 +140,22 @@ module _ (a : Automaton) (is : IsAutomaton a) (table : List ℕ) (m : Steps) (ma
         enters = refl;
       }
 
-  from_image : (original : List ℕ) (state : ℕ) → state < states a → IsText original → accepts_from a state original ≡ true → PathToFinal m state (map (λ byte. slice_index table byte) original)
+  from_image : (original : List ℕ) (state : ℕ) → state < states a → IsText original
+      → accepts_from a state original ≡ true
+      → PathToFinal m state (map (λ byte. slice_index table byte) original)
   from_image [] state s bytes member = ends (made.complete state s member)
   from_image (byte ∷ original) state s bytes member =
-      by_byte {next = next_state a state byte} (image_reads state byte s bytes.0) (from_image original (next_state a state byte) (next_within a is state byte s bytes.0) bytes.1 member)
+      by_byte {next = next_state a state byte} (image_reads state byte s bytes.0)
+      (from_image original (next_state a state byte) (next_within a is state byte s bytes.0) bytes.1 member)
 
   pub images_accepted : (image : Automaton) → AcceptsPathsOf m image → AcceptsImages a table image
   unfolding accepts
   images_accepted image same text bytes = (
     (λ accepted.
         let path = (same text bytes).0 accepted in
-        let first : path.start ≡ 0 = elim (Contains-push_cases [] 0 path.start (subst (λ (xs : List ℕ). Contains xs path.start) made.starts path.among)) [
+        let first : path.start ≡ 0 =
+        elim (Contains-push_cases [] 0 path.start
+        (subst (λ (xs : List ℕ). Contains xs path.start) made.starts path.among)) [
           | inl none ↦ absurd (let w = none.1 in omega arith)
           | inr e ↦ sym e
         ] in

@@ -1,5 +1,6 @@
 -- Deterministic automata over bytes.
-use Rattle.std.specs.Prelude.{◌≡◌, ℕ, ◌+◌, ◌*◌, ◌^◌, ◌<◌, List, [], ◌∷◌, length, slice_index, slice_index_or, Bool, false}
+use Rattle.std.specs.Prelude.{◌≡◌, ℕ, ◌+◌, ◌*◌, ◌^◌, ◌<◌, List, [], ◌∷◌, length}
+use Rattle.std.specs.Prelude.{slice_index, slice_index_or, Bool, false}
 
 -- An automaton by its table: for each state the 256 next states, in the order of the bytes, and
 -- for each state whether it is final. State 0 is the start.

@@ -1,5 +1,6 @@
 -- What the calls that make an automaton say of its test, and what a look for texts finds.
-use Rattle.std.specs.Prelude.{◌≡◌, ℕ, ◌≤◌, ◌&&◌, ◌||◌, ◌↔◌, ◌⊎◌, not, IsTrue, List, [], ◌∷◌, length, map, slice_index, Bool, Option, None, Some}
+use Rattle.std.specs.Prelude.{◌≡◌, ℕ, ◌≤◌, ◌&&◌, ◌||◌, ◌↔◌, ◌⊎◌, not, IsTrue, List}
+use Rattle.std.specs.Prelude.{[], ◌∷◌, length, map, slice_index, Bool, Option, None, Some}
 use Rattle.std.specs.List.{AllByRecursion, Contains}
 use Rattle.hc_dfa.specs.Automata.{Automaton, accepts}
 use Rattle.hc_dfa.specs.Texts.{IsText, TextSet, IsLeast, comes_before}
@@ -47,7 +48,8 @@ pub record AreFirst (set : TextSet) (count : ℕ) (texts : List (List ℕ)) : Ty
   pub ordered : IsInOrder texts
   pub few : length texts ≤ count
   pub first : (other : List ℕ) → IsText other → IsTrue (set other) →
-      Contains texts other ⊎ ((length texts ≡ count) × AllByRecursion (λ text. IsTrue (comes_before text other)) texts)
+      Contains texts other
+      ⊎ ((length texts ≡ count) × AllByRecursion (λ text. IsTrue (comes_before text other)) texts)
 
 -- The text is a member of the set with each byte replaced by its entry in the table.
 pub record IsImage (a : Automaton) (table : List ℕ) (text : List ℕ) : Type 0 where

@@ -1,5 +1,6 @@
 -- Classes of bytes, and tables with an entry for each state and class.
-use Rattle.std.specs.Prelude.{◌≡◌, ℕ, ◌+◌, ◌*◌, ◌/◌, ◌%◌, ◌^◌, ◌<◌, ◌≤◌, List, length, map, slice_index, Bool}
+use Rattle.std.specs.Prelude.{◌≡◌, ℕ, ◌+◌, ◌*◌, ◌/◌, ◌%◌, ◌^◌, ◌<◌, ◌≤◌, List}
+use Rattle.std.specs.Prelude.{length, map, slice_index, Bool}
 use Rattle.std.specs.List.{range_with_len}
 use Rattle.hc_dfa.specs.Automata.{Automaton, states, next_state}
 
@@ -33,12 +34,14 @@ AreClasses c = AreClassesBelow 256 c
 -- Bytes of one class have the same number.
 abbrev pub IsAsFine : Classing → List ℕ → Type 0
 IsAsFine c numbers =
-    (b d : ℕ) → b < 256 → d < 256 → class_of c b ≡ class_of c d → slice_index numbers b ≡ slice_index numbers d
+    (b d : ℕ) → b < 256 → d < 256 → class_of c b ≡ class_of c d
+    → slice_index numbers b ≡ slice_index numbers d
 
 -- Bytes of one class lead from each state to the same state.
 abbrev pub Tells : Classing → Automaton → Type 0
 Tells c a =
-    (s b d : ℕ) → s < states a → b < 256 → d < 256 → class_of c b ≡ class_of c d → next_state a s b ≡ next_state a s d
+    (s b d : ℕ) → s < states a → b < 256 → d < 256 → class_of c b ≡ class_of c d
+    → next_state a s b ≡ next_state a s d
 
 -- Bytes with the same number lead from each state to the same state.
 abbrev pub TellsByNumber : List ℕ → Automaton → Type 0
@@ -54,13 +57,15 @@ pub record IsColumn (a : Automaton) (byte : ℕ) (column : List ℕ) : Type 0 wh
 -- Those of the bytes that have the same number lead from each state to the same state.
 pub record AreColumns (a : Automaton) (bytes numbers : List ℕ) : Type 0 where
   pub len : length numbers ≡ length bytes
-  pub same : (k j s : ℕ) → k < length bytes → j < length bytes → slice_index numbers k ≡ slice_index numbers j → s < states a →
+  pub same : (k j s : ℕ) → k < length bytes → j < length bytes → slice_index numbers k ≡ slice_index numbers j
+      → s < states a →
       next_state a s (slice_index bytes k) ≡ next_state a s (slice_index bytes j)
 
 -- The table by bytes of one by classes.
 unfoldable pub expanded : Classing → List ℕ → ℕ → List ℕ
 expanded c rows count =
-    map (λ cell. slice_index rows (cell / 256 * class_count c + class_of c (cell % 256))) (range_with_len 0 (256 * count))
+    map (λ cell. slice_index rows (cell / 256 * class_count c + class_of c (cell % 256)))
+    (range_with_len 0 (256 * count))
 
 -- The automaton of a table by classes.
 abbrev pub automaton_of : Classing → List ℕ → List Bool → Automaton

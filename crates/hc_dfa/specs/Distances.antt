@@ -1,5 +1,6 @@
 -- How many bytes lead from each state to a final one, at the least.
-use Rattle.std.specs.Prelude.{◌≡◌, ℕ, ◌+◌, ◌<◌, ◌≤◌, List, [], ◌∷◌, length, slice_index, true, Option, None, Some}
+use Rattle.std.specs.Prelude.{◌≡◌, ℕ, ◌+◌, ◌<◌, ◌≤◌, List, [], ◌∷◌, length, slice_index}
+use Rattle.std.specs.Prelude.{true, Option, None, Some}
 use Rattle.hc_dfa.specs.Automata.{Automaton, states, next_state, is_final, value_on}
 use Rattle.hc_dfa.specs.declared.leasts.TheConstants.{NONE}
 
@@ -8,7 +9,8 @@ pub record Bounds (a : Automaton) (distances : List ℕ) : Type 0 where
   pub len : length distances ≡ states a
   pub finals : (state : ℕ) → state < states a → is_final a state ≡ true → slice_index distances state ≡ 0
   pub zero : (state : ℕ) → state < states a → slice_index distances state ≡ 0 → is_final a state ≡ true
-  pub some : (state : ℕ) → state < states a → slice_index distances state < NONE → 0 < slice_index distances state
+  pub some : (state : ℕ) → state < states a → slice_index distances state < NONE
+      → 0 < slice_index distances state
       → (byte : ℕ) × (byte < 256) × (value_on a distances state byte + 1 ≤ slice_index distances state)
 
 -- No byte leads from the state to one that is nearer by more than one.
@@ -29,7 +31,8 @@ pub record IsNearest (a : Automaton) (distances : List ℕ) (state nearest : ℕ
 
 -- The first byte that leads from the state to one at this distance, and `None` exactly where none does.
 abbrev pub IsFirstTo : Automaton → List ℕ → ℕ → ℕ → Option ℕ → Type 0
-IsFirstTo a distances state distance None = (byte : ℕ) → byte < 256 → value_on a distances state byte ≡ distance → ⊥
+IsFirstTo a distances state distance None = (byte : ℕ) → byte < 256 → value_on a distances state byte ≡ distance
+    → ⊥
 IsFirstTo a distances state distance (Some byte) =
     (byte < 256) × (value_on a distances state byte ≡ distance)
     × ((other : ℕ) → other < byte → value_on a distances state other ≡ distance → ⊥)

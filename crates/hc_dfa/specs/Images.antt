@@ -1,5 +1,6 @@
 -- The machine of the images of an automaton's texts.
-use Rattle.std.specs.Prelude.{◌≡◌, ℕ, ◌*◌, ◌<◌, ◌/◌, ◌%◌, List, [], length, slice_index, slice_index_or, true}
+use Rattle.std.specs.Prelude.{◌≡◌, ℕ, ◌*◌, ◌<◌, ◌/◌, ◌%◌, List, [], length, slice_index}
+use Rattle.std.specs.Prelude.{slice_index_or, true}
 use Rattle.std.specs.List.{Contains}
 use Rattle.hc_dfa.specs.Automata.{Automaton, states, is_final}
 use Rattle.hc_dfa.specs.Machines.{Steps}
@@ -24,7 +25,8 @@ image_step a table cell =
 pub record HasSteps (a : Automaton) (table : List ℕ) (count : ℕ) (bare m : Steps) : Type 0 where
   pub same : m ≡ record bare { reading = m.reading }
   pub len : length m.reading ≡ count
-  pub each : (cell : ℕ) (d : ReadingStep) → cell < count → slice_index_or m.reading cell d ≡ image_step a table cell
+  pub each : (cell : ℕ) (d : ReadingStep) → cell < count → slice_index_or m.reading cell d
+      ≡ image_step a table cell
 
 abbrev pub HasImageSteps : Automaton → List ℕ → Steps → Steps → Type 0
 HasImageSteps a table bare m = HasSteps a table (256 * states a) bare m

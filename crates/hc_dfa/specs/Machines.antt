@@ -45,8 +45,10 @@ pub record IsSilent (m : Steps) (from to : ℕ) : Type 0 where
 -- A path from a state to a final one: its silent steps read nothing, its reading steps the text.
 pub data PathToFinal (m : Steps) : ℕ → List ℕ → Type 0 where
   ends : {state : ℕ} → Contains m.finals state → PathToFinal m state []
-  silently : {state next : ℕ} {text : List ℕ} → IsSilent m state next → PathToFinal m next text → PathToFinal m state text
-  by_byte : {state next byte : ℕ} {text : List ℕ} → Reads m state byte next → PathToFinal m next text → PathToFinal m state (byte ∷ text)
+  silently : {state next : ℕ} {text : List ℕ} → IsSilent m state next → PathToFinal m next text
+      → PathToFinal m state text
+  by_byte : {state next byte : ℕ} {text : List ℕ} → Reads m state byte next → PathToFinal m next text
+      → PathToFinal m state (byte ∷ text)
 
 -- Some path from a start to a final state reads the text.
 pub record HasPath (m : Steps) (text : List ℕ) : Type 0 where

@@ -1,5 +1,6 @@
 -- Sets of a machine's states, as lists.
-use Rattle.std.specs.Prelude.{◌≡◌, ℕ, ◌+◌, ◌<◌, ◌≤◌, ◌⊎◌, List, length, map, slice_index, slice_index_or, Bool, true, false, slice_get, Option, None, Some, Vec}
+use Rattle.std.specs.Prelude.{◌≡◌, ℕ, ◌+◌, ◌<◌, ◌≤◌, ◌⊎◌, List, length, map, slice_index}
+use Rattle.std.specs.Prelude.{slice_index_or, Bool, true, false, slice_get, Option, None, Some, Vec}
 use Rattle.std.specs.List.{All, Contains}
 use Rattle.std.specs.declared.alloc.Global.{Global}
 use Rattle.hc_dfa.specs.Classings.{Classing, class_of}
@@ -41,11 +42,13 @@ FollowsTo state step x = (step.from ≡ state) × (step.to ≡ x)
 -- The state that the step at this place hits, if it hits one.
 abbrev pub HitsAt : {X : Type 0} → List X → (X → ℕ → Type 0) → ℕ → Option ℕ → Type 0
 HitsAt {X} xs Hits at None = (x : ℕ) (step : X) → slice_index_or xs at step ≡ step → Hits step x → ⊥
-HitsAt {X} xs Hits at (Some to) = (step : X) × (slice_index_or xs at step ≡ step) × Hits step to × ((x : ℕ) → Hits step x → x ≡ to)
+HitsAt {X} xs Hits at (Some to) = (step : X) × (slice_index_or xs at step ≡ step) × Hits step to
+    × ((x : ℕ) → Hits step x → x ≡ to)
 
 -- The second set has exactly the states that a byte leads to from the first.
 pub record IsRead (m : Steps) (from : List ℕ) (byte : ℕ) (to : List ℕ) : Type 0 where
-  pub sound : (state : ℕ) → Contains to state → (before : ℕ) × Contains from before × Reads m before byte state
+  pub sound : (state : ℕ) → Contains to state → (before : ℕ) × Contains from before
+      × Reads m before byte state
   pub complete : (before state : ℕ) → Contains from before → Reads m before byte state → Contains to state
 
 -- Each number is one of the machine's states.
@@ -64,7 +67,8 @@ pub data SilentPath (m : Steps) (from : ℕ) : ℕ → Type 0 where
 -- The second set is the first with all that silent steps lead to.
 pub record IsClosure (m : Steps) (set closure : List ℕ) : Type 0 where
   pub keeps : (state : ℕ) → Contains set state → Contains closure state
-  pub sound : (state : ℕ) → Contains closure state → (before : ℕ) × Contains set before × SilentPath m before state
+  pub sound : (state : ℕ) → Contains closure state → (before : ℕ) × Contains set before
+      × SilentPath m before state
   pub closed : IsClosed m closure
 
 -- A set that stands for a state of the automaton.
@@ -112,19 +116,23 @@ pub record IsMark (states : List ℕ) (set : List ℕ) (answer : Bool) : Type 0 
 -- The copy of the set that stands at a place of the list; none past its end.
 abbrev pub IsSetAt : List (Vec ℕ Global) → ℕ → Option (Vec ℕ Global) → Type 0
 IsSetAt sets i None = length sets ≤ i
-IsSetAt sets i (Some set) = (stored : Vec ℕ Global) × (slice_get sets i ≡ Some stored) × (stored.items ≡ set.items)
+IsSetAt sets i (Some set) = (stored : Vec ℕ Global) × (slice_get sets i ≡ Some stored)
+    × (stored.items ≡ set.items)
 
 -- Bytes with the same number have no change between them, nor at the later one.
 abbrev pub ArePieces : List Bool → ℕ → List ℕ → Type 0
 ArePieces changes count numbers =
-    (b d k : ℕ) → d < count → slice_index numbers b ≡ slice_index numbers d → b < k → k ≤ d → Has changes k → ⊥
+    (b d k : ℕ) → d < count → slice_index numbers b ≡ slice_index numbers d → b < k → k ≤ d
+    → Has changes k → ⊥
 
 -- Bytes of one class lead from each set to the same sets.
 abbrev pub TellsSteps : Steps → Classing → Type 0
 TellsSteps m c =
-    (from to : List ℕ) (b d : ℕ) → b < 256 → d < 256 → class_of c b ≡ class_of c d → IsStep m from b to → IsStep m from d to
+    (from to : List ℕ) (b d : ℕ) → b < 256 → d < 256 → class_of c b ≡ class_of c d → IsStep m from b to
+    → IsStep m from d to
 
 -- The rows made so far have an entry for each of these bytes.
 abbrev pub SetsExplored : Steps → List ℕ → List (Vec ℕ Global) → List ℕ → Type 0
 SetsExplored m bytes sets next =
-    Explored (length bytes) (λ set. IsProper m set.items) (λ from k to. IsStep m from.items (slice_index bytes k) to.items) sets next
+    Explored (length bytes) (λ set. IsProper m set.items)
+    (λ from k to. IsStep m from.items (slice_index bytes k) to.items) sets next

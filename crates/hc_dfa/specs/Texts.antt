@@ -1,5 +1,6 @@
 -- Texts of bytes, their order, and the first texts of a set.
-use Rattle.std.specs.Prelude.{◌≡◌, ℕ, ◌<◌, ◌&&◌, ◌||◌, ◌==◌, ◌⊎◌, nat_lt, IsTrue, List, [], ◌∷◌, length, Bool, false, Option, None, Some}
+use Rattle.std.specs.Prelude.{◌≡◌, ℕ, ◌<◌, ◌&&◌, ◌||◌, ◌==◌, ◌⊎◌, nat_lt, IsTrue, List}
+use Rattle.std.specs.Prelude.{[], ◌∷◌, length, Bool, false, Option, None, Some}
 use Rattle.std.specs.List.{AllByRecursion}
 
 -- Each number of the text is a byte.
@@ -18,7 +19,8 @@ byte_order (b ∷ text) (c ∷ other) = nat_lt b c || ((b == c) && byte_order te
 
 -- The order of texts: the shorter first, and those of one length in byte order.
 abbrev pub comes_before : List ℕ → List ℕ → Bool
-comes_before text other = nat_lt (length text) (length other) || ((length text == length other) && byte_order text other)
+comes_before text other = nat_lt (length text) (length other)
+    || ((length text == length other) && byte_order text other)
 
 -- No text is in the set.
 abbrev pub IsEmptySet : TextSet → Type 0
@@ -28,7 +30,8 @@ IsEmptySet set = (text : List ℕ) → IsText text → set text ≡ false
 pub record IsLeast (set : TextSet) (text : List ℕ) : Type 0 where
   pub bytes : IsText text
   pub member : IsTrue (set text)
-  pub first : (other : List ℕ) → IsText other → IsTrue (set other) → (other ≡ text) ⊎ IsTrue (comes_before text other)
+  pub first : (other : List ℕ) → IsText other → IsTrue (set other) → (other ≡ text)
+      ⊎ IsTrue (comes_before text other)
 
 -- The least text of the set, and `None` exactly where there is none.
 abbrev pub IsLeastOf : TextSet → Option (List ℕ) → Type 0

@@ -7,7 +7,8 @@ abbrev pub output_with : List Token → Output → Output
 output_with [] output = output
 output_with (token ∷ tokens) output = with_emitted token (output_with tokens output)
 
-pub last_token : (tokens : List Token) (last : Token) (output : Output) → output_with (tokens ++ last ∷ []) output ≡ output_with tokens (with_emitted last output)
+pub last_token : (tokens : List Token) (last : Token) (output : Output) → output_with (tokens ++ last ∷ []) output
+    ≡ output_with tokens (with_emitted last output)
 last_token [] last output = refl
 last_token (first ∷ tokens) last output = ap (with_emitted first) (last_token tokens last output)
 

@@ -4,4 +4,5 @@ pub mod TokenLemmas
 pub mod SyntaxLemmas
 pub mod Building
 pub mod StepsHeld
+pub mod Grammatical
 pub mod StepsOfTrees

@@ -1,5 +1,7 @@
 -- How tokens are read.
-use Rattle.hc_expr.proofs.Common.{◌≡◌, ℕ, suc, ◌+◌, ◌-◌, ◌<◌, ◌==◌, false, List, [], ◌∷◌, ◌++◌, length, refl, sym, ap, ◌∙◌, append_assoc, true≢false, arith, map-append, map, Token, past_blanks, token_at, tokens_in, token_view}
+use Rattle.hc_expr.proofs.Common.{◌≡◌, ℕ, suc, ◌+◌, ◌-◌, ◌<◌, ◌==◌, false, List, [], ◌∷◌}
+use Rattle.hc_expr.proofs.Common.{◌++◌, length, refl, sym, ap, ◌∙◌, append_assoc, true≢false, arith}
+use Rattle.hc_expr.proofs.Common.{map-append, map, Token, past_blanks, token_at, tokens_in, token_view}
 use Rattle.hc_expr.specs.declared.token.Token.{Token as TokenOfBytes}
 
 one_more : (turns : ℕ) (text : List ℕ) → (length text == 0) ≡ false
@@ -7,8 +9,10 @@ one_more : (turns : ℕ) (text : List ℕ) → (length text == 0) ≡ false
 one_more turns [] some = absurd (true≢false some)
 one_more turns (b ∷ bs) some = refl
 
-pub token_more : (before all : List TokenOfBytes) (now : TokenOfBytes) (next text : List ℕ) (found : Token × List ℕ) (n i : ℕ)
-    → i < n → (length text == 0) ≡ false → found ≡ token_at text → token_view now ≡ found.0 → next ≡ past_blanks found.1 → all ≡ before ++ now ∷ []
+pub token_more : (before all : List TokenOfBytes) (now : TokenOfBytes) (next text : List ℕ)
+    (found : Token × List ℕ) (n i : ℕ)
+    → i < n → (length text == 0) ≡ false → found ≡ token_at text → token_view now ≡ found.0
+    → next ≡ past_blanks found.1 → all ≡ before ++ now ∷ []
     → map token_view all ++ tokens_in (n - (i + 1)) next ≡ map token_view before ++ tokens_in (n - i) text
 token_more before all now next text found n i within some is seen behind added =
     let e : n - i ≡ suc (n - (i + 1)) = omega arith in

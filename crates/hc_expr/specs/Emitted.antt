@@ -1,5 +1,8 @@
--- The steps of an expression, made from its last token on, the last step first.
-use Rattle.std.specs.Prelude.{List, [], ◌∷◌, Bool, true, false, ◌||◌, if◌then◌else◌}
+-- The steps of an expression, as the code makes them: from the last token on. The last step comes first.
+use Rattle.std.specs.Prelude.{List, [], ◌∷◌, Bool, true, false, ◌||◌, if◌then◌else◌, Option, None}
+use Rattle.std.specs.List.{slice_get}
+use Rattle.hc_expr.specs.Grammar.{Tree, both, either, leaf, negated}
+use Rattle.hc_expr.specs.Syntax.{is_expression}
 use Rattle.hc_expr.specs.Tokens.{Test, Token, ands, broken, closes, negates, opens, ors, test}
 use Rattle.hc_expr.specs.declared.build.Level.{Level}
 
@@ -45,7 +48,8 @@ inverted steps = inverts ∷ steps
 
 abbrev pub opened_in : Bool → List Level → List Step → Output
 opened_in there [] steps = record { inner = record nothing_there { last = there }; outer = []; steps = steps }
-opened_in there (level ∷ levels) steps = record { inner = record level { last = there }; outer = levels; steps = steps }
+opened_in there (level ∷ levels) steps =
+    record { inner = record level { last = there }; outer = levels; steps = steps }
 
 abbrev pub with_emitted : Token → Output → Output
 with_emitted (test t) o = record o { inner = record o.inner { last = true }; steps = tested t ∷ o.steps }
@@ -70,3 +74,20 @@ output_after (token ∷ tokens) = with_emitted token (output_after tokens)
 
 abbrev pub all_emitted : List Token → List Step
 all_emitted tokens = finished (output_after tokens).inner (output_after tokens).steps
+
+-- ---- the tree that they stand for
+
+abbrev pub with_tree : Step → List Tree → List Tree
+with_tree (tested t) trees = leaf t ∷ trees
+with_tree inverts (tree ∷ trees) = negated tree ∷ trees
+with_tree joins_both (first ∷ second ∷ trees) = both first second ∷ trees
+with_tree joins_either (first ∷ second ∷ trees) = either first second ∷ trees
+with_tree missing trees = trees
+
+abbrev pub trees_of : List Step → List Tree
+trees_of [] = []
+trees_of (step ∷ steps) = with_tree step (trees_of steps)
+
+-- The tree of an expression (`Grammar.IsOnlyTree`).
+abbrev pub tree_of : List Token → Option Tree
+tree_of tokens = if is_expression 0 true tokens then slice_get (trees_of (all_emitted tokens)) 0 else None

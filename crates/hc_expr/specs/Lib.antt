@@ -1,5 +1,6 @@
 pub mod Tokens
 pub mod TokenViews
+pub mod Grammar
 pub mod Syntax
 pub mod Spots
 pub mod Emitted

@@ -1,7 +1,8 @@
 -- What an expression is read as, or the first rule that it breaks.
--- Apache manual, "Expressions in Apache HTTP Server". The refusals are our own choice: where the text is no expression,
--- nothing else is looked for; else the smallest code counts, and of equal ones the first.
-use Rattle.std.specs.Prelude.{ℕ, List, [], ◌∷◌, Bool, true, false, Option, Some, None, Result, Ok, Err, nat_lt, if◌then◌else◌}
+-- Apache manual, "Expressions in Apache HTTP Server". The refusals are our own choice: where the text is no
+-- expression, nothing else is looked for; else the smallest code counts, and of equal ones the first.
+use Rattle.std.specs.Prelude.{ℕ, List, [], ◌∷◌, Bool, true, false, Option, Some, None, Result, Ok, Err, nat_lt}
+use Rattle.std.specs.Prelude.{if◌then◌else◌}
 use Rattle.hc_addr.specs.Networks.{net_of}
 use Rattle.hc_addr.specs.declared.net.Net.{Net}
 use Rattle.hc_base.specs.Rules.{rule}
@@ -16,8 +17,9 @@ use Rattle.hc_template.specs.Reading.{template}
 use Rattle.hc_template.specs.Variables.{variable_named}
 use Rattle.hc_template.specs.declared.signs.Names.TheVariants.{Expression}
 use Rattle.hc_template.specs.declared.signs.Signs.{Signs}
-use Rattle.hc_expr.specs.Syntax.{Tree, both, either, is_expression, leaf, negated, tree_of}
-use Rattle.hc_expr.specs.Tokens.{Operand, Test, Token, always, digits, network, quoted, same, search, tokens_of, variable}
+use Rattle.hc_expr.specs.Emitted.{tree_of}
+use Rattle.hc_expr.specs.Grammar.{Tree, both, either, leaf, negated}
+use Rattle.hc_expr.specs.Tokens.{Operand, Test, always, digits, network, quoted, same, search, tokens_of, variable}
 
 -- ---- operands
 
@@ -26,7 +28,8 @@ abbrev pub names_alone : Signs
 names_alone = record { groups = false; conditions = false; names = Expression; lookups = false; escapes = false }
 
 abbrev pub name_alone : List ℕ → Result (List Piece) AtByte
-name_alone name = elim (variable_named name) [ None ↦ Err (rule UNSUPPORTED_VARIABLE) | Some var ↦ Ok (Var var ∷ []) ]
+name_alone name =
+    elim (variable_named name) [ None ↦ Err (rule UNSUPPORTED_VARIABLE) | Some var ↦ Ok (Var var ∷ []) ]
 
 abbrev pub operand_of : Operand → Result (List Piece) AtByte
 operand_of (variable name) = name_alone name
@@ -42,7 +45,8 @@ network_of text = elim (net_of text) [ Err bad ↦ Err (rule BAD_ADDRESS) | Ok n
 abbrev pub lesser : AtByte → AtByte → AtByte
 lesser first second = if nat_lt second.code first.code then second else first
 
-abbrev pub made_of_two : {A B C : Type 0} → (A → B → C) → Result A AtByte → Result B AtByte → Result C AtByte
+abbrev pub made_of_two : {A B C : Type 0} → (A → B → C) → Result A AtByte → Result B AtByte
+    → Result C AtByte
 made_of_two make (Ok a) (Ok b) = Ok (make a b)
 made_of_two make (Ok a) (Err broken) = Err broken
 made_of_two make (Err broken) (Ok b) = Err broken
@@ -82,8 +86,5 @@ abbrev pub expression_of : Option Tree → Result Expr AtByte
 expression_of None = Err no_expression
 expression_of (Some tree) = tree_read tree
 
-abbrev pub tokens_read : List Token → Result Expr AtByte
-tokens_read tokens = if is_expression 0 true tokens then expression_of (tree_of tokens) else Err no_expression
-
 unfoldable pub parse_expr : List ℕ → Result Expr AtByte
-parse_expr text = tokens_read (tokens_of text)
+parse_expr text = expression_of (tree_of (tokens_of text))

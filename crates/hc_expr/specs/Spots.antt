@@ -8,4 +8,5 @@ use Rattle.hc_expr.specs.declared.syntax.Spot.{Spot}
 abbrev pub GoesOn : Option Spot → ℕ → Bool → Token → Type 0
 GoesOn None depth awaited token = (later : List Token) → is_expression depth awaited (token ∷ later) ≡ false
 GoesOn (Some spot) depth awaited token =
-    (later : List Token) → is_expression depth awaited (token ∷ later) ≡ is_expression spot.depth spot.awaited later
+    (later : List Token) → is_expression depth awaited (token ∷ later) ≡ is_expression spot.depth spot.awaited
+    later

@@ -22,7 +22,8 @@ abbrev pub emitted : List StepOfBytes → List Step
 emitted steps = map step_view (reverse steps)
 
 abbrev pub output_of : Levels → Output
-output_of levels = record { inner = levels.inner; outer = reverse levels.outer.items; steps = emitted levels.steps.items }
+output_of levels =
+    record { inner = levels.inner; outer = reverse levels.outer.items; steps = emitted levels.steps.items }
 
 abbrev pub trees_or : List ExprStep → Option AtByte → Result (List Expr) AtByte
 trees_or steps None = Ok (trees_of steps [])

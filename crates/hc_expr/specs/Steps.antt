@@ -18,7 +18,8 @@ constant_step false = step.No
 abbrev pub step_read : Test → Result ExprStep AtByte
 step_read (always value) = Ok (constant_step value)
 step_read (same differs left right) = made_of_two step.Same (operand_of left) (operand_of right)
-step_read (search differs left pattern nocase) = made_of_two step.Search (operand_of left) (parse_pattern pattern nocase)
+step_read (search differs left pattern nocase) =
+    made_of_two step.Search (operand_of left) (parse_pattern pattern nocase)
 step_read (network left text) = made_of_two step.IpMatch (operand_of left) (network_of text)
 
 abbrev pub is_negated : Test → Bool

@@ -1,7 +1,8 @@
 -- What the tokens of `src/` are seen as.
 use Rattle.std.specs.Prelude.{ℕ, List, Bool}
 use Rattle.std.specs.Borrow.{Bor}
-use Rattle.hc_expr.specs.Tokens.{Operand, Test, Token, always, ands, broken, closes, digits, negates, network, opens, ors, quoted, same, search, test, variable}
+use Rattle.hc_expr.specs.Tokens.{Operand, Test, Token, always, ands, broken, closes, digits, negates, network, opens}
+use Rattle.hc_expr.specs.Tokens.{ors, quoted, same, search, test, variable}
 use Rattle.hc_expr.specs.declared.operand.Operand.{Operand as OperandOfBytes}
 use Rattle.hc_expr.specs.declared.operand.Operand.TheVariants.{Variable, Quoted, Digits}
 use Rattle.hc_expr.specs.declared.test.Pattern.{Pattern}

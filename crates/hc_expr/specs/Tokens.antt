@@ -1,6 +1,8 @@
 -- The signs and tests of an expression.
 -- Apache manual, "Expressions in Apache HTTP Server". Which of its forms are read is our own choice.
-use Rattle.std.specs.Prelude.{ℕ, zero, suc, ◌==◌, ◌||◌, List, [], ◌∷◌, length, Bool, true, false, Option, Some, None, nat_eq, option_and_then, option_map, if◌then◌else◌, codes, drop, take}
+use Rattle.std.specs.Prelude.{ℕ, zero, suc, ◌==◌, ◌||◌, List, [], ◌∷◌, length, Bool, true, false}
+use Rattle.std.specs.Prelude.{Option, Some, None, nat_eq, option_and_then, option_map, if◌then◌else◌, codes, drop}
+use Rattle.std.specs.Prelude.{take}
 use Rattle.std.specs.Char.{is_ascii_alphanumeric, is_ascii_digit}
 use Rattle.std.specs.List.{prefix_len, starts_with}
 use Rattle.std.specs.Str.{bytes_eq}
@@ -19,7 +21,8 @@ begins_with sign text = starts_with nat_eq text sign
 -- What stands up to the first byte of this kind, and what is behind that byte.
 abbrev pub up_to : ℕ → Begins (List ℕ)
 up_to end [] = None
-up_to end (b ∷ bs) = if b == end then Some ([], bs) else option_map (λ found. (b ∷ found.0, found.1)) (up_to end bs)
+up_to end (b ∷ bs) = if b == end then Some ([], bs) else option_map (λ found. (b ∷ found.0, found.1))
+    (up_to end bs)
 
 abbrev pub past_blanks : List ℕ → List ℕ
 past_blanks text = drop (prefix_len is_blank text) text
@@ -64,7 +67,8 @@ abbrev pub made : {A B : Type 0} → (A → B) → Option (A × List ℕ) → Op
 made make found = option_map (λ found. (make found.0, found.1)) found
 
 abbrev pub operand_at : Begins Operand
-operand_at text = either (made variable (variable_at text)) (either (made quoted (quoted_at text)) (made digits (digits_at text)))
+operand_at text =
+    either (made variable (variable_at text)) (either (made quoted (quoted_at text)) (made digits (digits_at text)))
 
 -- ---- tests
 
@@ -80,7 +84,8 @@ pub data Test : Type 0 where
 
 -- A pattern between slashes, and whether `i` follows.
 abbrev pub with_flag : List ℕ → List ℕ → Option ((List ℕ × Bool) × List ℕ)
-with_flag pattern rest = if begins_with (codes "i") rest then Some ((pattern, true), drop 1 rest) else Some ((pattern, false), rest)
+with_flag pattern rest = if begins_with (codes "i") rest then Some ((pattern, true), drop 1 rest)
+    else Some ((pattern, false), rest)
 
 abbrev pub pattern_at : Begins (List ℕ × Bool)
 pattern_at text = if begins_with (codes "/") text then behind with_flag (up_to slash (drop 1 text)) else None

@@ -1,4 +1,5 @@
-ghost use Rattle.std.specs.Prelude.{◌≡◌, ◌<◌, ◌≤◌, ◌^◌, ◌-◌, ◌+◌, ℕ, List, [], ◌∷◌, false, IfOk};
+ghost use Rattle.std.specs.Prelude.{◌≡◌, ◌<◌, ◌≤◌, ◌^◌, ◌-◌, ◌+◌, ℕ, List, [], ◌∷◌};
+ghost use Rattle.std.specs.Prelude.{false, IfOk};
 ghost use Rattle.hc_session.specs.Session.{start, work};
 ghost use Rattle.hc_generate.specs.Run.{Goes, Takes};
 ghost use Rattle.hc_generate.specs.Script.{file_step, files_behind, in_order, override_step, turn};
@@ -11,7 +12,7 @@ use crate::draws::{DIRECTORIES, Draws, FILES, TURNS};
 use crate::line::line;
 use crate::step::Step;
 use crate::tally::Tally;
-use hc_base::{NoMemory, Steps};
+use hc_base::{Counter, NoMemory};
 use hc_session::Session;
 use std::alloc::Global;
 use std::sync::ledger::Ledger;
@@ -39,8 +40,8 @@ impl Run {
     fn answer<E: Ledger, B: Ledger>(
         &mut self,
         line: &[u8],
-        evals: &mut Steps<E>,
-        bytes: &mut Steps<B>,
+        evals: &mut Counter<E>,
+        bytes: &mut Counter<B>,
     )
         requires going { self.old.session.ended ≡ false }
         requires room { total self.old.tally < 2 ^ 64 - 1 }
@@ -56,7 +57,12 @@ impl Run {
     }
 
     // Takes a step, unless the session has ended. Where its line finds no memory, it counts as answered so.
-    fn take<E: Ledger, B: Ledger>(&mut self, step: Step, evals: &mut Steps<E>, bytes: &mut Steps<B>)
+    fn take<E: Ledger, B: Ledger>(
+        &mut self,
+        step: Step,
+        evals: &mut Counter<E>,
+        bytes: &mut Counter<B>,
+    )
         requires room { total self.old.tally < 2 ^ 64 - 1 }
         ensures goes { (left : List Step) → Takes self.old self.new (step ∷ left) left
             (work evals.old bytes.old) (work evals.new bytes.new) }
@@ -75,8 +81,8 @@ impl Run {
     fn list_files<E: Ledger, B: Ledger>(
         &mut self,
         draws: &mut Draws,
-        evals: &mut Steps<E>,
-        bytes: &mut Steps<B>,
+        evals: &mut Counter<E>,
+        bytes: &mut Counter<B>,
     )
         requires room { total self.old.tally + FILES < 2 ^ 64 - 1 }
         ensures goes { (behind : ℕ → List Step) → Takes self.old self.new
@@ -93,8 +99,8 @@ impl Run {
     fn put_texts<E: Ledger, B: Ledger>(
         &mut self,
         draws: &mut Draws,
-        evals: &mut Steps<E>,
-        bytes: &mut Steps<B>,
+        evals: &mut Counter<E>,
+        bytes: &mut Counter<B>,
     )
         requires room { total self.old.tally + DIRECTORIES < 2 ^ 64 - 1 }
         ensures goes { (behind : ℕ → List Step) → Takes self.old self.new
@@ -111,8 +117,8 @@ impl Run {
     fn take_turns<E: Ledger, B: Ledger>(
         &mut self,
         draws: &mut Draws,
-        evals: &mut Steps<E>,
-        bytes: &mut Steps<B>,
+        evals: &mut Counter<E>,
+        bytes: &mut Counter<B>,
     )
         requires room { total self.old.tally + TURNS < 2 ^ 64 - 1 }
         ensures goes { (behind : ℕ → List Step) → Takes self.old self.new
@@ -129,8 +135,8 @@ impl Run {
     pub(crate) fn take_all<E: Ledger, B: Ledger>(
         &mut self,
         mut draws: Draws,
-        evals: &mut Steps<E>,
-        bytes: &mut Steps<B>,
+        evals: &mut Counter<E>,
+        bytes: &mut Counter<B>,
     )
         requires fresh { total self.old.tally ≡ 0 }
         ensures { Takes self.old self.new (Main ∷ files_behind draws.x) []

@@ -5,7 +5,7 @@ ghost use Rattle.hc_generate.specs.Summary.{IsSummary, nothing_said};
 use crate::draws::Draws;
 use crate::run::Run;
 use crate::summary_line::SummaryLine;
-use hc_base::{NoMemory, Steps, Text};
+use hc_base::{Counter, NoMemory, Text};
 use std::alloc::Global;
 use std::sync::ledger::Ledger;
 
@@ -15,8 +15,8 @@ use std::sync::ledger::Ledger;
 pub fn summary<E: Ledger, B: Ledger>(
     alloc: Global,
     seed: u64,
-    evals: &mut Steps<E>,
-    bytes: &mut Steps<B>,
+    evals: &mut Counter<E>,
+    bytes: &mut Counter<B>,
 ) -> Result<Text, NoMemory>
     ensures told { IfOk result (λ line. IsSummary seed line (work evals.old bytes.old) (work evals.new bytes.new)) }
     ensures idle { OnErr result (work evals.new bytes.new ≡ work evals.old bytes.old) }
@@ -31,8 +31,8 @@ fn told<E: Ledger, B: Ledger>(
     run: &mut Run,
     line: SummaryLine,
     seed: u64,
-    evals: &mut Steps<E>,
-    bytes: &mut Steps<B>,
+    evals: &mut Counter<E>,
+    bytes: &mut Counter<B>,
 ) -> Text
     requires fresh { (run.old.session ≡ start) × (run.old.tally ≡ nothing_said) }
     requires line { line ≡ [] }

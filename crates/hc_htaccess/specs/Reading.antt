@@ -1,5 +1,6 @@
 -- What reading the `.htaccess` of a directory gives.
--- Apache manual, ".htaccess files"; core, AllowOverride. That a directory of this name counts as none, and that a file without
+-- Apache manual, ".htaccess files"; core, AllowOverride. That a directory of this name counts as none, and that a file
+-- without
 -- a text is refused, is our own choice.
 use Rattle.std.specs.Prelude.{ℕ, List, length, Option, Some, None, Result, Ok, Err}
 use Rattle.hc_base.specs.Rules.{refusal_at, rule}

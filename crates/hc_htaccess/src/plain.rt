@@ -1,5 +1,6 @@
 //! The `.htaccess` files of a world, read when they are asked for.
-ghost use Rattle.std.specs.Prelude.{◌≡◌, ◌+◌, ◌≤◌, ◌++◌, ◌∷◌, Contains, OnErr, OnOk, [], option_map};
+ghost use Rattle.std.specs.Prelude.{◌≡◌, ◌+◌, ◌≤◌, ◌++◌, ◌∷◌, Contains, OnErr, OnOk, []};
+ghost use Rattle.std.specs.Prelude.{option_map};
 ghost use Rattle.hc_base.specs.Gives.{Gives};
 ghost use Rattle.hc_htaccess.specs.Loading.{answer_of, kept_for, loaded_as, loaded_of, reading_of};
 ghost use Rattle.hc_htaccess.specs.Pairs.{is_for};
@@ -7,7 +8,7 @@ ghost use Rattle.hc_htaccess.specs.Reading.{size_in};
 ghost use Rattle.hc_model.specs.Overrides.{IfMemory, Kept as KeepsLoaded, file_of};
 
 use crate::there::read_htaccess;
-use hc_base::{NoMemory, Steps, Text};
+use hc_base::{Counter, NoMemory, Text};
 use hc_model::{Allowed, AtFault, Config, HtFile, Overrides};
 use hc_world::World;
 use std::alloc::Global;
@@ -51,7 +52,7 @@ impl<'a> Model for PlainFiles<'a> {
 impl<'a> PlainFiles<'a> {
     fn read<L: Ledger>(
         &self,
-        bytes: &mut Steps<L>,
+        bytes: &mut Counter<L>,
         dir: &[u8],
         allowed: Allowed,
     ) -> Result<Option<HtFile>, AtFault>
@@ -85,7 +86,7 @@ impl<'a> PlainFiles<'a> {
 #[derive(Drop)]
 pub struct PlainOverrides<'a, L: Ledger> {
     files: PlainFiles<'a>,
-    bytes: &'a mut Steps<L>,
+    bytes: &'a mut Counter<L>,
 }
 
 impl<'a, L: Ledger> PlainOverrides<'a, L> {
@@ -94,7 +95,7 @@ impl<'a, L: Ledger> PlainOverrides<'a, L> {
         alloc: Global,
         config: &'a Config,
         world: &'a World,
-        bytes: &'a mut Steps<L>,
+        bytes: &'a mut Counter<L>,
     ) -> PlainOverrides<'a, L>
         ensures files { result.files ≡ record { world = world.now.files; config = config.now; kept = [] } }
         ensures bytes { result.bytes ≡ bytes.entry }

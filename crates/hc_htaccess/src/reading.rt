@@ -4,7 +4,7 @@ ghost use Rattle.hc_base.specs.Gives.{Gives};
 ghost use Rattle.hc_htaccess.specs.Reading.{file_read};
 ghost use Rattle.hc_model.specs.Overrides.{IfMemory};
 
-use hc_base::{Steps, Text};
+use hc_base::{Counter, Text};
 use hc_config::build_override;
 use hc_include::flatten_override;
 use hc_merge::htaccess_of;
@@ -22,7 +22,7 @@ pub fn read_overrides<L: Ledger>(
     dir: &[u8],
     allowed: Allowed,
     config: &Config,
-    bytes: &mut Steps<L>,
+    bytes: &mut Counter<L>,
 ) -> Result<HtFile, AtFault>
     ensures file { Gives result (file_read config.now dir.now allowed text.now) }
     ensures bytes { IfMemory result (bytes.new ≡ bytes.old + length text.now) }

@@ -7,7 +7,7 @@ ghost use Rattle.hc_model.specs.Overrides.{IfMemory};
 
 use crate::reading::read_overrides;
 use hc_base::codes::CONTENT_MISSING;
-use hc_base::{AtByte, Fault, NoMemory, Place, Refusal, Steps};
+use hc_base::{AtByte, Counter, Fault, NoMemory, Place, Refusal};
 use hc_merge::htaccess_of;
 use hc_model::{Allowed, AtFault, Config, HtFile, Kind};
 use hc_world::World;
@@ -22,7 +22,7 @@ pub fn read_htaccess<L: Ledger>(
     alloc: Global,
     config: &Config,
     world: &World,
-    bytes: &mut Steps<L>,
+    bytes: &mut Counter<L>,
     dir: &[u8],
     allowed: Allowed,
 ) -> Result<Option<HtFile>, AtFault>
@@ -47,7 +47,7 @@ pub fn read_htaccess<L: Ledger>(
 fn read_text<L: Ledger>(
     alloc: Global,
     config: &Config,
-    bytes: &mut Steps<L>,
+    bytes: &mut Counter<L>,
     dir: &[u8],
     allowed: Allowed,
     text: Option<&str>,

@@ -2,5 +2,4 @@ pub mod Common
 pub mod Counting
 pub mod Ending
 pub mod Texts
-pub mod Alone
 pub mod Whole

@@ -2,57 +2,51 @@
 -- an Include at its place and without the bodies that IfDefine and IfModule drop.
 -- Apache manual, "Configuration Files"; core, Include. How many files may stand within each other is
 -- our own choice.
-use Rattle.std.specs.Prelude.{ℕ, zero, suc, ◌+◌, List, [], ◌∷◌, ◌++◌, length, true, Option, Some, None, Result, Ok, Err, if◌then◌else◌}
-use Rattle.hc_base.specs.Rules.{refusal_at, rule}
+use Rattle.std.specs.Prelude.{ℕ, zero, suc, ◌+◌, List, [], ◌∷◌, ◌++◌, length, true, Option, Some, None}
+use Rattle.std.specs.Prelude.{Result, Ok, Err, if◌then◌else◌}
+use Rattle.hc_base.specs.Rules.{rule}
 use Rattle.hc_base.specs.declared.codes.TheConstants.{CONTENT_MISSING, INCLUDE_MISSING}
 use Rattle.hc_base.specs.declared.fault.AtByte.{AtByte}
 use Rattle.hc_base.specs.declared.fault.AtLine.{AtLine}
 use Rattle.hc_base.specs.declared.place.Refusal.{Refusal}
-use Rattle.hc_lines.specs.Logical.{lines_of}
 use Rattle.hc_lines.specs.declared.line.FileKind.TheVariants.{Config}
 use Rattle.hc_lines.specs.declared.line.Line.{Line}
 use Rattle.hc_model.specs.World.{World}
 use Rattle.hc_model.specs.declared.config.Define.{Define}
 use Rattle.hc_model.specs.declared.read.Read.{Read}
 use Rattle.hc_model.specs.declared.walk.Kind.{Kind}
-use Rattle.hc_nodes.specs.Tree.{refusal_of}
 use Rattle.hc_steps.specs.Order.{each_once}
 use Rattle.hc_steps.specs.Run.{Run, Way, goes_on, is_over, run}
 use Rattle.hc_steps.specs.Shown.{shown_by}
 use Rattle.hc_steps.specs.Step.{Path, Step, leaves, ends, ◌>>=◌, in_order, text_at}
 use Rattle.hc_include.specs.Ending.{ending}
 use Rattle.hc_include.specs.Include.{is_there}
-use Rattle.hc_include.specs.Lines.{change_by, changed, files_of, spot_of}
+use Rattle.hc_include.specs.Lines.{change_by, changed, files_behind, ruled_lines, spot_of, stopped_at}
 use Rattle.hc_says.specs.Says.{built_in}
 use Rattle.hc_include.specs.declared.around.Around.{Around}
+use Rattle.hc_include.specs.declared.change.Change.{Change}
 use Rattle.hc_flat.specs.declared.flat.Flat.{Flat}
 use Rattle.hc_include.specs.declared.reading.Reading.{Reading}
 use Rattle.hc_include.specs.declared.reading.Setting.{Setting}
 use Rattle.hc_include.specs.declared.reading.Stopped.{Stopped}
-
--- The first refusal ends the reading, with what was read before it.
-abbrev pub stopped_at : Around → ℕ → Reading → AtByte → Stopped
-stopped_at around line reading broken =
-    record { reading = reading; refusal = refusal_at (record { file = around.file; line = line }) broken }
 
 -- What reads a file behind what was read so far.
 abbrev pub Reader : Type 0
 Reader = Reading → Path → Step Stopped Reading
 
 -- A line, and the files that come behind it.
-unfoldable pub line_read : Around → Reader → Reading → Line → Step Stopped Reading
-line_read around reader reading line = do
-  change ← ending (stopped_at around line.number reading) (change_by around reading line)
-  in_order reader (changed (spot_of around line) reading change) (files_of change)
+unfoldable pub behind_change : Around → Reader → Reading → Line → Result Change AtByte → Step Stopped Reading
+behind_change around reader reading line (Err broken) = ends (stopped_at around.file line.number reading broken)
+behind_change around reader reading line (Ok change) = do
+  files ← ending (stopped_at around.file line.number reading) (files_behind around reading.root change)
+  in_order reader (changed (spot_of around.file line) reading change) files
 
--- The rules of a file's lines come first, then those of its sections, then those of its directives.
-unfoldable pub lines_unless : Around → Reader → Reading → List Line → Option AtLine → Step Stopped Reading
-lines_unless around reader reading lines (Some broken) = ends (stopped_at around broken.line reading (rule broken.code))
-lines_unless around reader reading lines None = in_order (line_read around reader) reading lines
+abbrev pub line_read : Around → Reader → Reading → Line → Step Stopped Reading
+line_read around reader reading line = behind_change around reader reading line (change_by reading line)
 
 unfoldable pub lines_read : Around → Reader → Reading → Result (List Line) AtLine → Step Stopped Reading
-lines_read around reader reading (Err broken) = ends (stopped_at around broken.line reading (rule broken.code))
-lines_read around reader reading (Ok lines) = lines_unless around reader reading lines (refusal_of lines)
+lines_read around reader reading (Err broken) = ends (stopped_at around.file broken.line reading (rule broken.code))
+lines_read around reader reading (Ok lines) = in_order (line_read around reader) reading lines
 
 abbrev pub having_read : List ℕ → Reading → Reading
 having_read text reading = record reading { bytes = reading.bytes + length text }
@@ -62,11 +56,13 @@ abbrev pub missing : Kind → AtByte
 missing kind = rule (if is_there kind then CONTENT_MISSING else INCLUDE_MISSING)
 
 unfoldable pub text_read : Around → Reader → Reading → Kind → Option (List ℕ) → Step Stopped Reading
-text_read around reader reading kind None = ends (stopped_at around 0 reading (missing kind))
-text_read around reader reading kind (Some text) = lines_read around reader (having_read text reading) (lines_of reading.setting.kind text)
+text_read around reader reading kind None = ends (stopped_at around.file 0 reading (missing kind))
+text_read around reader reading kind (Some text) =
+    lines_read around reader (having_read text reading) (ruled_lines reading.setting.kind text)
 
 unfoldable pub file_read : Around → Reader → Reading → Step Stopped Reading
-file_read around reader reading = text_at around.file >>= λ found. text_read around reader reading found.kind found.text
+file_read around reader reading = text_at around.file >>= λ found. text_read around reader reading found.kind
+    found.text
 
 -- A file behind these, where so many may stand within it.
 abbrev pub within : ℕ → List Path → Path → Around
@@ -75,7 +71,8 @@ within room chain file = record { file = file; chain = chain ++ file ∷ []; roo
 -- Files behind these, where so many may stand within each other.
 unfoldable pub reader_in : ℕ → List Path → Reader
 reader_in zero chain reading file = leaves reading
-reader_in (suc room) chain reading file = file_read (within room chain file) (reader_in room (chain ++ file ∷ [])) reading
+reader_in (suc room) chain reading file = file_read (within room chain file) (reader_in room (chain ++ file ∷ []))
+    reading
 
 -- What reads the files that stand within one.
 abbrev pub inner : Around → Reader
@@ -104,7 +101,8 @@ abbrev pub main_setting : Setting
 main_setting = record { kind = Config; says = true }
 
 unfoldable pub main_read : Path → Step Stopped Reading
-main_read main = file_read (within deepest [] main) (reader_in deepest ([] ++ main ∷ [])) (begun main_setting [] built_in)
+main_read main = file_read (within deepest [] main) (reader_in deepest ([] ++ main ∷ []))
+    (begun main_setting [] built_in)
 
 abbrev pub flat_at : Path → List Read → Option Refusal → Reading → Flat
 flat_at main reads stop reading = record {

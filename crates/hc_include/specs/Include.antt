@@ -1,14 +1,16 @@
 -- The files that the path of an Include names.
 -- Apache manual, core, Include: wildcards may stand in any part of the path, and the files that they
 -- match are read in order. That order, and what is a wildcard, is our own choice.
-use Rattle.std.specs.Prelude.{ℕ, ◌==◌, List, [], ◌∷◌, ◌++◌, length, map, filter, Bool, true, false, not, ◌||◌, Option, Some, None, Result, Ok, Err, if◌then◌else◌, is_some}
+use Rattle.std.specs.Prelude.{ℕ, ◌==◌, List, [], ◌∷◌, ◌++◌, length, map, filter, Bool, true, false, not}
+use Rattle.std.specs.Prelude.{◌||◌, Option, Some, None, Result, Ok, Err, if◌then◌else◌, is_some}
 use Rattle.std.specs.List.{list_any, slice_split}
 use Rattle.std.specs.Cmp.Lexicographic.{slice_cmp}
 use Rattle.std.specs.Ordering.{nat_cmp}
 use Rattle.hc_base.specs.Bytes.{slash}
 use Rattle.hc_base.specs.Paths.{begins_with_slash, is_slash}
 use Rattle.hc_base.specs.Rules.{rule}
-use Rattle.hc_base.specs.declared.codes.TheConstants.{CONTENT_MISSING, INCLUDE_CYCLE, INCLUDE_MISSING, INCLUDE_TOO_DEEP, NO_SERVER_ROOT}
+use Rattle.hc_base.specs.declared.codes.TheConstants.{CONTENT_MISSING, INCLUDE_CYCLE, INCLUDE_MISSING, INCLUDE_TOO_DEEP}
+use Rattle.hc_base.specs.declared.codes.TheConstants.{NO_SERVER_ROOT}
 use Rattle.hc_base.specs.declared.fault.AtByte.{AtByte}
 use Rattle.hc_model.specs.World.{root}
 use Rattle.hc_model.specs.declared.walk.Kind.{Kind}
@@ -35,13 +37,6 @@ globbed (Err broken) = Err broken
 abbrev pub component_of : List ℕ → Result Component AtByte
 component_of text = if has_wildcard text then globbed (glob_pattern text true) else Ok (Name text)
 
-abbrev pub component_added : List Component → Result Component AtByte → Step AtByte (List Component)
-component_added components (Ok component) = leaves (components ++ component ∷ [])
-component_added components (Err broken) = ends broken
-
-unfoldable pub with_component : List Component → List ℕ → Step AtByte (List Component)
-with_component components text = component_added components (component_of text)
-
 -- Empty components are passed over.
 abbrev pub is_some_byte : List ℕ → Bool
 is_some_byte part = not (length part == 0)
@@ -49,8 +44,18 @@ is_some_byte part = not (length part == 0)
 abbrev pub parts_of : Path → List (List ℕ)
 parts_of path = filter is_some_byte (slice_split is_slash path)
 
-unfoldable pub components_of : Path → Step AtByte (List Component)
-components_of path = in_order with_component [] (parts_of path)
+abbrev pub components_next : Result Component AtByte → (Component → Result (List Component) AtByte)
+    → Result (List Component) AtByte
+components_next (Ok component) rest = rest component
+components_next (Err broken) rest = Err broken
+
+abbrev pub components_from : List Component → List (List ℕ) → Result (List Component) AtByte
+components_from components [] = Ok components
+components_from components (part ∷ parts) =
+    components_next (component_of part) (λ component. components_from (components ++ component ∷ []) parts)
+
+abbrev pub components_of : Path → Result (List Component) AtByte
+components_of path = components_from [] (parts_of path)
 
 -- ---- what a path names
 
@@ -66,7 +71,8 @@ paths_among pattern directory None = []
 paths_among pattern directory (Some names) = map (in_directory directory) (filter (matches pattern) names)
 
 unfoldable pub with_names : Pattern → List Path → Path → Step AtByte (List Path)
-with_names pattern paths directory = names_at directory >>= λ names. leaves (paths ++ paths_among pattern directory names)
+with_names pattern paths directory =
+    names_at directory >>= λ names. leaves (paths ++ paths_among pattern directory names)
 
 -- A name is put to each path; a glob gives each path those names of that directory that it matches.
 unfoldable pub followed : List Path → Component → Step AtByte (List Path)
@@ -84,7 +90,8 @@ is_there File = true
 -- What is there of the paths, and whether some of it has no text.
 abbrev pub with_found : Candidates → Path → Found → Candidates
 with_found among path found =
-    if is_there found.kind then record { files = among.files ++ path ∷ []; lacks_text = among.lacks_text || not (is_some found.text) }
+    if is_there found.kind
+    then record { files = among.files ++ path ∷ []; lacks_text = among.lacks_text || not (is_some found.text) }
     else among
 
 unfoldable pub with_text : Candidates → Path → Step AtByte Candidates
@@ -100,12 +107,16 @@ in_byte_order paths = ordered (slice_cmp nat_cmp) paths
 -- ---- an Include
 
 -- A relative path is taken from the server root.
-unfoldable pub below_root : Option Path → List ℕ → Step AtByte Path
-below_root (Some directory) path = leaves (directory ++ slash ∷ path)
-below_root None path = ends (rule NO_SERVER_ROOT)
+abbrev pub below_root : Option Path → List ℕ → Result Path AtByte
+below_root (Some directory) path = Ok (directory ++ slash ∷ path)
+below_root None path = Err (rule NO_SERVER_ROOT)
 
-unfoldable pub path_of : Option Path → List ℕ → Step AtByte Path
-path_of server_root path = if begins_with_slash path then leaves path else below_root server_root path
+abbrev pub path_of : Option Path → List ℕ → Result Path AtByte
+path_of server_root path = if begins_with_slash path then Ok path else below_root server_root path
+
+abbrev pub components_at : Result Path AtByte → Result (List Component) AtByte
+components_at (Ok path) = components_of path
+components_at (Err broken) = Err broken
 
 -- Why files can't be read where the reading stands.
 abbrev pub is_around : Around → Path → Bool
@@ -119,18 +130,25 @@ include_refusal around optional among =
     else if among.lacks_text then Some CONTENT_MISSING
     else None
 
-abbrev pub unless_refused : Option ℕ → List Path → Step AtByte (List Path)
-unless_refused None files = leaves files
-unless_refused (Some code) files = ends (rule code)
+abbrev pub unless_refused : Option ℕ → List Path → Result (List Path) AtByte
+unless_refused None files = Ok files
+unless_refused (Some code) files = Err (rule code)
 
-unfoldable pub files_among : Around → Bool → Candidates → Step AtByte (List Path)
+abbrev pub files_among : Around → Bool → Candidates → Result (List Path) AtByte
 files_among around optional among = unless_refused (include_refusal around optional among) (in_byte_order among.files)
 
--- The files that an Include reads.
-unfoldable pub include_files : Around → Bool → Option Path → List ℕ → Step AtByte (List Path)
-include_files around optional server_root path = do
-  full ← path_of server_root path
-  components ← components_of full
+-- What was found, or its refusal.
+abbrev pub given : {A : Type 0} → Result A AtByte → Step AtByte A
+given (Ok value) = leaves value
+given (Err broken) = ends broken
+
+unfoldable pub files_named : Around → Bool → Result (List Component) AtByte → Step AtByte (List Path)
+files_named around optional (Err broken) = ends broken
+files_named around optional (Ok components) = do
   paths ← paths_of components
   among ← texts_of paths
-  files_among around optional among
+  given (files_among around optional among)
+
+-- The files that an Include reads.
+abbrev pub include_files : Around → Bool → Option Path → List ℕ → Step AtByte (List Path)
+include_files around optional server_root path = files_named around optional (components_at (path_of server_root path))

@@ -1,18 +1,22 @@
 -- What a line of a configuration changes, by what was read before it.
 -- Apache manual, "Configuration Files"; core, Include, IncludeOptional, IfDefine, IfModule. The
 -- refusals are our own choice.
-use Rattle.std.specs.Prelude.{ℕ, ◌+◌, ◌-◌, ◌==◌, List, [], ◌∷◌, ◌++◌, length, drop, take, Bool, Option, Some, None, Result, Ok, Err, if◌then◌else◌, nat_lt}
-use Rattle.hc_base.specs.Rules.{rule}
+use Rattle.std.specs.Prelude.{ℕ, ◌+◌, ◌-◌, ◌==◌, List, [], ◌∷◌, ◌++◌, length, drop, take, Bool}
+use Rattle.std.specs.Prelude.{Option, Some, None, Result, Ok, Err, if◌then◌else◌, nat_lt}
+use Rattle.hc_base.specs.Rules.{refusal_at, rule}
 use Rattle.hc_base.specs.declared.codes.TheConstants.{WRONG_ARGUMENTS}
 use Rattle.hc_base.specs.declared.fault.AtByte.{AtByte}
+use Rattle.hc_base.specs.declared.fault.AtLine.{AtLine}
+use Rattle.hc_lines.specs.Logical.{lines_of}
 use Rattle.hc_lines.specs.Words.{skip_blanks}
+use Rattle.hc_lines.specs.declared.line.FileKind.{FileKind}
 use Rattle.hc_lines.specs.declared.line.Line.{Line}
 use Rattle.hc_model.specs.declared.entry.Entry.{Entry}
 use Rattle.hc_model.specs.declared.entry.EntryForm.{EntryForm}
 use Rattle.hc_model.specs.declared.entry.EntryForm.TheVariants.{Directive, Opening}
 use Rattle.hc_model.specs.declared.spot.Spot.{Spot}
-use Rattle.hc_nodes.specs.Tree.{behind_name, inside_brackets, is_close, is_complete, name_of}
-use Rattle.hc_steps.specs.Step.{Path, Step, leaves, ends, ◌>>=◌}
+use Rattle.hc_nodes.specs.Tree.{behind_name, inside_brackets, is_close, is_complete, name_of, refusal_of}
+use Rattle.hc_steps.specs.Step.{Path, Step, leaves}
 use Rattle.hc_flat.specs.EntriesView.{close_of, innermost, spot_at}
 use Rattle.hc_include.specs.Include.{include_files}
 use Rattle.hc_says.specs.Says.{body_kept, said_of, value_of, with_define, with_module, with_root}
@@ -22,6 +26,7 @@ use Rattle.hc_include.specs.declared.change.Change.{Change}
 use Rattle.hc_include.specs.declared.change.Change.TheVariants.{Drops, Closes, Opens, Keeps}
 use Rattle.hc_include.specs.declared.reading.Reading.{Reading}
 use Rattle.hc_include.specs.declared.reading.Setting.{Setting}
+use Rattle.hc_include.specs.declared.reading.Stopped.{Stopped}
 use Rattle.hc_says.specs.declared.says.Says.{Says}
 use Rattle.hc_says.specs.declared.says.Says.TheVariants.{Nothing, Define, Loads, Roots, Includes}
 
@@ -37,11 +42,6 @@ is_too_long bytes = nat_lt longest_replaced bytes
 abbrev pub replaced_in : Reading → List ℕ → List ℕ
 replaced_in reading text = replaced (value_of reading.defines) text
 
--- What was found, or its refusal.
-abbrev pub given : {A : Type 0} → Result A AtByte → Step AtByte A
-given (Ok value) = leaves value
-given (Err broken) = ends broken
-
 -- ---- directives
 
 -- The name of a replaced line is its first bytes up to a blank, behind the blanks before it.
@@ -55,32 +55,24 @@ rest_in text = behind_name (skip_blanks text)
 abbrev pub said_by : Setting → List ℕ → Result Says AtByte
 said_by setting text = if setting.says then said_of (name_in text) (rest_in text) else Ok Nothing
 
-unfoldable pub said_in : Setting → List ℕ → Step AtByte Says
-said_in setting text = if is_too_long (length text) then ends (rule WRONG_ARGUMENTS) else given (said_by setting text)
+abbrev pub keeps : List ℕ → Result Says AtByte → Result Change AtByte
+keeps text (Ok says) = Ok (Keeps text says)
+keeps text (Err broken) = Err broken
 
-unfoldable pub files_said : Around → Reading → Says → Step AtByte (List Path)
-files_said around reading (Includes optional path) = include_files around optional reading.root path
-files_said around reading Nothing = leaves []
-files_said around reading (Define name value) = leaves []
-files_said around reading (Loads name) = leaves []
-files_said around reading (Roots path) = leaves []
-
-unfoldable pub directive_read : Around → Reading → List ℕ → Step AtByte Change
-directive_read around reading text = do
-  says ← said_in reading.setting text
-  files ← files_said around reading says
-  leaves (Keeps text says files)
+abbrev pub directive_read : Setting → List ℕ → Result Change AtByte
+directive_read setting text =
+    if is_too_long (length text) then Err (rule WRONG_ARGUMENTS) else keeps text (said_by setting text)
 
 -- ---- sections
 
-abbrev pub opens : List ℕ → Result Bool AtByte → Step AtByte Change
-opens inside (Ok is_kept) = leaves (Opens inside is_kept)
-opens inside (Err broken) = ends broken
+abbrev pub opens : List ℕ → Result Bool AtByte → Result Change AtByte
+opens inside (Ok is_kept) = Ok (Opens inside is_kept)
+opens inside (Err broken) = Err broken
 
 -- The brackets are two bytes.
-unfoldable pub opening_read : Reading → List ℕ → Step AtByte Change
+abbrev pub opening_read : Reading → List ℕ → Result Change AtByte
 opening_read reading inside =
-    if is_too_long (length inside + 2) then ends (rule WRONG_ARGUMENTS)
+    if is_too_long (length inside + 2) then Err (rule WRONG_ARGUMENTS)
     else opens inside (body_kept reading.defines reading.modules (name_of inside) (behind_name inside))
 
 -- Behind a line of a body that is dropped. The close of its own section is kept.
@@ -93,20 +85,20 @@ dropping dropped line =
 -- ---- lines
 
 -- Of a section what stands in its brackets is replaced: neither of the two is a byte of `${` or `}`.
-unfoldable pub kept_line : Around → Reading → Line → Step AtByte Change
-kept_line around reading line =
-    if is_close line then leaves Closes
+abbrev pub kept_line : Reading → Line → Result Change AtByte
+kept_line reading line =
+    if is_close line then Ok Closes
     else if is_complete line then opening_read reading (replaced_in reading (inside_brackets line))
-    else directive_read around reading (replaced_in reading line.text)
+    else directive_read reading.setting (replaced_in reading line.text)
 
-unfoldable pub change_by : Around → Reading → Line → Step AtByte Change
-change_by around reading line =
-    if reading.dropped == 0 then kept_line around reading line else leaves (dropping reading.dropped line)
+unfoldable pub change_by : Reading → Line → Result Change AtByte
+change_by reading line =
+    if reading.dropped == 0 then kept_line reading line else Ok (dropping reading.dropped line)
 
 -- ---- what was read behind a line
 
-abbrev pub spot_of : Around → Line → Spot
-spot_of around line = spot_at around.file line.number line.span
+abbrev pub spot_of : Path → Line → Spot
+spot_of file line = spot_at file line.number line.span
 
 abbrev pub entry_at : Spot → EntryForm → List ℕ → List ℕ → List ℕ → Entry
 entry_at spot form name rest within = record { spot = spot; form = form; name = name; rest = rest; within = within }
@@ -139,8 +131,37 @@ abbrev pub changed : Spot → Reading → Change → Reading
 changed spot reading (Drops dropped) = record reading { dropped = dropped }
 changed spot reading Closes = closed_at spot (innermost reading.openings) reading
 changed spot reading (Opens inside is_kept) = opened_at spot inside is_kept reading
-changed spot reading (Keeps text says files) = kept_at spot text says reading
+changed spot reading (Keeps text says) = kept_at spot text says reading
 
-abbrev pub files_of : Change → List Path
-files_of (Keeps text says files) = files
-files_of change = []
+-- The files that come behind a line.
+abbrev pub files_said : Around → Option Path → Says → Step AtByte (List Path)
+files_said around root (Includes optional path) = include_files around optional root path
+files_said around root Nothing = leaves []
+files_said around root (Define name value) = leaves []
+files_said around root (Loads name) = leaves []
+files_said around root (Roots path) = leaves []
+
+unfoldable pub files_behind : Around → Option Path → Change → Step AtByte (List Path)
+files_behind around root (Keeps text says) = files_said around root says
+files_behind around root (Drops dropped) = leaves []
+files_behind around root Closes = leaves []
+files_behind around root (Opens inside is_kept) = leaves []
+
+-- ---- the lines of a text
+
+abbrev pub unless_broken : List Line → Option AtLine → Result (List Line) AtLine
+unless_broken lines None = Ok lines
+unless_broken lines (Some broken) = Err broken
+
+abbrev pub if_lines : Result (List Line) AtLine → Result (List Line) AtLine
+if_lines (Err broken) = Err broken
+if_lines (Ok lines) = unless_broken lines (refusal_of lines)
+
+-- The rules of lines come first, then those of sections.
+unfoldable pub ruled_lines : FileKind → List ℕ → Result (List Line) AtLine
+ruled_lines kind text = if_lines (lines_of kind text)
+
+-- The first refusal ends the reading, with what was read before it.
+abbrev pub stopped_at : Path → ℕ → Reading → AtByte → Stopped
+stopped_at file line reading broken =
+    record { reading = reading; refusal = refusal_at (record { file = file; line = line }) broken }

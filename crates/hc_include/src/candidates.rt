@@ -1,12 +1,13 @@
 ghost use Rattle.std.specs.Prelude.{◌≡◌, ◌∷◌, ◌++◌, [], IfOk, filter, map};
+ghost use Rattle.hc_base.specs.Gives.{Gives};
 ghost use Rattle.hc_steps.specs.Ran.{Ran};
 ghost use Rattle.hc_steps.specs.Run.{run};
 ghost use Rattle.hc_steps.specs.Shown.{shown_by};
 ghost use Rattle.hc_steps.specs.Step.{Found, in_order};
 ghost use Rattle.hc_model.specs.World.{root};
-ghost use Rattle.hc_include.specs.Include.{components_of, followed, in_directory, is_some_byte, is_there};
-ghost use Rattle.hc_include.specs.Include.{matches, parts_of, paths_among, paths_of, texts_of};
-ghost use Rattle.hc_include.specs.Include.{with_component, with_found, with_names, with_text};
+ghost use Rattle.hc_include.specs.Include.{components_from, components_of, followed, in_directory, is_some_byte};
+ghost use Rattle.hc_include.specs.Include.{is_there, matches, parts_of, paths_among, paths_of, texts_of};
+ghost use Rattle.hc_include.specs.Include.{with_found, with_names, with_text};
 
 use crate::component::{Component, component_of, matches};
 use hc_base::{AtByte, Fault, List, NoMemory, Text};
@@ -24,16 +25,11 @@ pub struct Candidates {
 }
 
 /// The components of a path.
-#[tactic(auto, unfolding(crate::specs::Include::components_of), using(hc_steps::proofs::Going::ran_no_memory))]
-pub(crate) fn components_of(
-    world: &World,
-    log: &mut Log,
-    path: &Text,
-) -> Result<List<Component>, Fault<AtByte>>
-    ensures { Ran result log.old log.new (run (components_of path.now) (shown_by world.now.files)) }
+pub(crate) fn components_of(alloc: Global, path: &[u8]) -> Result<List<Component>, Fault<AtByte>>
+    ensures { Gives result (components_of path.now) }
 {
-    let parts = parts_of(log.allocator(), path.as_bytes())?;
-    components_among(world, log, parts.as_slice())
+    let parts = parts_of(alloc, path)?;
+    components_among(alloc, parts.as_slice())
 }
 
 // The parts of a path that are not empty.
@@ -56,37 +52,17 @@ fn with_part(alloc: Global, mut parts: List<Text>, part: &[u8]) -> Result<List<T
     Ok(parts)
 }
 
-#[tactic(auto, using(hc_steps::proofs::Going::items))]
-fn components_among(
-    world: &World,
-    log: &mut Log,
-    parts: &[Text],
-) -> Result<List<Component>, Fault<AtByte>>
-    ensures { Ran result log.old log.new (run (in_order with_component [] parts.now) (shown_by world.now.files)) }
+fn components_among(alloc: Global, parts: &[Text]) -> Result<List<Component>, Fault<AtByte>>
+    ensures { Gives result (components_from [] parts.now) }
 {
-    let mut components = List::new(log.allocator());
+    let mut components = List::new(alloc);
     for part in parts {
-        components = with_component(world, log, components, part)?;
+        match component_of(alloc, part.as_bytes()) {
+            Ok(component) => components.push(component)?,
+            Err(fault) => return Err(fault),
+        }
     }
     Ok(components)
-}
-
-#[tactic(auto, unfolding(crate::specs::Include::with_component), using(hc_steps::proofs::Going::telling))]
-fn with_component(
-    world: &World,
-    log: &mut Log,
-    mut components: List<Component>,
-    text: &Text,
-) -> Result<List<Component>, Fault<AtByte>>
-    ensures { Ran result log.old log.new (run (with_component components text.now) (shown_by world.now.files)) }
-{
-    match component_of(log.allocator(), text.as_bytes()) {
-        Ok(component) => {
-            components.push(component)?;
-            Ok(components)
-        }
-        Err(fault) => Err(fault),
-    }
 }
 
 /// The paths that components name.

@@ -3,8 +3,8 @@ ghost use Rattle.hc_base.specs.Gives.{Gives};
 ghost use Rattle.hc_steps.specs.Ran.{Ran};
 ghost use Rattle.hc_steps.specs.Run.{run};
 ghost use Rattle.hc_steps.specs.Shown.{shown_by};
-ghost use Rattle.hc_include.specs.Lines.{change_by, directive_read, dropping, files_said};
-ghost use Rattle.hc_include.specs.Lines.{is_too_long, kept_line, opening_read, said_by, said_in};
+ghost use Rattle.hc_include.specs.Lines.{change_by, directive_read, dropping, files_behind, files_said};
+ghost use Rattle.hc_include.specs.Lines.{is_too_long, kept_line, opening_read, said_by};
 
 use crate::around::Around;
 use crate::include::include_files;
@@ -28,31 +28,22 @@ pub enum Change {
     Drops(u32),
     Closes,
     /// A section with this between its brackets, whose body is kept or not.
-    Opens {
-        inside: Utf8,
-        is_kept: bool,
-    },
-    /// A directive of this text, with what it says and the files that come behind it.
-    Keeps {
-        text: Utf8,
-        says: Says,
-        files: List<Text>,
-    },
+    Opens { inside: Utf8, is_kept: bool },
+    /// A directive of this text, with what it says.
+    Keeps { text: Utf8, says: Says },
 }
 
 /// What a line changes, by what was read before it.
-#[tactic(auto, unfolding(crate::specs::Lines::change_by), using(hc_steps::proofs::Going::telling))]
+#[tactic(auto, unfolding(crate::specs::Lines::change_by))]
 pub(crate) fn change_by(
-    world: &World,
-    log: &mut Log,
-    around: &Around,
+    alloc: Global,
     reading: &Reading,
     line: &Line,
 ) -> Result<Change, Fault<AtByte>>
-    ensures { Ran result log.old log.new (run (change_by around.now reading.now line.now) (shown_by world.now.files)) }
+    ensures { Gives result (change_by reading.now line.now) }
 {
     if reading.dropped == 0 {
-        return kept_line(world, log, around, reading, line);
+        return kept_line(alloc, reading, line);
     }
     Ok(dropping(reading.dropped, line)?)
 }
@@ -76,48 +67,29 @@ fn dropping(dropped: u32, line: &Line) -> Result<Change, NoMemory>
     }
 }
 
-#[tactic(auto, unfolding(crate::specs::Lines::kept_line), using(hc_steps::proofs::Going::telling))]
-fn kept_line(
-    world: &World,
-    log: &mut Log,
-    around: &Around,
-    reading: &Reading,
-    line: &Line,
-) -> Result<Change, Fault<AtByte>>
-    ensures { Ran result log.old log.new (run (kept_line around.now reading.now line.now) (shown_by world.now.files)) }
+fn kept_line(alloc: Global, reading: &Reading, line: &Line) -> Result<Change, Fault<AtByte>>
+    ensures { Gives result (kept_line reading.now line.now) }
 {
     if is_close(line) {
         return Ok(Change::Closes);
     }
     if is_complete(line) {
-        let inside = reading.replaced(log.allocator(), inside_brackets(line))?;
-        return opening_read(world, log, reading, inside);
+        let inside = reading.replaced(alloc, inside_brackets(line))?;
+        return opening_read(alloc, reading, inside);
     }
-    let text = reading.replaced(log.allocator(), line.text.as_str())?;
-    directive_read(world, log, around, reading, text)
+    let text = reading.replaced(alloc, line.text.as_str())?;
+    directive_read(alloc, reading.setting, text)
 }
 
-#[tactic(auto, unfolding(crate::specs::Lines::opening_read), using(hc_steps::proofs::Going::telling))]
-fn opening_read(
-    world: &World,
-    log: &mut Log,
-    reading: &Reading,
-    inside: Utf8,
-) -> Result<Change, Fault<AtByte>>
-    ensures { Ran result log.old log.new (run (opening_read reading.now inside) (shown_by world.now.files)) }
+fn opening_read(alloc: Global, reading: &Reading, inside: Utf8) -> Result<Change, Fault<AtByte>>
+    ensures { Gives result (opening_read reading.now inside) }
 {
     // The brackets are two bytes.
     if is_too_long(inside.as_str().len() + 2) {
         return Err(Fault::Refused(AtByte::rule(WRONG_ARGUMENTS)));
     }
     let (name, rest) = split_name(inside.as_str());
-    match body_kept(
-        log.allocator(),
-        &reading.defines,
-        &reading.modules,
-        name,
-        rest,
-    ) {
+    match body_kept(alloc, &reading.defines, &reading.modules, name, rest) {
         Ok(is_kept) => Ok(Change::Opens { inside, is_kept }),
         Err(fault) => Err(fault),
     }
@@ -129,36 +101,14 @@ fn is_too_long(len: usize) -> bool
     len > LONGEST_REPLACED
 }
 
-#[tactic(auto, unfolding(crate::specs::Lines::directive_read), using(hc_steps::proofs::Going::going))]
-fn directive_read(
-    world: &World,
-    log: &mut Log,
-    around: &Around,
-    reading: &Reading,
-    text: Utf8,
-) -> Result<Change, Fault<AtByte>>
-    ensures { Ran result log.old log.new
-        (run (directive_read around.now reading.now text) (shown_by world.now.files)) }
-{
-    let says = said_in(world, log, reading.setting, &text)?;
-    let files = files_said(world, log, around, reading, &says)?;
-    Ok(Change::Keeps { text, says, files })
-}
-
-#[tactic(auto, unfolding(crate::specs::Lines::said_in), using(hc_steps::proofs::Going::telling))]
-fn said_in(
-    world: &World,
-    log: &mut Log,
-    setting: Setting,
-    text: &Utf8,
-) -> Result<Says, Fault<AtByte>>
-    ensures { Ran result log.old log.new (run (said_in setting text.now) (shown_by world.now.files)) }
+fn directive_read(alloc: Global, setting: Setting, text: Utf8) -> Result<Change, Fault<AtByte>>
+    ensures { Gives result (directive_read setting text) }
 {
     if is_too_long(text.as_str().len()) {
         return Err(Fault::Refused(AtByte::rule(WRONG_ARGUMENTS)));
     }
-    match said_by(log.allocator(), setting, text.as_str()) {
-        Ok(says) => Ok(says),
+    match said_by(alloc, setting, text.as_str()) {
+        Ok(says) => Ok(Change::Keeps { text, says }),
         Err(fault) => Err(fault),
     }
 }
@@ -173,20 +123,38 @@ fn said_by(alloc: Global, setting: Setting, text: &str) -> Result<Says, Fault<At
     said_of(alloc, name, rest)
 }
 
-#[tactic(auto, unfolding(crate::specs::Lines::files_said), using(hc_steps::proofs::Going::ran_leaves))]
+/// The files that come behind a line.
+#[tactic(auto, unfolding(crate::specs::Lines::files_behind), using(hc_steps::proofs::Going::ran_leaves))]
+pub(crate) fn files_behind(
+    world: &World,
+    log: &mut Log,
+    around: &Around,
+    root: &Option<Utf8>,
+    change: &Change,
+) -> Result<List<Text>, Fault<AtByte>>
+    ensures { Ran result log.old log.new
+        (run (files_behind around.now root.now change.now) (shown_by world.now.files)) }
+{
+    match change {
+        Change::Keeps { says, .. } => files_said(world, log, around, root, says),
+        _ => Ok(List::new(log.allocator())),
+    }
+}
+
+#[tactic(auto, using(hc_steps::proofs::Going::ran_leaves))]
 fn files_said(
     world: &World,
     log: &mut Log,
     around: &Around,
-    reading: &Reading,
+    root: &Option<Utf8>,
     says: &Says,
 ) -> Result<List<Text>, Fault<AtByte>>
     ensures { Ran result log.old log.new
-        (run (files_said around.now reading.now says.now) (shown_by world.now.files)) }
+        (run (files_said around.now root.now says.now) (shown_by world.now.files)) }
 {
     match says {
         Says::Includes { optional, path } => {
-            include_files(world, log, around, *optional, &reading.root, path)
+            include_files(world, log, around, *optional, root, path)
         }
         _ => Ok(List::new(log.allocator())),
     }

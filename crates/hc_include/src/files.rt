@@ -1,23 +1,22 @@
-ghost use Rattle.std.specs.Prelude.{◌≡◌, ℕ, IfOk};
-ghost use Rattle.hc_lines.specs.Logical.{lines_of};
+ghost use Rattle.std.specs.Prelude.{◌≡◌, ℕ, IfOk, Ok};
 ghost use Rattle.hc_steps.specs.Ran.{Logged, Ran};
 ghost use Rattle.hc_steps.specs.Run.{run};
 ghost use Rattle.hc_steps.specs.Shown.{shown_by};
 ghost use Rattle.hc_steps.specs.Step.{Shown, ends, in_order};
-ghost use Rattle.hc_nodes.specs.Tree.{refusal_of};
 ghost use Rattle.hc_include.specs.Counting.{Counts};
-ghost use Rattle.hc_include.specs.Flat.{file_read, having_read, line_read, lines_read, lines_unless};
-ghost use Rattle.hc_include.specs.Flat.{missing, inner, stopped_at, text_read, within};
+ghost use Rattle.hc_include.specs.Flat.{behind_change, file_read, having_read, inner, line_read, lines_read};
+ghost use Rattle.hc_include.specs.Flat.{missing, text_read, within};
+ghost use Rattle.hc_include.specs.Lines.{ruled_lines, stopped_at};
 
 use crate::around::Around;
 use crate::candidates::is_there;
-use crate::change::change_by;
+use crate::change::{Change, change_by, files_behind};
 use crate::reading::{Reading, Stopped};
+use crate::ruled::ruled_lines;
 use hc_base::codes::{CONTENT_MISSING, INCLUDE_MISSING};
-use hc_base::{AtByte, Fault, List, NoMemory, Place, Refusal, Steps, Text};
-use hc_lines::{Line, logical_lines};
+use hc_base::{AtByte, Counter, Fault, List, NoMemory, Text};
+use hc_lines::Line;
 use hc_model::Kind;
-use hc_nodes::first_refusal;
 use hc_steps::Log;
 use hc_world::{FoundText, World, text_at};
 use std::alloc::Global;
@@ -29,7 +28,7 @@ use std::sync::ledger::Ledger;
 pub(crate) fn read_file<L: Ledger>(
     world: &World,
     log: &mut Log,
-    bytes: &mut Steps<L>,
+    bytes: &mut Counter<L>,
     around: &Around,
     reading: Reading,
 ) -> Result<Reading, Fault<Stopped>>
@@ -49,7 +48,7 @@ pub(crate) fn read_file<L: Ledger>(
 fn read_found<L: Ledger>(
     world: &World,
     log: &mut Log,
-    bytes: &mut Steps<L>,
+    bytes: &mut Counter<L>,
     around: &Around,
     reading: Reading,
     found: &FoundText,
@@ -60,34 +59,41 @@ fn read_found<L: Ledger>(
     ensures bytes { Counts result bytes.old bytes.new reading.bytes }
 {
     let Some(text) = found.text() else {
-        return stop(around, 0, reading, missing(found.kind()));
+        return stop(&around.file, 0, reading, missing(found.kind()));
     };
     read_text(world, log, bytes, around, reading, text)
 }
 
-/// Reads the text of a file where the reading stands. The rules of its lines come first, then those
-/// of its sections.
+// Reads the text of a file where the reading stands.
 #[tactic(auto, using(hc_steps::proofs::Going::ran_no_memory))]
 #[cycle(files)]
-pub(crate) fn read_text<L: Ledger>(
+fn read_text<L: Ledger>(
     world: &World,
     log: &mut Log,
-    bytes: &mut Steps<L>,
+    bytes: &mut Counter<L>,
     around: &Around,
     reading: Reading,
     text: &str,
 ) -> Result<Reading, Fault<Stopped>>
     ensures read { Ran result log.old log.new
         (run (lines_read around.now (inner around.now) (having_read text.now reading)
-        (lines_of reading.setting.kind text.now)) (shown_by world.now.files)) }
+        (ruled_lines reading.setting.kind text.now)) (shown_by world.now.files)) }
     ensures bytes { Counts result bytes.old bytes.new reading.bytes }
 {
     let kind = reading.setting.kind;
     let reading = having_read(reading, text)?;
-    match logical_lines(log.allocator(), text, kind, bytes) {
-        Ok(lines) => read_tree(world, log, bytes, around, reading, &lines),
+    match ruled_lines(log.allocator(), text, kind, bytes) {
+        Ok(lines) => {
+            let reading = reading.with_room(&lines);
+            read_lines(world, log, bytes, around, reading, &lines)
+        }
         Err(Fault::Refused(broken)) => {
-            stop(around, broken.line, reading, AtByte::rule(broken.code))
+            stop(
+                &around.file,
+                broken.line,
+                reading,
+                AtByte::rule(broken.code),
+            )
         }
         Err(Fault::NoMemory) => Err(Fault::NoMemory),
     }
@@ -116,63 +122,12 @@ fn having_read(mut reading: Reading, text: &str) -> Result<Reading, NoMemory>
 }
 
 #[tactic(auto, using(hc_steps::proofs::Going::telling))]
-fn stop(
-    around: &Around,
-    line: u32,
-    reading: Reading,
-    broken: AtByte,
-) -> Result<Reading, Fault<Stopped>>
+fn stop(file: &Text, line: u32, reading: Reading, broken: AtByte) -> Result<Reading, Fault<Stopped>>
     ensures read { (log : Logged) (shown : Shown)
-        → Ran result log log (run (ends (stopped_at around.now line reading broken)) shown) }
+        → Ran result log log (run (ends (stopped_at file.now line reading broken)) shown) }
     ensures bytes { (count : ℕ) → Counts result count count reading.bytes }
 {
-    Err(Fault::Refused(stopped_at(around, line, reading, broken)?))
-}
-
-fn stopped_at(
-    around: &Around,
-    line: u32,
-    reading: Reading,
-    broken: AtByte,
-) -> Result<Stopped, NoMemory>
-    ensures { IfOk result (λ stopped. stopped ≡ stopped_at around.now line reading broken) }
-{
-    let file = around.file.clone()?;
-    let refusal = Refusal::at(reading.entries.allocator(), Place { file, line }, broken);
-    Ok(Stopped { reading, refusal })
-}
-
-#[tactic(auto, using(hc_steps::proofs::Going::ran_no_memory))]
-#[cycle(files)]
-fn read_tree<L: Ledger>(
-    world: &World,
-    log: &mut Log,
-    bytes: &mut Steps<L>,
-    around: &Around,
-    reading: Reading,
-    lines: &[Line],
-) -> Result<Reading, Fault<Stopped>>
-    ensures read { Ran result log.old log.new
-        (run (lines_unless around.now (inner around.now) reading lines.now (refusal_of lines.now))
-        (shown_by world.now.files)) }
-    ensures bytes { Counts result bytes.old bytes.new reading.bytes }
-{
-    match first_refusal(log.allocator(), lines)? {
-        Some(broken) => stop(around, broken.line, reading, AtByte::rule(broken.code)),
-        None => {
-            let reading = reading.with_room(lines.len(), bytes_in(lines));
-            read_lines(world, log, bytes, around, reading, lines)
-        }
-    }
-}
-
-// The bytes of lines.
-fn bytes_in(lines: &[Line]) -> usize {
-    let mut bytes = 0usize;
-    for line in lines {
-        bytes = bytes.saturating_add(line.text.as_str().len());
-    }
-    bytes
+    Err(Fault::Refused(reading.stopped_at(file, line, broken)?))
 }
 
 #[tactic(auto, using(hc_steps::proofs::Going::items, hc_steps::proofs::Going::ran_no_memory))]
@@ -180,7 +135,7 @@ fn bytes_in(lines: &[Line]) -> usize {
 fn read_lines<L: Ledger>(
     world: &World,
     log: &mut Log,
-    bytes: &mut Steps<L>,
+    bytes: &mut Counter<L>,
     around: &Around,
     mut reading: Reading,
     lines: &[Line],
@@ -201,7 +156,7 @@ fn read_lines<L: Ledger>(
 fn read_line<L: Ledger>(
     world: &World,
     log: &mut Log,
-    bytes: &mut Steps<L>,
+    bytes: &mut Counter<L>,
     around: &Around,
     reading: Reading,
     line: &Line,
@@ -210,12 +165,35 @@ fn read_line<L: Ledger>(
         (run (line_read around.now (inner around.now) reading line.now) (shown_by world.now.files)) }
     ensures bytes { Counts result bytes.old bytes.new reading.bytes }
 {
-    let change = match change_by(world, log, around, &reading, line) {
-        Ok(change) => change,
-        Err(Fault::Refused(broken)) => return stop(around, line.number, reading, broken),
+    match change_by(log.allocator(), &reading, line) {
+        Ok(change) => read_behind(world, log, bytes, around, reading, line, change),
+        Err(Fault::Refused(broken)) => stop(&around.file, line.number, reading, broken),
+        Err(Fault::NoMemory) => Err(Fault::NoMemory),
+    }
+}
+
+// The same of a line that changes this.
+#[tactic(auto, using(hc_steps::proofs::Going::ran_no_memory))]
+#[cycle(files)]
+fn read_behind<L: Ledger>(
+    world: &World,
+    log: &mut Log,
+    bytes: &mut Counter<L>,
+    around: &Around,
+    reading: Reading,
+    line: &Line,
+    change: Change,
+) -> Result<Reading, Fault<Stopped>>
+    ensures read { Ran result log.old log.new
+        (run (behind_change around.now (inner around.now) reading line.now (Ok change)) (shown_by world.now.files)) }
+    ensures bytes { Counts result bytes.old bytes.new reading.bytes }
+{
+    let files = match files_behind(world, log, around, &reading.root, &change) {
+        Ok(files) => files,
+        Err(Fault::Refused(broken)) => return stop(&around.file, line.number, reading, broken),
         Err(Fault::NoMemory) => return Err(Fault::NoMemory),
     };
-    let (reading, files) = reading.changed(log.allocator(), around, line, change)?;
+    let reading = reading.changed(&around.file, line, change)?;
     read_files(world, log, bytes, around, reading, files.as_slice())
 }
 
@@ -225,7 +203,7 @@ fn read_line<L: Ledger>(
 fn read_files<L: Ledger>(
     world: &World,
     log: &mut Log,
-    bytes: &mut Steps<L>,
+    bytes: &mut Counter<L>,
     around: &Around,
     mut reading: Reading,
     files: &[Text],

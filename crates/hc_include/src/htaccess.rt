@@ -1,18 +1,18 @@
 ghost use Rattle.std.specs.Prelude.{◌≡◌, ◌+◌, ◌≤◌, length, IfOk};
-ghost use Rattle.hc_steps.specs.Ran.{Ran};
-ghost use Rattle.hc_include.specs.Counting.{Counts};
+ghost use Rattle.hc_base.specs.Gives.{Gives};
 ghost use Rattle.hc_include.specs.Flat.{begun};
-ghost use Rattle.hc_include.specs.Override.{override_flat, override_run, override_setting};
+ghost use Rattle.hc_include.specs.Lines.{change_by, ruled_lines};
+ghost use Rattle.hc_include.specs.Override.{line_alone, lines_alone, override_flat, override_setting, text_alone};
+ghost use Rattle.hc_lines.specs.declared.line.FileKind.TheVariants.{Htaccess};
 
-use crate::files::{read_text, within};
+use crate::change::change_by;
 use crate::reading::{Reading, Setting, Stopped};
-use hc_base::{Fault, List, NoMemory, Steps, Text};
+use crate::ruled::ruled_lines;
+use hc_base::{AtByte, Counter, Fault, List, NoMemory, Text};
 use hc_flat::{Entries, Flat, Places};
-use hc_lines::FileKind;
+use hc_lines::{FileKind, Line};
 use hc_model::Config;
 use hc_says::{Defines, Modules};
-use hc_steps::Log;
-use hc_world::World;
 use std::alloc::Global;
 use std::sync::ledger::Ledger;
 
@@ -23,12 +23,13 @@ use std::sync::ledger::Ledger;
 ///
 /// `bytes` rises by the bytes of the text. More than 2^32 entries, 4 GiB of text, or a configuration
 /// with a Define or a module that is no UTF-8 find no memory; one that was read has none such.
+#[tactic(auto, unfolding(crate::specs::Override::override_flat))]
 pub fn flatten_override<L: Ledger>(
     alloc: Global,
     text: &str,
     path: &[u8],
     config: &Config,
-    bytes: &mut Steps<L>,
+    bytes: &mut Counter<L>,
 ) -> Result<Flat, NoMemory>
     ensures flat { IfOk result (λ flat.
         flat ≡ override_flat path.now text.now config.now.defines config.now.modules) }
@@ -36,9 +37,9 @@ pub fn flatten_override<L: Ledger>(
     ensures rise { bytes.old ≤ bytes.new }
 {
     let file = Text::copy_of(alloc, path)?;
-    let mut log = Log::new(alloc, None);
     let reads = List::new(alloc);
-    match read_override(&mut log, bytes, &file, text, config) {
+    let reading = begun(alloc, config)?;
+    match text_alone(alloc, bytes, &file, reading, text) {
         Ok(reading) => Ok(reading.into_flat(file, reads, None)),
         Err(Fault::Refused(stopped)) => {
             let Stopped { reading, refusal } = stopped;
@@ -46,24 +47,6 @@ pub fn flatten_override<L: Ledger>(
         }
         Err(Fault::NoMemory) => Err(NoMemory),
     }
-}
-
-#[tactic(auto, using(hc_steps::proofs::Going::ran_no_memory))]
-fn read_override<L: Ledger>(
-    log: &mut Log,
-    bytes: &mut Steps<L>,
-    file: &Text,
-    text: &str,
-    config: &Config,
-) -> Result<Reading, Fault<Stopped>>
-    ensures read { Ran result log.old log.new
-        (override_run file.now text.now config.now.defines config.now.modules) }
-    ensures bytes { Counts result bytes.old bytes.new 0 }
-{
-    let around = within(log.allocator(), 0, &[], file)?;
-    let world = World::new(log.allocator())?;
-    let reading = begun(log.allocator(), config)?;
-    read_text(&world, log, bytes, &around, reading, text)
 }
 
 // Before the first line.
@@ -84,4 +67,60 @@ fn begun(alloc: Global, config: &Config) -> Result<Reading, NoMemory>
         dropped: 0,
         bytes: 0,
     })
+}
+
+// A text behind which no files come.
+fn text_alone<L: Ledger>(
+    alloc: Global,
+    bytes: &mut Counter<L>,
+    file: &Text,
+    reading: Reading,
+    text: &str,
+) -> Result<Reading, Fault<Stopped>>
+    ensures read { Gives result (text_alone file.now reading (ruled_lines Htaccess text.now)) }
+    ensures bytes { bytes.new ≡ bytes.old + length text.now }
+{
+    match ruled_lines(alloc, text, FileKind::Htaccess, bytes) {
+        Ok(lines) => lines_alone(alloc, file, reading.with_room(&lines), &lines),
+        Err(Fault::Refused(broken)) => Err(Fault::Refused(reading.stopped_at(
+            file,
+            broken.line,
+            AtByte::rule(broken.code),
+        )?)),
+        Err(Fault::NoMemory) => Err(Fault::NoMemory),
+    }
+}
+
+fn lines_alone(
+    alloc: Global,
+    file: &Text,
+    mut reading: Reading,
+    lines: &[Line],
+) -> Result<Reading, Fault<Stopped>>
+    ensures { Gives result (lines_alone file.now reading lines.now) }
+{
+    for line in lines {
+        match line_alone(alloc, file, reading, line) {
+            Ok(later) => reading = later,
+            Err(fault) => return Err(fault),
+        }
+    }
+    Ok(reading)
+}
+
+fn line_alone(
+    alloc: Global,
+    file: &Text,
+    reading: Reading,
+    line: &Line,
+) -> Result<Reading, Fault<Stopped>>
+    ensures { Gives result (line_alone file.now reading line.now (change_by reading line.now)) }
+{
+    match change_by(alloc, &reading, line) {
+        Ok(change) => Ok(reading.changed(file, line, change)?),
+        Err(Fault::Refused(broken)) => {
+            Err(Fault::Refused(reading.stopped_at(file, line.number, broken)?))
+        }
+        Err(Fault::NoMemory) => Err(Fault::NoMemory),
+    }
 }

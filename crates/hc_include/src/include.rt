@@ -1,14 +1,17 @@
-ghost use Rattle.std.specs.Prelude.{◌≡◌, ◌++◌, ◌∷◌, IfOk};
+ghost use Rattle.std.specs.Prelude.{◌≡◌, ◌++◌, ◌∷◌, IfOk, Ok};
 ghost use Rattle.std.specs.List.{list_any};
 ghost use Rattle.hc_base.specs.Bytes.{slash};
+ghost use Rattle.hc_base.specs.Gives.{Gives};
 ghost use Rattle.hc_steps.specs.Ran.{Ran};
 ghost use Rattle.hc_steps.specs.Run.{run};
 ghost use Rattle.hc_steps.specs.Shown.{shown_by};
-ghost use Rattle.hc_include.specs.Include.{below_root, files_among, include_files, include_refusal, is_around, path_of};
+ghost use Rattle.hc_include.specs.Include.{below_root, components_at, files_among, files_named, include_files};
+ghost use Rattle.hc_include.specs.Include.{include_refusal, is_around, path_of};
 ghost use Rattle.hc_says.specs.Says.{is_among};
 
 use crate::around::Around;
 use crate::candidates::{Candidates, components_of, paths_of, texts_of};
+use crate::component::Component;
 use crate::order::in_byte_order;
 use hc_base::codes::{
     CONTENT_MISSING, INCLUDE_CYCLE, INCLUDE_MISSING, INCLUDE_TOO_DEEP, NO_SERVER_ROOT,
@@ -21,7 +24,7 @@ use hc_world::World;
 use std::alloc::Global;
 
 /// The files that an Include reads (Apache manual, core, Include, IncludeOptional).
-#[tactic(auto, unfolding(crate::specs::Include::include_files), using(hc_steps::proofs::Going::going))]
+#[tactic(auto, unfolding(crate::specs::Include::files_named), using(hc_steps::proofs::Going::telling))]
 pub(crate) fn include_files(
     world: &World,
     log: &mut Log,
@@ -33,40 +36,57 @@ pub(crate) fn include_files(
     ensures { Ran result log.old log.new
         (run (include_files around.now optional root.now path.now) (shown_by world.now.files)) }
 {
-    let full = path_of(world, log, root, path)?;
-    let components = components_of(world, log, &full)?;
-    let paths = paths_of(world, log, &components)?;
-    let among = texts_of(world, log, &paths)?;
-    files_among(world, log, around, optional, among)
+    match components_at(log.allocator(), root, path) {
+        Ok(components) => files_named(world, log, around, optional, &components),
+        Err(fault) => Err(fault),
+    }
 }
 
-#[tactic(auto, unfolding(crate::specs::Include::path_of), using(hc_steps::proofs::Going::telling))]
-fn path_of(
+#[tactic(auto, unfolding(crate::specs::Include::files_named), using(hc_steps::proofs::Going::going))]
+fn files_named(
     world: &World,
     log: &mut Log,
+    around: &Around,
+    optional: bool,
+    components: &List<Component>,
+) -> Result<List<Text>, Fault<AtByte>>
+    ensures { Ran result log.old log.new
+        (run (files_named around.now optional (Ok components.now)) (shown_by world.now.files)) }
+{
+    let paths = paths_of(world, log, components)?;
+    let among = texts_of(world, log, &paths)?;
+    files_among(log.allocator(), around, optional, among)
+}
+
+// The components of its path.
+fn components_at(
+    alloc: Global,
     root: &Option<Utf8>,
     path: &Utf8,
-) -> Result<Text, Fault<AtByte>>
-    ensures { Ran result log.old log.new (run (path_of root.now path.now) (shown_by world.now.files)) }
+) -> Result<List<Component>, Fault<AtByte>>
+    ensures { Gives result (components_at (path_of root.now path.now)) }
+{
+    match path_of(alloc, root, path) {
+        Ok(full) => components_of(alloc, full.as_bytes()),
+        Err(fault) => Err(fault),
+    }
+}
+
+fn path_of(alloc: Global, root: &Option<Utf8>, path: &Utf8) -> Result<Text, Fault<AtByte>>
+    ensures { Gives result (path_of root.now path.now) }
 {
     let bytes = path.as_str().as_bytes();
     if begins_with_slash(bytes) {
-        return Ok(Text::copy_of(log.allocator(), bytes)?);
+        return Ok(Text::copy_of(alloc, bytes)?);
     }
-    below_root(world, log, root, path)
+    below_root(alloc, root, path)
 }
 
-#[tactic(auto, unfolding(crate::specs::Include::below_root), using(hc_steps::proofs::Going::telling))]
-fn below_root(
-    world: &World,
-    log: &mut Log,
-    root: &Option<Utf8>,
-    path: &Utf8,
-) -> Result<Text, Fault<AtByte>>
-    ensures { Ran result log.old log.new (run (below_root root.now path.now) (shown_by world.now.files)) }
+fn below_root(alloc: Global, root: &Option<Utf8>, path: &Utf8) -> Result<Text, Fault<AtByte>>
+    ensures { Gives result (below_root root.now path.now) }
 {
     match root {
-        Some(directory) => Ok(joined(log.allocator(), directory, path)?),
+        Some(directory) => Ok(joined(alloc, directory, path)?),
         None => Err(Fault::Refused(AtByte::rule(NO_SERVER_ROOT))),
     }
 }
@@ -80,19 +100,17 @@ fn joined(alloc: Global, directory: &Utf8, path: &Utf8) -> Result<Text, NoMemory
     Ok(Text::from(full))
 }
 
-#[tactic(auto, unfolding(crate::specs::Include::files_among), using(hc_steps::proofs::Going::telling))]
 fn files_among(
-    world: &World,
-    log: &mut Log,
+    alloc: Global,
     around: &Around,
     optional: bool,
     among: Candidates,
 ) -> Result<List<Text>, Fault<AtByte>>
-    ensures { Ran result log.old log.new (run (files_among around.now optional among) (shown_by world.now.files)) }
+    ensures { Gives result (files_among around.now optional among) }
 {
     match include_refusal(around, optional, &among) {
         Some(code) => Err(Fault::Refused(AtByte::rule(code))),
-        None => Ok(in_byte_order(log.allocator(), among.files.as_slice())?),
+        None => Ok(in_byte_order(alloc, among.files.as_slice())?),
     }
 }
 

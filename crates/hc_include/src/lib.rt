@@ -19,6 +19,7 @@ pub mod laws;
 mod main_file;
 mod order;
 mod reading;
+mod ruled;
 
 pub use htaccess::flatten_override;
 pub use main_file::flatten;

@@ -8,7 +8,7 @@ ghost use Rattle.hc_says.specs.Says.{built_in};
 
 use crate::files::{read_file, within};
 use crate::reading::{Reading, Setting, Stopped};
-use hc_base::{Fault, NoMemory, Refusal, Steps, Text};
+use hc_base::{Counter, Fault, NoMemory, Refusal, Text};
 use hc_flat::{Entries, Flat, Places};
 use hc_lines::FileKind;
 use hc_says::{Defines, built_in};
@@ -30,7 +30,7 @@ pub fn flatten<L: Ledger>(
     alloc: Global,
     world: &World,
     main: &[u8],
-    bytes: &mut Steps<L>,
+    bytes: &mut Counter<L>,
 ) -> Result<Flat, NoMemory>
     ensures flat { IfOk result (λ flat. flat ≡ flat_of world.now.files main.now) }
     ensures bytes { IfOk result (λ _. bytes.new ≡ bytes.old + bytes_of world.now.files main.now) }
@@ -58,7 +58,7 @@ fn flat_at(main: Text, log: Log, stop: Option<Refusal>, reading: Reading) -> Res
 fn read_main<L: Ledger>(
     world: &World,
     log: &mut Log,
-    bytes: &mut Steps<L>,
+    bytes: &mut Counter<L>,
     main: &Text,
 ) -> Result<Reading, Fault<Stopped>>
     ensures read { Ran result log.old log.new (run (main_read main.now) (shown_by world.now.files)) }

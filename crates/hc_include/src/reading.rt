@@ -1,12 +1,11 @@
 ghost use Rattle.std.specs.Prelude.{◌≡◌, IfOk};
 ghost use Rattle.hc_flat.specs.EntriesView.{innermost};
 ghost use Rattle.hc_include.specs.Flat.{flat_at};
-ghost use Rattle.hc_include.specs.Lines.{changed, closed_at, files_of, kept_at, opened_at};
-ghost use Rattle.hc_include.specs.Lines.{replaced_in, spot_of};
+ghost use Rattle.hc_include.specs.Lines.{changed, closed_at, kept_at, opened_at};
+ghost use Rattle.hc_include.specs.Lines.{replaced_in, spot_of, stopped_at};
 
-use crate::around::Around;
 use crate::change::Change;
-use hc_base::{List, NoMemory, Refusal, Text};
+use hc_base::{AtByte, List, NoMemory, Place, Refusal, Text};
 use hc_flat::{Entries, EntryView, Flat, Places};
 use hc_lines::{FileKind, Line, skip_blanks};
 use hc_model::{EntryForm, Read};
@@ -68,37 +67,48 @@ impl Reading {
         Ok(Utf8::from(replaced(alloc, text, &self.defines)?))
     }
 
-    /// The same, with room for so many entries more, and for so many bytes of their texts, where there is
-    /// memory for it.
-    pub(crate) fn with_room(mut self, entries: usize, bytes: usize) -> Reading
+    /// The same, with room for the entries of these lines and for their texts, where there is memory for it.
+    pub(crate) fn with_room(mut self, lines: &[Line]) -> Reading
         ensures { result ≡ self }
     {
-        self.entries = self.entries.with_room(entries, bytes);
+        self.entries = self.entries.with_room(lines.len(), bytes_in(lines));
         self
     }
 
-    /// What was read behind a line that changes this, and the files that come behind it.
+    /// What was read behind a line that changes this.
     pub(crate) fn changed(
         self,
-        alloc: Global,
-        around: &Around,
+        file: &Text,
         line: &Line,
         change: Change,
-    ) -> Result<(Reading, List<Text>), NoMemory>
-        ensures { IfOk result (λ both.
-            (both.0 ≡ changed (spot_of around.now line.now) self change) × (both.1 ≡ files_of change)) }
+    ) -> Result<Reading, NoMemory>
+        ensures { IfOk result (λ later. later ≡ changed (spot_of file.now line.now) self change) }
     {
         match change {
-            Change::Drops(dropped) => Ok((self.dropping(dropped), List::new(alloc))),
-            Change::Closes => Ok((self.closing(around, line)?, List::new(alloc))),
+            Change::Drops(dropped) => Ok(self.dropping(dropped)),
+            Change::Closes => self.closing(file, line),
             Change::Opens { inside, is_kept } => {
-                let opened = self.opening(around, line, inside.as_str(), is_kept)?;
-                Ok((opened, List::new(alloc)))
+                self.opening(file, line, inside.as_str(), is_kept)
             }
-            Change::Keeps { text, says, files } => {
-                Ok((self.keeping(around, line, text.as_str(), says)?, files))
-            }
+            Change::Keeps { text, says } => self.keeping(file, line, text.as_str(), says),
         }
+    }
+
+    /// It was stopped at a line of a file.
+    pub(crate) fn stopped_at(
+        self,
+        file: &Text,
+        line: u32,
+        broken: AtByte,
+    ) -> Result<Stopped, NoMemory>
+        ensures { IfOk result (λ stopped. stopped ≡ stopped_at file.now line self broken) }
+    {
+        let file = file.clone()?;
+        let refusal = Refusal::at(self.entries.allocator(), Place { file, line }, broken);
+        Ok(Stopped {
+            reading: self,
+            refusal,
+        })
     }
 
     fn dropping(mut self, dropped: u32) -> Reading
@@ -109,9 +119,9 @@ impl Reading {
     }
 
     // The innermost opening is closed.
-    fn closing(mut self, around: &Around, line: &Line) -> Result<Reading, NoMemory>
+    fn closing(mut self, file: &Text, line: &Line) -> Result<Reading, NoMemory>
         ensures { IfOk result (λ later.
-            later ≡ closed_at (spot_of around.now line.now) (innermost self.openings) self) }
+            later ≡ closed_at (spot_of file.now line.now) (innermost self.openings) self) }
     {
         let Some(place) = self.openings.last() else {
             return Ok(self);
@@ -119,7 +129,7 @@ impl Reading {
         let place = place as usize;
         self.entries = self
             .entries
-            .with_close(place, &around.file, line.number, line.span)?;
+            .with_close(place, file, line.number, line.span)?;
         self.openings = self.openings.without_last();
         self.dropped = 0;
         Ok(self)
@@ -127,17 +137,17 @@ impl Reading {
 
     fn opening(
         mut self,
-        around: &Around,
+        file: &Text,
         line: &Line,
         inside: &str,
         is_kept: bool,
     ) -> Result<Reading, NoMemory>
-        ensures { IfOk result (λ later. later ≡ opened_at (spot_of around.now line.now) inside.now is_kept self) }
+        ensures { IfOk result (λ later. later ≡ opened_at (spot_of file.now line.now) inside.now is_kept self) }
     {
         let place = self.entries.len();
         let (name, rest) = split_name(inside);
         self.entries = self.entries.with(EntryView {
-            file: &around.file,
+            file,
             line: line.number,
             span: line.span,
             form: EntryForm::Opening,
@@ -152,16 +162,16 @@ impl Reading {
 
     fn keeping(
         mut self,
-        around: &Around,
+        file: &Text,
         line: &Line,
         text: &str,
         says: Says,
     ) -> Result<Reading, NoMemory>
-        ensures { IfOk result (λ later. later ≡ kept_at (spot_of around.now line.now) text.now says self) }
+        ensures { IfOk result (λ later. later ≡ kept_at (spot_of file.now line.now) text.now says self) }
     {
         let (name, rest) = split_name(skip_blanks(text));
         self.entries = self.entries.with(EntryView {
-            file: &around.file,
+            file,
             line: line.number,
             span: line.span,
             form: EntryForm::Directive,
@@ -174,4 +184,13 @@ impl Reading {
         self.root = with_root(self.root, says);
         Ok(self)
     }
+}
+
+// The bytes of lines.
+fn bytes_in(lines: &[Line]) -> usize {
+    let mut bytes = 0usize;
+    for line in lines {
+        bytes = bytes.saturating_add(line.text.as_str().len());
+    }
+    bytes
 }

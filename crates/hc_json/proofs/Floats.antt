@@ -12,7 +12,8 @@ use Rattle.hc_model.specs.declared.read.Read.TheVariants.{KindOf}
 use Rattle.hc_json.specs.Reply.{outcome_data, trailed_data}
 use Rattle.hc_json.specs.Trail.{Trailed, event_data, read_data, sourced_data}
 
-items_without : {A : Type 0} (f : A → Data) → ((x : A) → has_float (f x) ≡ false) → (xs : List A) → items_have_float (items_of (map f xs)) ≡ false
+items_without : {A : Type 0} (f : A → Data) → ((x : A) → has_float (f x) ≡ false) → (xs : List A)
+    → items_have_float (items_of (map f xs)) ≡ false
 items_without f without [] = refl
 items_without f without (x ∷ xs) = rw (without x) (items_without f without xs)
 
@@ -30,4 +31,8 @@ event_without told source = refl
 
 pub trailed_without : (answer : Trailed) → has_float (trailed_data answer) ≡ false
 trailed_without answer =
-    rw (outcome_without answer.outcome, items_without read_data read_without answer.reads, items_without sourced_data (λ told. event_without told.event told.source) answer.trail) refl
+    rw (
+      outcome_without answer.outcome,
+      items_without read_data read_without answer.reads,
+      items_without sourced_data (λ told. event_without told.event told.source) answer.trail,
+    ) refl

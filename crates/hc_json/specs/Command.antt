@@ -1,5 +1,6 @@
 -- The commands of a script: what JSON a line is, and which command that is. Our own choice.
-use Rattle.std.specs.Prelude.{ℕ, nat_le, List, [], ◌∷◌, if◌then◌else◌, Option, Some, None, option_and_then, Result, Ok, Err, codes}
+use Rattle.std.specs.Prelude.{ℕ, nat_le, List, [], ◌∷◌, if◌then◌else◌, Option, Some, None}
+use Rattle.std.specs.Prelude.{option_and_then, Result, Ok, Err, codes}
 use Rattle.std.specs.Str.{bytes_eq, is_utf8}
 use Rattle.serde_json.specs.Data.{Data}
 use Rattle.serde_json.specs.Find.{as_number, as_u64}
@@ -98,7 +99,8 @@ no_fields = codes "do" ∷ []
 
 abbrev pub ask_fields : List (List ℕ)
 ask_fields =
-    codes "do" ∷ codes "target" ∷ codes "method" ∷ codes "scheme" ∷ codes "server" ∷ codes "port" ∷ codes "host"
+    codes "do" ∷ codes "target" ∷ codes "method" ∷ codes "scheme" ∷ codes "server" ∷ codes "port"
+    ∷ codes "host"
     ∷ codes "client" ∷ codes "headers" ∷ codes "trail" ∷ []
 
 -- ---- the commands

@@ -18,7 +18,8 @@ use Rattle.hc_json.specs.declared.fields.BadField.{BadField}
 use Rattle.hc_json.specs.declared.command.Command.{Command}
 use Rattle.hc_json.specs.declared.command.NoCommand.{NoCommand}
 use Rattle.hc_json.specs.declared.command.NoCommand.TheVariants as wrong
-use Rattle.hc_json.specs.declared.command.Command.TheVariants.{Put, ListPath, DropPath, Edit, Main, Check, Ask, Stats, End}
+use Rattle.hc_json.specs.declared.command.Command.TheVariants.{Put, ListPath, DropPath, Edit, Main, Check, Ask, Stats}
+use Rattle.hc_json.specs.declared.command.Command.TheVariants.{End}
 
 abbrev pub headers_view : Option (Bor (BTreeMap (String Global) Value)) → List Header
 headers_view None = []

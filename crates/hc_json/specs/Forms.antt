@@ -1,5 +1,7 @@
 -- The forms of an `ask`'s fields. Our own choice.
-use Rattle.std.specs.Prelude.{ℕ, ◌==◌, List, [], ◌∷◌, length, Bool, true, false, ◌&&◌, ◌||◌, not, nat_le, nat_lt, Option, Some, None, if◌then◌else◌, option_and_then, option_map, unwrap_or, codes}
+use Rattle.std.specs.Prelude.{ℕ, ◌==◌, List, [], ◌∷◌, length, Bool, true, false, ◌&&◌, ◌||◌, not}
+use Rattle.std.specs.Prelude.{nat_le, nat_lt, Option, Some, None, if◌then◌else◌, option_and_then, option_map}
+use Rattle.std.specs.Prelude.{unwrap_or, codes}
 use Rattle.std.specs.Char.{is_ascii_alphanumeric, is_ascii_uppercase}
 use Rattle.std.specs.List.{list_all}
 use Rattle.std.specs.BTreeSet.{contains, insert_key}
@@ -15,7 +17,8 @@ use Rattle.hc_base.specs.Paths.{begins_with_slash}
 use Rattle.hc_model.specs.declared.request.Header.{Header}
 use Rattle.hc_model.specs.declared.request.Scheme.{Scheme}
 use Rattle.hc_model.specs.declared.request.Scheme.TheVariants.{Http, Https}
-use Rattle.hc_json.specs.declared.forms.TheConstants.{HIGHEST_PORT, LONGEST_HOST, LONGEST_METHOD, LONGEST_NAME, LONGEST_TARGET, LONGEST_VALUE}
+use Rattle.hc_json.specs.declared.forms.TheConstants.{HIGHEST_PORT, LONGEST_HOST, LONGEST_METHOD, LONGEST_NAME}
+use Rattle.hc_json.specs.declared.forms.TheConstants.{LONGEST_TARGET, LONGEST_VALUE}
 
 -- ---- texts
 
@@ -91,7 +94,8 @@ is_value_of (Some value) = is_value value
 abbrev pub is_taken : List (List ℕ) → List ℕ → Bool
 is_taken names name = contains (slice_cmp nat_cmp) (record { keys = names }) name
 
--- Each member is a header, and no two names are equal without case: put one after another in lower case into the ordered
+-- Each member is a header, and no two names are equal without case: put one after another in lower case into the
+-- ordered
 -- set of those before, none is there already.
 abbrev pub are_headers : List (List ℕ) → Members → Bool
 are_headers names no_members = true

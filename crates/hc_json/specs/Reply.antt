@@ -6,11 +6,13 @@ use Rattle.hc_base.specs.Bytes.{lf}
 use Rattle.hc_base.specs.Codes.{name_of_code}
 use Rattle.hc_base.specs.declared.place.Refusal.{Refusal}
 use Rattle.hc_model.specs.declared.outcome.Outcome.{Outcome}
-use Rattle.hc_model.specs.declared.outcome.Outcome.TheVariants.{File, Directory, NotFound, Redirect, Status, Limit, HtRefused, Outside}
+use Rattle.hc_model.specs.declared.outcome.Outcome.TheVariants.{File, Directory, NotFound, Redirect, Status, Limit}
+use Rattle.hc_model.specs.declared.outcome.Outcome.TheVariants.{HtRefused, Outside}
 use Rattle.hc_model.specs.declared.outcome.LimitKind.{LimitKind}
 use Rattle.hc_model.specs.declared.outcome.LimitKind.TheVariants.{Rounds, Redirects}
 use Rattle.hc_model.specs.declared.outcome.Reason.{Reason}
-use Rattle.hc_model.specs.declared.outcome.Reason.TheVariants.{PathByte, LongText, DotSegment, RelativeRedirect, RelativeUnderAlias, Scheme, NoRoot}
+use Rattle.hc_model.specs.declared.outcome.Reason.TheVariants.{PathByte, LongText, DotSegment, RelativeRedirect}
+use Rattle.hc_model.specs.declared.outcome.Reason.TheVariants.{RelativeUnderAlias, Scheme, NoRoot}
 use Rattle.hc_json.specs.Shown.{shown}
 use Rattle.hc_json.specs.declared.reply.Done.{Done}
 use Rattle.hc_json.specs.declared.reply.Done.TheVariants.{Put, ListPath, DropPath, Edit, Main, End}

@@ -1,6 +1,7 @@
 -- How an answer came: its events, each with the source of the line that it tells of, its reads, and the JSON
 -- values of both. Our own choice.
-use Rattle.std.specs.Prelude.{ℕ, ◌==◌, List, [], ◌∷◌, map, if◌then◌else◌, Option, Some, None, unwrap_or, codes}
+use Rattle.std.specs.Prelude.{ℕ, ◌==◌, List, [], ◌∷◌, map, if◌then◌else◌, Option, Some, None}
+use Rattle.std.specs.Prelude.{unwrap_or, codes}
 use Rattle.std.specs.FinMap.{get}
 use Rattle.serde_json.specs.Data.{Data, array, boolean, number, string, unsigned}
 use Rattle.serde_json.specs.View.{items_of}

@@ -1,5 +1,6 @@
 -- Whether the text of a file of a group has stayed.
-use Rattle.std.proofs.Common.{◌≡◌, ◌&&◌, ℕ, ◌<◌, ◌≤◌, List, true, false, nat_le, Some, None, refl, ap, sym, ◌∙◌, true≢false, [], arith}
+use Rattle.std.proofs.Common.{◌≡◌, ◌&&◌, ℕ, ◌<◌, ◌≤◌, List, true, false, nat_le, Some, None, refl}
+use Rattle.std.proofs.Common.{ap, sym, ◌∙◌, true≢false, [], arith}
 use Rattle.std.specs.Map.{lookup}
 use Rattle.std.proofs.lemmas.Bool.Decides.{nat_tests}
 use Rattle.hc_htaccess.specs.Pairs.{same_allowed}
@@ -18,13 +19,15 @@ beyond : (n m : ℕ) → m < n → nat_le n m && true ≡ false
 beyond n m lt = grind (arith, nat_tests)
 
 module _ (world : Edited) (allowed : Allowed) (dir : Path) (es : List Entry) (group : IsGroup es) where
-  pub is_current : (kept : Kept) (changed : ℕ) → lookup (at_dir allowed dir) es ≡ Some kept → changed ≡ changed_at world kept.read → changed ≤ kept.at
+  pub is_current : (kept : Kept) (changed : ℕ) → lookup (at_dir allowed dir) es ≡ Some kept
+      → changed ≡ changed_at world kept.read → changed ≤ kept.at
       → IsCurrent world (files_in allowed es) dir allowed kept.found
   is_current kept changed is last stays =
       let found = entry_found allowed dir es kept group.own is in
       record { at = kept.at; there = found.there; stays = rw (← found.own, ← last) (within changed kept.at stays) }
 
-  pub is_stale : (kept : Kept) (changed : ℕ) → lookup (at_dir allowed dir) es ≡ Some kept → changed ≡ changed_at world kept.read → kept.at < changed
+  pub is_stale : (kept : Kept) (changed : ℕ) → lookup (at_dir allowed dir) es ≡ Some kept
+      → changed ≡ changed_at world kept.read → kept.at < changed
       → HasNoCurrent world (files_in allowed es) dir allowed
   is_stale kept changed is last late file has same _ =
       let own = (entry_found allowed dir es kept group.own is).own in
@@ -41,8 +44,10 @@ module _ (world : Edited) (allowed : Allowed) (dir : Path) (es : List Entry) (gr
 pub same_is : (one other : Allowed) → same_allowed one other ≡ true → other ≡ one
 same_is one other is = sym ((is_for_Decides (record { dir = []; allowed = one }) [] other).0 is).1
 
-pub other_allowed : (world : Edited) (own allowed : Allowed) (dir : Path) (es : List Entry) → same_allowed own allowed ≡ false
+pub other_allowed : (world : Edited) (own allowed : Allowed) (dir : Path) (es : List Entry)
+    → same_allowed own allowed ≡ false
     → HasNoCurrent world (files_in own es) dir allowed
 other_allowed world own allowed dir es differs file has _ is =
-    let same = (is_for_Decides (record { dir = []; allowed = own }) [] allowed).1 (refl, sym (allowed_is own es file has) ∙ is) in
+    let same = (is_for_Decides (record { dir = []; allowed = own }) [] allowed).1
+    (refl, sym (allowed_is own es file has) ∙ is) in
     absurd (true≢false (sym same ∙ differs))

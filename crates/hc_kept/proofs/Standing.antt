@@ -1,5 +1,6 @@
 -- What is still current after an accepted edit was so before it, and shows the same.
-use Rattle.std.proofs.Common.{◌≡◌, ◌⊎◌, inl, inr, ℕ, ◌<◌, ◌≤◌, ◌&&◌, List, [], ◌∷◌, Bool, true, false, nat_le, refl, sym, ap, subst, ◌∙◌, arith}
+use Rattle.std.proofs.Common.{◌≡◌, ◌⊎◌, inl, inr, ℕ, ◌<◌, ◌≤◌, ◌&&◌, List, [], ◌∷◌}
+use Rattle.std.proofs.Common.{Bool, true, false, nat_le, refl, sym, ap, subst, ◌∙◌, arith}
 use Rattle.std.specs.List.{Contains}
 use Rattle.std.proofs.lemmas.Bool.Decides.{nat_tests}
 use Rattle.hc_cache.specs.Entries.{is_current}
@@ -43,7 +44,8 @@ module _ {old new : Edited} (accepted : IsAccepted old new) {at : ℕ} (age : at
       by (inl (same, last)) = record { was = ap (λ n. nat_le n at) (sym last) ∙ is; shows = sym same }
       by (inr (differs, last)) = absurd (beyond (changed_at new read) (omega (arith, last, accepted.counted)) is)
 
-  pub current_stays : (reads : List Read) → is_current new reads at ≡ true → (is_current old reads at ≡ true) × AgreeOn (shown_by old.files) (shown_by new.files) reads
+  pub current_stays : (reads : List Read) → is_current new reads at ≡ true → (is_current old reads at ≡ true)
+      × AgreeOn (shown_by old.files) (shown_by new.files) reads
   current_stays [] is = (refl, λ read (n, below, _). absurd (omega (arith, below)))
   current_stays (read ∷ reads) is =
       let parts = both _ _ is in
@@ -51,16 +53,20 @@ module _ {old new : Edited} (accepted : IsAccepted old new) {at : ℕ} (age : at
       let rest = current_stays reads parts.1 in
       (rw (one.was, rest.0) refl, λ other has. on other one.shows rest.1 (first_or_behind read reads other has))
     where
-      on : (other : Read) → shown_by old.files read ≡ shown_by new.files read → AgreeOn (shown_by old.files) (shown_by new.files) reads
+      on : (other : Read) → shown_by old.files read ≡ shown_by new.files read
+          → AgreeOn (shown_by old.files) (shown_by new.files) reads
           → (read ≡ other) ⊎ Contains reads other → shown_by old.files other ≡ shown_by new.files other
       on other shows rest (inl is) = subst (λ r. shown_by old.files r ≡ shown_by new.files r) is shows
       on other shows rest (inr has) = rest other has
 
-pub flat_stays : (main : Path) (one other : World) → AgreeOn (shown_by one) (shown_by other) (flat_of one main).reads → flat_of one main ≡ flat_of other main
+pub flat_stays : (main : Path) (one other : World) → AgreeOn (shown_by one) (shown_by other) (flat_of one main).reads
+    → flat_of one main ≡ flat_of other main
 unfolding flat_of
 flat_stays main one other agree =
     let reads = (run (main_read main) (shown_by one)).reads in
-    ap (flat_by main) (agreement (main_read main) (shown_by one) (shown_by other) (λ read is. agree read (each_is_kept reads read is)))
+    ap (flat_by main)
+    (agreement (main_read main) (shown_by one) (shown_by other)
+    (λ read is. agree read (each_is_kept reads read is)))
 
 module _ {old new : Edited} (accepted : IsAccepted old new) where
   pub file_stays : {config : Config} (file : KeptFile) → IsFileOf old config file → IsFileOf new config file
@@ -69,7 +75,8 @@ module _ {old new : Edited} (accepted : IsAccepted old new) where
     found = λ current.
         let text = TextOf (htaccess_of file.dir) in
         let stays = current_stays accepted was.age (text ∷ []) current in
-        was.found stays.0 ∙ ap (λ found. answer_of (found_there config file.dir file.allowed found)) (stays.1 text (first text [] text refl));
+        was.found stays.0 ∙ ap (λ found. answer_of (found_there config file.dir file.allowed found))
+        (stays.1 text (first text [] text refl));
   }
 
   pub site_stays : (site : Site) → IsSiteOf old site → IsSiteOf new site
@@ -81,10 +88,12 @@ module _ {old new : Edited} (accepted : IsAccepted old new) where
     files = λ config is file has. file_stays file (was.files config is file has);
   }
     where
-      before : is_current new site.reads site.at ≡ true → (is_current old site.reads site.at ≡ true) × AgreeOn (shown_by old.files) (shown_by new.files) site.reads
+      before : is_current new site.reads site.at ≡ true → (is_current old site.reads site.at ≡ true)
+          × AgreeOn (shown_by old.files) (shown_by new.files) site.reads
       before current = current_stays accepted was.age site.reads current
 
       flat : is_current new site.reads site.at ≡ true → flat_of old.files site.main ≡ flat_of new.files site.main
       flat current =
           let stays = before current in
-          flat_stays site.main old.files new.files (subst (AgreeOn (shown_by old.files) (shown_by new.files)) (was.reads stays.0) stays.1)
+          flat_stays site.main old.files new.files
+          (subst (AgreeOn (shown_by old.files) (shown_by new.files)) (was.reads stays.0) stays.1)

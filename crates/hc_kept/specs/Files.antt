@@ -1,5 +1,6 @@
 -- The `.htaccess` files that were read, as long as their texts stay. Our own choice.
-use Rattle.std.specs.Prelude.{◌≡◌, ℕ, ◌≤◌, List, [], ◌∷◌, ◌++◌, map, filter, Bool, true, Contains, Option, Result}
+use Rattle.std.specs.Prelude.{◌≡◌, ℕ, ◌≤◌, List, [], ◌∷◌, ◌++◌, map, filter, Bool, true}
+use Rattle.std.specs.Prelude.{Contains, Option, Result}
 use Rattle.std.specs.Borrow.{GName}
 use Rattle.std.specs.List.{AllByRecursion}
 use Rattle.hc_base.specs.declared.place.Refusal.{Refusal}
@@ -36,7 +37,8 @@ is_current_file world file = is_current world (reads_of file) file.at
 pub record IsFileOf (world : Edited) (config : Config) (file : KeptFile) : Type 0 where
   pub age : file.at ≤ world.edits
   pub found :
-      is_current_file world file ≡ true → file.found ≡ answer_of (reading_in world.files config file.dir file.allowed)
+      is_current_file world file ≡ true
+      → file.found ≡ answer_of (reading_in world.files config file.dir file.allowed)
 
 abbrev pub AreFilesOf : Edited → Config → List KeptFile → Type 0
 AreFilesOf world config files = (file : KeptFile) → Contains files file → IsFileOf world config file
@@ -93,4 +95,5 @@ KeepsFresh world old fresh new =
 
 -- Each is among what is kept.
 abbrev pub AllKept : List FreshFile → List KeptFile → Type 0
-AllKept fresh files = (file : FreshFile) → Contains fresh file → Contains (map as_loaded files) (fresh_as_loaded file)
+AllKept fresh files = (file : FreshFile) → Contains fresh file
+    → Contains (map as_loaded files) (fresh_as_loaded file)

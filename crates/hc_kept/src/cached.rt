@@ -10,7 +10,7 @@ ghost use Rattle.hc_model.specs.Overrides.{IsRead, Kept, Override, file_of};
 use crate::KeptFiles;
 use crate::group::Found;
 use crate::settled::settled;
-use hc_base::{Fault, NoMemory, Steps, Text};
+use hc_base::{Counter, Fault, NoMemory, Text};
 use hc_htaccess::read_htaccess;
 use hc_model::{Allowed, AtFault, Config, HtFile, Overrides};
 use hc_world::World;
@@ -100,7 +100,7 @@ impl<'a> CachedFiles<'a> {
 
     fn read<L: Ledger>(
         &self,
-        bytes: &mut Steps<L>,
+        bytes: &mut Counter<L>,
         dir: &[u8],
         allowed: Allowed,
     ) -> Result<Found, NoMemory>
@@ -132,7 +132,7 @@ impl<'a> CachedFiles<'a> {
 #[derive(Drop)]
 pub struct CachedOverrides<'b, 'a, L: Ledger> {
     pub files: &'b mut CachedFiles<'a>,
-    pub bytes: &'b mut Steps<L>,
+    pub bytes: &'b mut Counter<L>,
 }
 
 impl<'b, 'a, L: Ledger> Overrides for CachedOverrides<'b, 'a, L> {

@@ -4,7 +4,7 @@ ghost use Rattle.hc_kept.specs.Site.{IsRead, is_current_site};
 
 use crate::KeptFiles;
 use crate::settled::settled;
-use hc_base::{List, NoMemory, Refusal, Steps, Text};
+use hc_base::{Counter, List, NoMemory, Refusal, Text};
 use hc_cache::is_current;
 use hc_config::build;
 use hc_include::flatten;
@@ -37,7 +37,7 @@ impl Site {
         alloc: Global,
         world: &World,
         main: &[u8],
-        bytes: &mut Steps<L>,
+        bytes: &mut Counter<L>,
     ) -> Result<Site, NoMemory>
         ensures site { IfOk result (IsRead world.now main.now) }
         ensures bytes { IfOk result (λ _. bytes.new ≡ bytes.old + bytes_of world.now.files main.now) }

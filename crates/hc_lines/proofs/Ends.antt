@@ -1,23 +1,28 @@
 -- The last bytes of a text.
-use Rattle.std.proofs.Common.{◌≡◌, ℕ, suc, ◌-◌, List, [], ◌∷◌, ◌++◌, length, take, slice_index, Bool, true, false, ◌&&◌, nat_eq, refl, sym, ◌∙◌, ap, arith, eqb-true, true≢false}
+use Rattle.std.proofs.Common.{◌≡◌, ℕ, suc, ◌-◌, List, [], ◌∷◌, ◌++◌, length, take, slice_index}
+use Rattle.std.proofs.Common.{Bool, true, false, ◌&&◌, nat_eq, refl, sym, ◌∙◌, ap, arith, eqb-true}
+use Rattle.std.proofs.Common.{true≢false}
 use Rattle.hc_lines.proofs.Common.{backslash, ends_with, lf, joins, without_last}
 
 -- a text that ends with a byte
-pub ends_with-split : (byte : ℕ) (bs : List ℕ) → ends_with byte bs ≡ true → bs ≡ take (length bs - 1) bs ++ byte ∷ []
+pub ends_with-split : (byte : ℕ) (bs : List ℕ) → ends_with byte bs ≡ true
+    → bs ≡ take (length bs - 1) bs ++ byte ∷ []
 ends_with-split byte [] is = absurd (true≢false (sym is))
 ends_with-split byte (b ∷ []) is = ap (λ x. x ∷ []) (eqb-true b byte is)
 ends_with-split byte (b ∷ c ∷ bs) is =
     let e : suc (suc (length bs)) - 1 ≡ suc (suc (length bs) - 1) = omega arith in
     rw e (ap (λ l. b ∷ l) (ends_with-split byte (c ∷ bs) is))
 
-pub ends_with-at : (byte : ℕ) (bs : List ℕ) → ends_with byte bs ≡ true → slice_index bs (length bs - 1) ≡ byte
+pub ends_with-at : (byte : ℕ) (bs : List ℕ) → ends_with byte bs ≡ true → slice_index bs (length bs - 1)
+    ≡ byte
 ends_with-at byte [] is = absurd (true≢false (sym is))
 ends_with-at byte (b ∷ []) is = eqb-true b byte is
 ends_with-at byte (b ∷ c ∷ bs) is =
     let e : suc (suc (length bs)) - 1 ≡ suc (suc (length bs) - 1) = omega arith in
     rw e (ends_with-at byte (c ∷ bs) is)
 
-pub without_last-ended : (byte : ℕ) (bs : List ℕ) → ends_with byte bs ≡ true → without_last byte bs ≡ take (length bs - 1) bs
+pub without_last-ended : (byte : ℕ) (bs : List ℕ) → ends_with byte bs ≡ true
+    → without_last byte bs ≡ take (length bs - 1) bs
 without_last-ended byte [] is = refl
 without_last-ended byte (b ∷ []) is = rw is refl
 without_last-ended byte (b ∷ c ∷ bs) is =

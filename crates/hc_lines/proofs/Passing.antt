@@ -1,5 +1,6 @@
 -- The physical lines of a run, passed one after another.
-use Rattle.hc_lines.proofs.Common.{◌≡◌, ℕ, ◌+◌, ◌-◌, ◌<◌, ◌≤◌, List, ◌∷◌, length, drop, slice_index, concat, lf, pieces, after_run, first_run}
+use Rattle.hc_lines.proofs.Common.{◌≡◌, ℕ, ◌+◌, ◌-◌, ◌<◌, ◌≤◌, List, ◌∷◌, length, drop}
+use Rattle.hc_lines.proofs.Common.{slice_index, concat, lf, pieces, after_run, first_run}
 
 -- What was passed, and the first run of the rest, is the first run of the whole.
 pub record Passed (text : List ℕ) (end count : ℕ) : Type 0 where

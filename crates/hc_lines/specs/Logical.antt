@@ -3,7 +3,9 @@
 -- character of a line continues it on the next; white space before a directive and blank lines are
 -- ignored; a line that begins with `#` is a comment. The CR before an LF, comments that continue,
 -- numbers, spans and the two refusals are our own choice.
-use Rattle.std.specs.Prelude.{◌≡◌, ℕ, ◌+◌, ◌-◌, ◌*◌, ◌==◌, ◌<◌, ◌≤◌, List, [], ◌∷◌, ◌++◌, length, Bool, true, false, not, ◌&&◌, if◌then◌else◌, nat_eq, nat_lt, Option, Some, None, Result, Ok, Err, ⊤, slice_range}
+use Rattle.std.specs.Prelude.{◌≡◌, ℕ, ◌+◌, ◌-◌, ◌*◌, ◌==◌, ◌<◌, ◌≤◌, List, []}
+use Rattle.std.specs.Prelude.{◌∷◌, ◌++◌, length, Bool, true, false, not, ◌&&◌, if◌then◌else◌}
+use Rattle.std.specs.Prelude.{nat_eq, nat_lt, Option, Some, None, Result, Ok, Err, ⊤, slice_range}
 use Rattle.std.specs.List.{AllByRecursion, concat, list_any, flat_map, ends_with as ends_with_all}
 use Rattle.hc_base.specs.Bytes.{backslash, begins_with, cr, ends_with, hash, is_control, lf, tab}
 use Rattle.hc_base.specs.Lines.{is_blank, is_lf, pieces}
@@ -83,7 +85,8 @@ without_end text = if ends_with lf text then without_last cr (without_last lf te
 abbrev pub from_first : List ℕ → List ℕ
 from_first [] = []
 from_first (b ∷ []) = if is_blank b then [] else b ∷ []
-from_first (b ∷ c ∷ bs) = if is_blank b then from_first (c ∷ bs) else (if is_join b c then from_first bs else b ∷ c ∷ bs)
+from_first (b ∷ c ∷ bs) = if is_blank b then from_first (c ∷ bs)
+    else (if is_join b c then from_first bs else b ∷ c ∷ bs)
 
 abbrev pub is_nothing : List ℕ → Bool
 is_nothing [] = true
@@ -148,7 +151,8 @@ read_as (Some code) says line = Err (record { code = code; line = line.number })
 read_as None says line = Ok (if says then Some line else None)
 
 abbrev pub line_at : FileKind → ℕ → ℕ → ℕ → List ℕ → Result (Option Line) AtLine
-line_at file number place count bytes = read_as (broken_by file count bytes) (says_something bytes) (line_of number place bytes)
+line_at file number place count bytes = read_as (broken_by file count bytes) (says_something bytes)
+    (line_of number place bytes)
 
 -- ---- all lines
 

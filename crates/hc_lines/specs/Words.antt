@@ -2,7 +2,8 @@
 -- Apache manual, "Configuration Files": arguments are separated by white space, and one that has
 -- blanks stands in quotes. What a backslash does, and that a word ends at its closing quote, is our
 -- own choice; it follows httpd's ap_getword_conf and, for rewriting, mod_rewrite's parseargline.
-use Rattle.std.specs.Prelude.{ℕ, zero, suc, ◌==◌, List, [], ◌∷◌, length, take, drop, Bool, ◌&&◌, ◌||◌, if◌then◌else◌, Option, Some, None, option_map, position, Result, Ok, Err}
+use Rattle.std.specs.Prelude.{ℕ, zero, suc, ◌==◌, List, [], ◌∷◌, length, take, drop, Bool, ◌&&◌}
+use Rattle.std.specs.Prelude.{◌||◌, if◌then◌else◌, Option, Some, None, option_map, position, Result, Ok, Err}
 use Rattle.std.specs.List.{position_or_len, prefix_len}
 use Rattle.hc_base.specs.Bytes.{backslash, double_quote, single_quote}
 use Rattle.hc_base.specs.Lines.{is_blank}
@@ -92,7 +93,8 @@ abbrev pub first_word : Spelling → List ℕ → First
 first_word spelling [] = nothing
 first_word spelling (b ∷ bs) =
     if is_quote b then quoted_word spelling b bs (spelling.closing b bs)
-    else word (spelling.plain (take (spelling.plain_end (b ∷ bs)) (b ∷ bs))) (drop (spelling.plain_end (b ∷ bs)) (b ∷ bs))
+    else word (spelling.plain (take (spelling.plain_end (b ∷ bs)) (b ∷ bs)))
+    (drop (spelling.plain_end (b ∷ bs)) (b ∷ bs))
 
 abbrev pub skip_blanks : List ℕ → List ℕ
 skip_blanks text = drop (prefix_len is_blank text) text
@@ -105,7 +107,8 @@ with_first (word text rest) more = option_map (λ words. text ∷ words) (more r
 -- The words of a text with at most so many words; none where a quoted word has no end.
 abbrev pub words_within : Spelling → ℕ → List ℕ → Option (List (List ℕ))
 words_within spelling zero text = Some []
-words_within spelling (suc count) text = with_first (first_word spelling (skip_blanks text)) (words_within spelling count)
+words_within spelling (suc count) text =
+    with_first (first_word spelling (skip_blanks text)) (words_within spelling count)
 
 -- The words of a text. It has no more of them than bytes.
 abbrev pub words_of : Spelling → List ℕ → Option (List (List ℕ))

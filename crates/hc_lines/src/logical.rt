@@ -10,7 +10,7 @@ use crate::trim::{from_first, up_to_last, without_end};
 use crate::unjoin::unjoined;
 use hc_base::bytes::{DELETE, begins_with};
 use hc_base::codes::{CONTROL_BYTE, LINE_TOO_LONG};
-use hc_base::{AtLine, Fault, NoMemory, Span, Steps};
+use hc_base::{AtLine, Counter, Fault, NoMemory, Span};
 use std::alloc::Global;
 use std::sync::ledger::Ledger;
 
@@ -43,7 +43,7 @@ pub fn logical_lines<'t, L: Ledger>(
     alloc: Global,
     text: &'t str,
     file: FileKind,
-    bytes: &mut Steps<L>,
+    bytes: &mut Counter<L>,
 ) -> Result<Vec<Line<'t>>, LineFault>
     ensures lines { GivesList result (lines_of file text.now) }
     ensures spans { IfOk result (λ lines. AreSpansFrom 0 text.now lines.items) }
@@ -57,7 +57,7 @@ pub fn logical_lines<'t, L: Ledger>(
 }
 
 // Counts each byte of a text.
-fn tick_each<L: Ledger>(text: &[u8], bytes: &mut Steps<L>)
+fn tick_each<L: Ledger>(text: &[u8], bytes: &mut Counter<L>)
     ensures { bytes.new ≡ bytes.old + length text.now }
 {
     for _byte in text {

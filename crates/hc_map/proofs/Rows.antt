@@ -1,5 +1,6 @@
 -- The rows of a map's text, line by line.
-use Rattle.std.proofs.Common.{◌≡◌, ℕ, ◌+◌, ◌<◌, List, ◌∷◌, length, drop, get_or, find, Bool, true, false, cond, Option, Some, None, refl, sym, ap, ◌∙◌, arith}
+use Rattle.std.proofs.Common.{◌≡◌, ℕ, ◌+◌, ◌<◌, List, ◌∷◌, length, drop, get_or, find, Bool, true}
+use Rattle.std.proofs.Common.{false, cond, Option, Some, None, refl, sym, ap, ◌∙◌, arith}
 use Rattle.std.specs.List.{cons_option, filter_map}
 use Rattle.std.specs.Option.{option_map, option_or}
 use Rattle.std.specs.Str.{bytes_eq}
@@ -11,28 +12,40 @@ use Rattle.hc_map.specs.Searching.{value_by_row}
 abbrev pub value_among : List ℕ → List (List ℕ) → Option (List ℕ)
 value_among key lines = option_map (λ row. row.1) (find (λ row. bytes_eq row.0 key) (filter_map row_in lines))
 
-by_test : (v : Bool) (row : Row) (more : Option Row) → option_map (λ row. row.1) (cond v (Some row) more) ≡ option_or (cond v (Some row.1) None) (option_map (λ row. row.1) more)
+by_test : (v : Bool) (row : Row) (more : Option Row) → option_map (λ row. row.1) (cond v (Some row) more)
+    ≡ option_or (cond v (Some row.1) None) (option_map (λ row. row.1) more)
 by_test true row more = refl
 by_test false row more = refl
 
 by_row : (key : List ℕ) (row : Option Row) (lines : List (List ℕ))
-    → option_map (λ row. row.1) (find (λ row. bytes_eq row.0 key) (cons_option row (filter_map row_in lines))) ≡ option_or (value_by_row key row) (value_among key lines)
+    → option_map (λ row. row.1) (find (λ row. bytes_eq row.0 key) (cons_option row (filter_map row_in lines)))
+    ≡ option_or (value_by_row key row) (value_among key lines)
 by_row key None lines = refl
-by_row key (Some row) lines = by_test (bytes_eq row.0 key) row (find (λ row. bytes_eq row.0 key) (filter_map row_in lines))
+by_row key (Some row) lines =
+    by_test (bytes_eq row.0 key) row (find (λ row. bytes_eq row.0 key) (filter_map row_in lines))
 
-one_more : (key : List ℕ) (lines : List (List ℕ)) (i : ℕ) (line : List ℕ) → (i < length lines) × (line ≡ get_or lines i line)
-    → value_among key (drop i lines) ≡ option_or (value_by_row key (row_in line)) (value_among key (drop (i + 1) lines))
+one_more : (key : List ℕ) (lines : List (List ℕ)) (i : ℕ) (line : List ℕ) → (i < length lines)
+    × (line ≡ get_or lines i line)
+    → value_among key (drop i lines) ≡ option_or (value_by_row key (row_in line))
+    (value_among key (drop (i + 1) lines))
 one_more key lines i line at =
-    ap (value_among key) (drop_more lines i line at.0 ∙ ap (λ first. first ∷ drop (i + 1) lines) (sym at.1)) ∙ by_row key (row_in line) (drop (i + 1) lines)
+    ap (value_among key) (drop_more lines i line at.0 ∙ ap (λ first. first ∷ drop (i + 1) lines) (sym at.1))
+    ∙ by_row key (row_in line) (drop (i + 1) lines)
 
 -- The next line has the key, or has it not; or there is none.
-pub found_at : (key : List ℕ) (lines : List (List ℕ)) (i : ℕ) (line value : List ℕ) → (i < length lines) × (line ≡ get_or lines i line)
+pub found_at : (key : List ℕ) (lines : List (List ℕ)) (i : ℕ) (line value : List ℕ) → (i < length lines)
+    × (line ≡ get_or lines i line)
     → Some value ≡ value_by_row key (row_in line) → Some value ≡ value_among key (drop i lines)
-found_at key lines i line value at is = ap (λ row. option_or row (value_among key (drop (i + 1) lines))) is ∙ sym (one_more key lines i line at)
+found_at key lines i line value at is = ap (λ row. option_or row (value_among key (drop (i + 1) lines))) is
+    ∙ sym (one_more key lines i line at)
 
-pub none_at : (key : List ℕ) (lines : List (List ℕ)) (i : ℕ) (line : List ℕ) → (i < length lines) × (line ≡ get_or lines i line)
-    → None ≡ value_by_row key (row_in line) → value_among key (drop (i + 1) lines) ≡ value_among key (drop i lines)
-none_at key lines i line at is = ap (λ row. option_or row (value_among key (drop (i + 1) lines))) is ∙ sym (one_more key lines i line at)
+pub none_at : (key : List ℕ) (lines : List (List ℕ)) (i : ℕ) (line : List ℕ) → (i < length lines)
+    × (line ≡ get_or lines i line)
+    → None ≡ value_by_row key (row_in line) → value_among key (drop (i + 1) lines)
+    ≡ value_among key (drop i lines)
+none_at key lines i line at is = ap (λ row. option_or row (value_among key (drop (i + 1) lines))) is
+    ∙ sym (one_more key lines i line at)
 
-pub none_left : (key : List ℕ) (lines : List (List ℕ)) (i : ℕ) → length lines ≡ i → None ≡ value_among key (drop i lines)
+pub none_left : (key : List ℕ) (lines : List (List ℕ)) (i : ℕ) → length lines ≡ i
+    → None ≡ value_among key (drop i lines)
 none_left key lines i all = ap (value_among key) (sym (drop_all i lines (omega arith)))

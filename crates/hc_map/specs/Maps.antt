@@ -27,7 +27,8 @@ abbrev pub value_among : List (List ℕ) → List ℕ
 value_among [] = []
 value_among (value ∷ words) = value
 
--- The first word is the key, the second one the value. A line of blanks has none, and one that begins with `#` is a comment.
+-- The first word is the key, the second one the value. A line of blanks has none, and one that begins with `#` is a
+-- comment.
 abbrev pub row_of : List (List ℕ) → Option Row
 row_of [] = None
 row_of (key ∷ words) = if begins_with hash key then None else Some (key, value_among words)

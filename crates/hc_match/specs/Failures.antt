@@ -1,5 +1,6 @@
 -- A table of pairs, a bit each.
-use Rattle.std.specs.Prelude.{ℕ, ◌+◌, ◌*◌, ◌/◌, ◌%◌, ◌==◌, Bool, false, List, if◌then◌else◌, nat_lt, slice_index}
+use Rattle.std.specs.Prelude.{ℕ, ◌+◌, ◌*◌, ◌/◌, ◌%◌, ◌==◌, Bool, false, List, if◌then◌else◌}
+use Rattle.std.specs.Prelude.{nat_lt, slice_index}
 use Rattle.std.specs.Int.{bit_at}
 use Rattle.hc_match.specs.declared.failures.Failures.{Failures}
 
@@ -9,4 +10,5 @@ has_number words number = bit_at (slice_index words (number / 64)) (number % 64)
 
 -- The pair of a step and a place of the text is in the table.
 abbrev pub has_failed : Failures → ℕ → ℕ → Bool
-has_failed failures step at = if nat_lt at failures.width then has_number failures.words.items (step * failures.width + at) else false
+has_failed failures step at = if nat_lt at failures.width then has_number failures.words.items
+    (step * failures.width + at) else false

@@ -1,5 +1,6 @@
 -- What is still to be matched, as ways.
-use Rattle.std.specs.Prelude.{◌≡◌, ◌-◌, ℕ, Bool, false, List, [], length, Option, None, Some, if◌then◌else◌, nat_lt, option_map}
+use Rattle.std.specs.Prelude.{◌≡◌, ◌-◌, ℕ, Bool, false, List, [], length, Option, None, Some}
+use Rattle.std.specs.Prelude.{if◌then◌else◌, nat_lt, option_map}
 use Rattle.hc_pattern.specs.Pattern.{pattern_of}
 use Rattle.hc_pattern.specs.declared.pat.Pat.{Pat}
 use Rattle.hc_ways.specs.Ways.{Way, Ways, behind, either, repeated, stop}
@@ -17,11 +18,13 @@ use Rattle.hc_match.specs.declared.frame.Tried.TheVariants.{Matched, Failed, Gav
 
 -- The ways of turns of a pattern.
 abbrev pub turns_ways : List ℕ → Pat → Turns → Ways Held
-turns_ways text body turns = repeated (length text) (last_ways text (pattern_of body)) turns.least turns.most turns.greedy
+turns_ways text body turns = repeated (length text) (last_ways text (pattern_of body)) turns.least turns.most
+    turns.greedy
 
 -- The turns behind one.
 abbrev pub behind_one : Turns → Turns
-behind_one turns = record { least = turns.least - 1; most = option_map (λ most. most - 1) turns.most; greedy = turns.greedy }
+behind_one turns =
+    record { least = turns.least - 1; most = option_map (λ most. most - 1) turns.most; greedy = turns.greedy }
 
 -- The ways of what is still to be matched.
 abbrev pub frame_ways : List ℕ → Frame → Ways Held
@@ -38,7 +41,8 @@ both_ways text pat next = behind (last_ways text (pattern_of pat)) (frame_ways t
 
 -- Where the pattern has no way, there is none for what is still to be matched.
 abbrev pub IsLead : List ℕ → Pat → Frame → Type 0
-IsLead text lead frame = (at : ℕ) → NoWay text at (pattern_of lead) → (held : Held) → frame_ways text frame at held ≡ []
+IsLead text lead frame = (at : ℕ) → NoWay text at (pattern_of lead) → (held : Held)
+    → frame_ways text frame at held ≡ []
 
 -- The ways of a turn and what is behind it.
 abbrev pub turn_ways : List ℕ → Turn → Ways Held
@@ -48,7 +52,8 @@ turn_ways text turn = behind (last_ways text (pattern_of turn.body.now)) (frame_
 -- nothing was found no group is set.
 abbrev pub Says : Tried → Straight → (Held → List (Way Held)) → Type 0
 Says Matched search found =
-    (held : Held) → first_of (found held) ≡ Some (record { end = search.end; held = held_over held search.settings.items })
+    (held : Held)
+    → first_of (found held) ≡ Some (record { end = search.end; held = held_over held search.settings.items })
 Says Failed search found = ((held : Held) → found held ≡ []) × (search.settings.items ≡ [])
 Says GaveUp search found = Unit {0}
 

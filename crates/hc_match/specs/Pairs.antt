@@ -1,5 +1,6 @@
 -- How a search through pairs stands: the place of a step, and a place of the text.
-use Rattle.std.specs.Prelude.{◌≡◌, ℕ, Bool, IsTrue, List, [], ◌∷◌, ◌++◌, Option, Some, None, reverse, slice_get, if◌then◌else◌}
+use Rattle.std.specs.Prelude.{◌≡◌, ℕ, Bool, IsTrue, List, [], ◌∷◌, ◌++◌, Option, Some, None, reverse}
+use Rattle.std.specs.Prelude.{slice_get, if◌then◌else◌}
 use Rattle.std.specs.List.{fold}
 use Rattle.hc_ways.specs.Ways.{Way, stop}
 use Rattle.hc_match.specs.Failures.{has_failed}
@@ -48,7 +49,8 @@ Leads steps meaning passed step at = (kept : Kept) → meaning passed.step passe
 -- The pair is reached by these pairs, from one that meets the test.
 abbrev pub Reached : List Step → Meaning → (ℕ → ℕ → Type 0) → List Passed → ℕ → ℕ → Type 0
 Reached steps meaning From [] = From
-Reached steps meaning From (first ∷ more) = Reached steps meaning (λ step at. From first.step first.at × Leads steps meaning first step at) more
+Reached steps meaning From (first ∷ more) =
+    Reached steps meaning (λ step at. From first.step first.at × Leads steps meaning first step at) more
 
 -- It is this pair.
 abbrev pub IsPair : ℕ → ℕ → ℕ → ℕ → Type 0
@@ -62,9 +64,11 @@ pub record IsSearch (steps : List Step) (meaning : Meaning) (start from : ℕ) (
 -- What each status says: of a pair that fails, of one where a way ends, and that no way is left.
 abbrev pub Stands : List Step → Meaning → ℕ → ℕ → Status → Search → Type 0
 Stands steps meaning start from Trying search = IsSearch steps meaning start from search
-Stands steps meaning start from Failing search = IsSearch steps meaning start from search × Fails meaning search.step search.at
+Stands steps meaning start from Failing search = IsSearch steps meaning start from search
+    × Fails meaning search.step search.at
 Stands steps meaning start from Found search =
-    IsSearch steps meaning start from search × ((kept : Kept) → meaning search.step search.at kept ≡ stop search.at kept)
+    IsSearch steps meaning start from search
+    × ((kept : Kept) → meaning search.step search.at kept ≡ stop search.at kept)
 Stands steps meaning start from Ended search = AllFail meaning search.failures × Fails meaning start from
 
 -- The search has found a way, or none is left.
@@ -77,4 +81,5 @@ kept_now steps = fold (past steps) nothing_kept
 
 -- What the code keeps of it, each list with the newest last.
 abbrev pub kept_in : Groups → Kept
-kept_in groups = record { starts = reverse groups.starts.items; held = held_over nothing_held (reverse groups.settings.items) }
+kept_in groups =
+    record { starts = reverse groups.starts.items; held = held_over nothing_held (reverse groups.settings.items) }

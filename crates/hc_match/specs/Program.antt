@@ -1,5 +1,6 @@
 -- What the steps of a program mean, as ways.
-use Rattle.std.specs.Prelude.{◌≡◌, ℕ, ◌<◌, ◌≤◌, ◌==◌, if◌then◌else◌, Bool, List, [], ◌∷◌, length, Option, Some, None, slice_get, ⊤}
+use Rattle.std.specs.Prelude.{◌≡◌, ℕ, ◌<◌, ◌≤◌, ◌==◌, if◌then◌else◌, Bool, List, []}
+use Rattle.std.specs.Prelude.{◌∷◌, length, Option, Some, None, slice_get, ⊤}
 use Rattle.hc_pattern.specs.Bits.{has_byte}
 use Rattle.hc_pattern.specs.Pattern.{Pattern}
 use Rattle.hc_ways.specs.Kept.{Held, nothing_held, with_group}
@@ -32,7 +33,8 @@ opened at kept = record { starts = at ∷ kept.starts; held = kept.held }
 -- The same by the starts: the group spans from the first of them on.
 abbrev pub closed_from : ℕ → ℕ → List ℕ → Held → Kept
 closed_from number at [] held = record { starts = []; held = with_group number (record { start = 0; end = at }) held }
-closed_from number at (from ∷ starts) held = record { starts = starts; held = with_group number (record { start = from; end = at }) held }
+closed_from number at (from ∷ starts) held =
+    record { starts = starts; held = with_group number (record { start = from; end = at }) held }
 
 -- The innermost group ends at the place.
 abbrev pub closed_at : ℕ → ℕ → Kept → Kept
@@ -99,7 +101,8 @@ pub record Extends (text : List ℕ) (old new : List Step) (before after : Meani
 
 -- However the old steps are read, the new ones can be read with them, and the meaning of the place
 -- is these ways, and behind them those of the step `next`.
-pub record Reads (text : List ℕ) (old new : List Step) (ways : Ways Kept) (next place : ℕ) (before : Meaning) : Type 0 where
+pub record Reads (text : List ℕ) (old new : List Step) (ways : Ways Kept) (next place : ℕ) (before : Meaning) : Type
+    0 where
   pub after : Meaning
   pub extends : Extends text old new before after
   pub is : after place ≡ behind ways (before next)

@@ -1,5 +1,6 @@
 -- Repeats of one byte: the bytes in a row that fit, and what is behind each number of them.
-use Rattle.std.specs.Prelude.{ℕ, zero, suc, ◌+◌, ◌-◌, Bool, List, Option, None, Some, length, if◌then◌else◌, nat_lt, slice_get}
+use Rattle.std.specs.Prelude.{ℕ, zero, suc, ◌+◌, ◌-◌, Bool, List, Option, None, Some, length}
+use Rattle.std.specs.Prelude.{if◌then◌else◌, nat_lt, slice_get}
 use Rattle.hc_ways.specs.Ways.{Way, Ways, meets, repeated, step_where}
 use Rattle.hc_ways.specs.Kept.{Held}
 use Rattle.hc_match.specs.Frames.{preferring}
@@ -10,7 +11,8 @@ use Rattle.hc_match.specs.declared.frame.Turns.{Turns}
 -- How many bytes from a place on meet a test, one behind the other: of so many at most.
 abbrev pub run_length : List ℕ → (ℕ → Bool) → ℕ → ℕ → ℕ
 run_length text test at zero = 0
-run_length text test at (suc most) = if meets test (slice_get text at) then suc (run_length text test (at + 1) most) else 0
+run_length text test at (suc most) = if meets test (slice_get text at) then suc (run_length text test (at + 1) most)
+    else 0
 
 -- What is behind so many bytes or fewer: behind more of them first where the repeat is greedy.
 abbrev pub ends : Bool → Ways Held → ℕ → ℕ → Held → List (Way Held)

@@ -21,7 +21,8 @@ is_single (repeat body least most greedy) = false
 
 -- It has no way from another place than the first.
 abbrev pub BeginsAtStart : Pattern → Type 0
-BeginsAtStart pattern = (text : List ℕ) (from : ℕ) (held : Held) → 0 < from → last_ways text pattern from held ≡ []
+BeginsAtStart pattern = (text : List ℕ) (from : ℕ) (held : Held) → 0 < from → last_ways text pattern from held
+    ≡ []
 
 -- It is this byte, or one of these.
 abbrev pub is_first : First → ℕ → Bool

@@ -1,5 +1,6 @@
 -- A chain of conditions by one bit: whether one of it holds so far.
-use Rattle.std.proofs.Common.{◌≡◌, List, [], ◌∷◌, ◌++◌, Bool, true, false, not, ◌&&◌, ◌||◌, Option, Some, None, if◌then◌else◌, refl, sym, ap, ◌∙◌}
+use Rattle.std.proofs.Common.{◌≡◌, List, [], ◌∷◌, ◌++◌, Bool, true, false, not, ◌&&◌, ◌||◌}
+use Rattle.std.proofs.Common.{Option, Some, None, if◌then◌else◌, refl, sym, ap, ◌∙◌}
 use Rattle.std.specs.List.{list_any}
 use Rattle.std.specs.Option.{option_map}
 use Rattle.hc_expr.proofs.StepsHeld.{and_holds, not_holds}
@@ -8,10 +9,12 @@ use Rattle.hc_model.specs.declared.expression.Expr.{Expr}
 use Rattle.hc_model.specs.declared.expression.Expr.TheVariants.{And, Not}
 use Rattle.hc_model.specs.declared.request.View.{View}
 use Rattle.hc_model.specs.declared.section.Reach.{Reach}
-use Rattle.hc_model.specs.declared.section.Reach.TheVariants.{Dir, DirSearch, Files, Location, LocationGlob, LocationSearch, Otherwise, When}
+use Rattle.hc_model.specs.declared.section.Reach.TheVariants.{Dir, DirSearch, Files, Location, LocationGlob}
+use Rattle.hc_model.specs.declared.section.Reach.TheVariants.{LocationSearch, Otherwise, When}
 use Rattle.hc_merge.specs.Candidates.{Candidate}
 use Rattle.hc_merge.specs.Chains.{held_behind, is_chained}
-use Rattle.hc_merge.specs.Reaching.{Chain, applies, behind_each, chain_behind, chained, holds_at, kept_behind, kept_by, resolved}
+use Rattle.hc_merge.specs.Reaching.{Chain, applies, behind_each, chain_behind, chained, holds_at, kept_behind, kept_by}
+use Rattle.hc_merge.specs.Reaching.{resolved}
 
 module _ (view : View) where
   abbrev passes : Bool → Option Reach → Bool
@@ -24,7 +27,8 @@ module _ (view : View) where
   kept_when marks held [] = []
   kept_when marks held (candidate ∷ candidates) =
       (if kept_now marks held candidate then candidate ∷ [] else [])
-      ++ kept_when (marks ++ kept_now marks held candidate ∷ []) (held_behind held (applies view candidate.reach) candidate.reach) candidates
+      ++ kept_when (marks ++ kept_now marks held candidate ∷ [])
+      (held_behind held (applies view candidate.reach) candidate.reach) candidates
 
   abbrev any_holds : Chain → Bool
   any_holds chain = list_any (holds view) chain
@@ -48,10 +52,12 @@ module _ (view : View) where
 
   behind_holds : (none : Expr) (chain : Chain) (expr : Expr)
       → holds view (behind_each none chain expr) ≡ (holds view none && not (any_holds chain)) && holds view expr
-  behind_holds none [] expr = and_holds view none expr ∙ ap (λ b. b && holds view expr) (sym (and_true (holds view none)))
+  behind_holds none [] expr = and_holds view none expr
+      ∙ ap (λ b. b && holds view expr) (sym (and_true (holds view none)))
   behind_holds none (before ∷ chain) expr =
       behind_holds (And none (Not before)) chain expr
-      ∙ ap (λ b. (b && not (any_holds chain)) && holds view expr) (and_holds view none (Not before) ∙ ap (λ b. holds view none && b) (not_holds view before))
+      ∙ ap (λ b. (b && not (any_holds chain)) && holds view expr)
+      (and_holds view none (Not before) ∙ ap (λ b. holds view none && b) (not_holds view before))
       ∙ ap (λ b. b && holds view expr) (neither (holds view none) (holds view before) (any_holds chain))
 
   turned : (held is : Bool) → not held && is ≡ is && not (held && true)
@@ -65,10 +71,12 @@ module _ (view : View) where
   first_turned true rest false = refl
   first_turned false rest is = turned rest is
 
-  chained_holds : (chain : Chain) (expr : Expr) → holds view (chained chain expr) ≡ holds view expr && not (any_holds chain && true)
+  chained_holds : (chain : Chain) (expr : Expr) → holds view (chained chain expr) ≡ holds view expr
+      && not (any_holds chain && true)
   chained_holds [] expr = sym (and_true (holds view expr))
   chained_holds (first ∷ chain) expr =
-      behind_holds (Not first) chain expr ∙ ap (λ b. (b && not (any_holds chain)) && holds view expr) (not_holds view first)
+      behind_holds (Not first) chain expr ∙ ap (λ b. (b && not (any_holds chain)) && holds view expr)
+      (not_holds view first)
       ∙ first_turned (holds view first) (any_holds chain) (holds view expr)
 
   own : (held is : Bool) → is ≡ is && not (held && false)
@@ -77,7 +85,8 @@ module _ (view : View) where
   own false true = refl
   own false false = refl
 
-  passes_resolved : (before : Chain) (reach : Option Reach) → applies view (option_map (resolved before) reach) ≡ passes (any_holds before) reach
+  passes_resolved : (before : Chain) (reach : Option Reach) → applies view (option_map (resolved before) reach)
+      ≡ passes (any_holds before) reach
   passes_resolved before None = own (any_holds before) true
   passes_resolved before (Some (Otherwise test)) = chained_holds before test
   passes_resolved before (Some (When test)) = own (any_holds before) _
@@ -90,9 +99,11 @@ module _ (view : View) where
 
   any_more : (chain : Chain) (test : Expr) → any_holds (chain ++ test ∷ []) ≡ any_holds chain || holds view test
   any_more [] test = or_false (holds view test)
-  any_more (first ∷ chain) test = ap (λ b. holds view first || b) (any_more chain test) ∙ sym (or_assoc (holds view first) (any_holds chain) (holds view test))
+  any_more (first ∷ chain) test = ap (λ b. holds view first || b) (any_more chain test)
+      ∙ sym (or_assoc (holds view first) (any_holds chain) (holds view test))
 
-  behind_held : (before : Chain) (reach : Option Reach) → any_holds (chain_behind before reach) ≡ held_behind (any_holds before) (applies view reach) reach
+  behind_held : (before : Chain) (reach : Option Reach) → any_holds (chain_behind before reach)
+      ≡ held_behind (any_holds before) (applies view reach) reach
   behind_held before None = refl
   behind_held before (Some (When test)) = or_false (holds view test)
   behind_held before (Some (Otherwise test)) = any_more before test
@@ -103,11 +114,14 @@ module _ (view : View) where
   behind_held before (Some (LocationGlob pattern)) = refl
   behind_held before (Some (LocationSearch pattern)) = refl
 
-  by_bit : (marks : List Bool) (before : Chain) (candidates : List Candidate) → kept_behind view marks before candidates ≡ kept_when marks (any_holds before) candidates
+  by_bit : (marks : List Bool) (before : Chain) (candidates : List Candidate)
+      → kept_behind view marks before candidates ≡ kept_when marks (any_holds before) candidates
   by_bit marks before [] = refl
   by_bit marks before (candidate ∷ candidates) =
       let mark = kept_now marks (any_holds before) candidate in
-      ap (λ passed. (if holds_at marks candidate.parent && passed then candidate ∷ [] else []) ++ kept_behind view (marks ++ (holds_at marks candidate.parent && passed) ∷ []) (chain_behind before candidate.reach) candidates)
+      ap (λ passed. (if holds_at marks candidate.parent && passed then candidate ∷ [] else []) ++ kept_behind view
+      (marks ++ (holds_at marks candidate.parent && passed) ∷ []) (chain_behind before candidate.reach)
+      candidates)
       (passes_resolved before candidate.reach)
       ∙ ap (λ later. (if mark then candidate ∷ [] else []) ++ later)
       (by_bit (marks ++ mark ∷ []) (chain_behind before candidate.reach) candidates

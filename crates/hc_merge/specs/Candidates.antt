@@ -8,7 +8,8 @@ use Rattle.hc_model.specs.declared.config.HostId.TheVariants.{Main, Nth}
 use Rattle.hc_model.specs.declared.config.Server.{Server}
 use Rattle.hc_model.specs.declared.section.Body.{Body}
 use Rattle.hc_model.specs.declared.section.Reach.{Reach}
-use Rattle.hc_model.specs.declared.section.Reach.TheVariants.{Dir, DirSearch, Files, Location, LocationGlob, LocationSearch, Otherwise, When}
+use Rattle.hc_model.specs.declared.section.Reach.TheVariants.{Dir, DirSearch, Files, Location, LocationGlob}
+use Rattle.hc_model.specs.declared.section.Reach.TheVariants.{LocationSearch, Otherwise, When}
 use Rattle.hc_model.specs.declared.section.Section.{Section, out-Section}
 use Rattle.hc_model.specs.declared.spot.Spot.{Spot}
 use Rattle.hc_ways.specs.Kept.{first_match}

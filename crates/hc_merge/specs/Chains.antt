@@ -1,7 +1,8 @@
 -- A chain of conditions by one bit: whether one of it holds so far.
 use Rattle.std.specs.Prelude.{Bool, true, false, ◌||◌, Option, Some, None}
 use Rattle.hc_model.specs.declared.section.Reach.{Reach}
-use Rattle.hc_model.specs.declared.section.Reach.TheVariants.{Dir, DirSearch, Files, Location, LocationGlob, LocationSearch, Otherwise, When}
+use Rattle.hc_model.specs.declared.section.Reach.TheVariants.{Dir, DirSearch, Files, Location, LocationGlob}
+use Rattle.hc_model.specs.declared.section.Reach.TheVariants.{LocationSearch, Otherwise, When}
 
 abbrev pub is_chained : Option Reach → Bool
 is_chained None = false

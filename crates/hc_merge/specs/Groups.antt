@@ -2,7 +2,8 @@
 -- Apache manual, "Configuration Sections", "How the sections are merged".
 use Rattle.std.specs.Prelude.{Bool, true, false}
 use Rattle.hc_model.specs.declared.section.Reach.{Reach}
-use Rattle.hc_model.specs.declared.section.Reach.TheVariants.{Dir, DirSearch, Files, Location, LocationGlob, LocationSearch, Otherwise, When}
+use Rattle.hc_model.specs.declared.section.Reach.TheVariants.{Dir, DirSearch, Files, Location, LocationGlob}
+use Rattle.hc_model.specs.declared.section.Reach.TheVariants.{LocationSearch, Otherwise, When}
 use Rattle.hc_merge.specs.declared.group.Group.{Group}
 use Rattle.hc_merge.specs.declared.group.Group.TheVariants.{Components, Conditions, Directories, Names, Urls}
 

@@ -33,7 +33,8 @@ inside group place candidate = map (untested (Some place)) (among_group group (o
 
 abbrev pub inside_each : Group → ℕ → List Candidate → List Candidate
 inside_each group place [] = []
-inside_each group place (candidate ∷ candidates) = inside group place candidate ++ inside_each group (place + 1) candidates
+inside_each group place (candidate ∷ candidates) =
+    inside group place candidate ++ inside_each group (place + 1) candidates
 
 -- Behind the earlier groups: the servers' sections, and then those inside sections, in the order in
 -- which these are merged.

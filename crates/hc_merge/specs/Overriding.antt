@@ -1,7 +1,8 @@
 -- What may stand in the `.htaccess` of a directory, and which of these files are read.
 -- Apache manual, core, AllowOverride. That the last line counts over all that is above a directory, and the place of
 -- such a file, are our own choice.
-use Rattle.std.specs.Prelude.{◌≡◌, Contains, List, [], ◌∷◌, ◌++◌, Bool, false, not, ◌||◌, unwrap_or, Option, Some, None, if◌then◌else◌, codes}
+use Rattle.std.specs.Prelude.{◌≡◌, Contains, List, [], ◌∷◌, ◌++◌, Bool, false, not, ◌||◌, unwrap_or}
+use Rattle.std.specs.Prelude.{Option, Some, None, if◌then◌else◌, codes}
 use Rattle.std.specs.List.{AllByRecursion, flat_map, fold}
 use Rattle.hc_base.specs.Bytes.{slash}
 use Rattle.hc_base.specs.Paths.{ends_with_slash}
@@ -31,7 +32,8 @@ allowed_behind so_far sections = fold allowed_by so_far sections
 
 -- What may stand in a `.htaccess` of a directory: by the sections of it and of those above it.
 abbrev pub allowed : Config → HostId → Path → Allowed
-allowed config host dir = allowed_behind nothing_allowed (flat_map (sections_at (sections_of config host)) (parents dir ++ dir ∷ []))
+allowed config host dir =
+    allowed_behind nothing_allowed (flat_map (sections_at (sections_of config host)) (parents dir ++ dir ∷ []))
 
 -- A `.htaccess` is read where something is allowed.
 abbrev pub wants : Path → Allowed → List Loaded
@@ -41,7 +43,8 @@ wants dir allowed = if allows_nothing allowed then [] else record { dir = dir; a
 abbrev pub wanted : List (List Section) → Allowed → List Path → List Loaded
 wanted lists so_far [] = []
 wanted lists so_far (dir ∷ dirs) =
-    wants dir (allowed_behind so_far (sections_at lists dir)) ++ wanted lists (allowed_behind so_far (sections_at lists dir)) dirs
+    wants dir (allowed_behind so_far (sections_at lists dir)) ++ wanted lists
+    (allowed_behind so_far (sections_at lists dir)) dirs
 
 abbrev pub wanted_by : Config → HostId → List Path → List Loaded
 wanted_by config host dirs = wanted (sections_of config host) nothing_allowed dirs
@@ -64,7 +67,8 @@ abbrev pub override_spot : Path → Spot
 override_spot dir = record { place = record { file = htaccess_of dir; line = 0 }; span = record { start = 0; end = 0 } }
 
 abbrev pub override_of : Path → HtFile → Candidate
-override_of dir file = record { spot = override_spot dir; dir = Some dir; reach = None; parent = None; body = file.body }
+override_of dir file =
+    record { spot = override_spot dir; dir = Some dir; reach = None; parent = None; body = file.body }
 
 abbrev pub overriding : Path → Option HtFile → List Candidate
 overriding dir None = []

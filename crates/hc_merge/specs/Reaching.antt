@@ -1,6 +1,7 @@
 -- Where a section applies: each is a test of one text, but for a condition, which may look at all of the request.
 -- Apache manual, core: DirectoryMatch, Files, FilesMatch, If, Location, LocationMatch.
-use Rattle.std.specs.Prelude.{ℕ, List, [], ◌∷◌, ◌++◌, Bool, true, false, not, ◌&&◌, is_some, option_map, Option, Some, None, slice_get, unwrap_or, if◌then◌else◌}
+use Rattle.std.specs.Prelude.{ℕ, List, [], ◌∷◌, ◌++◌, Bool, true, false, not, ◌&&◌, is_some, option_map}
+use Rattle.std.specs.Prelude.{Option, Some, None, slice_get, unwrap_or, if◌then◌else◌}
 use Rattle.hc_alias.specs.Tests.{is_below}
 use Rattle.hc_base.specs.Paths.{begins_with_slash, ends_with_slash, is_slash}
 use Rattle.hc_expr.specs.Values.{holds}
@@ -8,7 +9,8 @@ use Rattle.hc_model.specs.declared.expression.Expr.{Expr}
 use Rattle.hc_model.specs.declared.expression.Expr.TheVariants.{And, Not}
 use Rattle.hc_model.specs.declared.request.View.{View}
 use Rattle.hc_model.specs.declared.section.Reach.{Reach}
-use Rattle.hc_model.specs.declared.section.Reach.TheVariants.{Dir, DirSearch, Files, Location, LocationGlob, LocationSearch, Otherwise, When}
+use Rattle.hc_model.specs.declared.section.Reach.TheVariants.{Dir, DirSearch, Files, Location, LocationGlob}
+use Rattle.hc_model.specs.declared.section.Reach.TheVariants.{LocationSearch, Otherwise, When}
 use Rattle.hc_pattern.specs.Pattern.{Pattern}
 use Rattle.hc_ways.specs.Kept.{first_match}
 use Rattle.hc_merge.specs.Candidates.{Candidate}
@@ -105,7 +107,8 @@ abbrev pub kept_behind : View → List Bool → Chain → List Candidate → Lis
 kept_behind view marks before [] = []
 kept_behind view marks before (candidate ∷ candidates) =
     (if is_kept view marks before candidate then candidate ∷ [] else [])
-    ++ kept_behind view (marks ++ is_kept view marks before candidate ∷ []) (chain_behind before candidate.reach) candidates
+    ++ kept_behind view (marks ++ is_kept view marks before candidate ∷ []) (chain_behind before candidate.reach)
+    candidates
 
 abbrev pub kept_by : View → List Candidate → List Candidate
 kept_by view candidates = kept_behind view [] [] candidates

@@ -1,5 +1,6 @@
 -- What of mod_rewrite is in force in a directory.
--- Apache manual, mod_rewrite: RewriteEngine, RewriteBase, RewriteOptions. That RewriteEngine stays where a section does not set it, and
+-- Apache manual, mod_rewrite: RewriteEngine, RewriteBase, RewriteOptions. That RewriteEngine stays where a section does
+-- not set it, and
 -- that inherited rules run with the directory and RewriteBase of the section that inherits them, is our own choice.
 use Rattle.std.specs.Prelude.{List, [], ◌++◌, Bool, false, if◌then◌else◌, Option, None}
 use Rattle.std.specs.List.{fold}

@@ -21,14 +21,10 @@ use hc_model::{
     Config, Effective, Event, HostId, Merging, OptStep, Overrides, Redirect, ReqTree, Requirement,
     Rule, Rules, View, Walk,
 };
+use hc_table::OptionName;
 use hc_vhost::server_at;
 use std::alloc::Global;
 use std::collections::VecDeque;
-
-// The options by their places in the list of their names (Apache manual, core, Options).
-const FOLLOW_LINKS: u8 = 5;
-
-const LINKS_IF_OWNER_MATCH: u8 = 6;
 
 /// What is in force for a file name, rewriting too: the sections that apply, merged (Apache manual, "How the
 /// sections are merged"). The `.htaccess` of each directory of the walk in which something is allowed has to
@@ -86,11 +82,17 @@ fn follows(config: &Config, host: HostId, kept: &[Candidate<'_>]) -> bool
     requires { IsHostOf config.now host }
     ensures { result ≡ follows (servers_merged config.now host) (map candidate_of kept.now) }
 {
-    is_on(FOLLOW_LINKS, true, config, host, kept)
-        || is_on(LINKS_IF_OWNER_MATCH, false, config, host, kept)
+    is_on(OptionName::FollowSymLinks, true, config, host, kept)
+        || is_on(OptionName::SymLinksIfOwnerMatch, false, config, host, kept)
 }
 
-fn is_on(option: u8, on: bool, config: &Config, host: HostId, kept: &[Candidate<'_>]) -> bool
+fn is_on(
+    option: OptionName,
+    on: bool,
+    config: &Config,
+    host: HostId,
+    kept: &[Candidate<'_>],
+) -> bool
     requires { IsHostOf config.now host }
     ensures { result ≡ is_on option on (servers_merged config.now host) (map candidate_of kept.now) }
 {
@@ -98,7 +100,7 @@ fn is_on(option: u8, on: bool, config: &Config, host: HostId, kept: &[Candidate<
     on_at_sections(option, on, kept)
 }
 
-fn on_at_servers(option: u8, on: bool, config: &Config, host: HostId) -> bool
+fn on_at_servers(option: OptionName, on: bool, config: &Config, host: HostId) -> bool
     requires { IsHostOf config.now host }
     ensures { result ≡ on_at_servers option on (servers_merged config.now host) }
 {
@@ -109,7 +111,7 @@ fn on_at_servers(option: u8, on: bool, config: &Config, host: HostId) -> bool
     }
 }
 
-fn on_at_sections(option: u8, on: bool, kept: &[Candidate<'_>]) -> bool
+fn on_at_sections(option: OptionName, on: bool, kept: &[Candidate<'_>]) -> bool
     ensures { result ≡ on_at_sections option on (map candidate_of kept.now) }
 {
     let mut on = on;
@@ -119,7 +121,7 @@ fn on_at_sections(option: u8, on: bool, kept: &[Candidate<'_>]) -> bool
     on
 }
 
-fn on_after(option: u8, on: bool, steps: &[OptStep]) -> bool
+fn on_after(option: OptionName, on: bool, steps: &[OptStep]) -> bool
     ensures { result ≡ on_after option on steps.now }
 {
     let mut on = on;
@@ -129,14 +131,14 @@ fn on_after(option: u8, on: bool, steps: &[OptStep]) -> bool
     on
 }
 
-fn still_on(option: u8, on: bool, step: &OptStep) -> bool
+fn still_on(option: OptionName, on: bool, step: &OptStep) -> bool
     ensures { result ≡ still_on option on step.now }
 {
     is_among(option, step.add.as_slice())
         || (on && !step.replace && !is_among(option, step.take.as_slice()))
 }
 
-fn is_among(option: u8, options: &[u8]) -> bool
+fn is_among(option: OptionName, options: &[OptionName]) -> bool
     ensures { result ≡ is_among option options.now }
 {
     options.iter().any(|other| option == *other)

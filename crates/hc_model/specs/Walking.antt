@@ -1,6 +1,7 @@
 -- How a name is followed through the directories of a world.
 -- Apache manual, core, AcceptPathInfo: what follows the name of a file is path information.
-use Rattle.std.specs.Prelude.{ℕ, List, [], ◌∷◌, ◌++◌, take, drop, Bool, not, if◌then◌else◌, Option, Some, None, map, find, take_while}
+use Rattle.std.specs.Prelude.{ℕ, List, [], ◌∷◌, ◌++◌, take, drop, Bool, not, if◌then◌else◌, Option}
+use Rattle.std.specs.Prelude.{Some, None, map, find, take_while}
 use Rattle.std.specs.FinMap.{get}
 use Rattle.hc_base.specs.Paths.{is_slash, ends_with_slash}
 use Rattle.hc_model.specs.Node.{kind_of, is_dir}

@@ -35,20 +35,20 @@ pub struct Server {
     /// ServerName (core).
     pub name: Option<Text>,
     /// ServerAlias (core).
-    pub aliases: List<Text>,
+    pub names: List<Text>,
     /// The path of the last `DocumentRoot` line (core).
     pub root: Option<Text>,
     /// The Redirect directives, in the order of their lines (mod_alias).
     pub redirects: List<Redirect>,
     /// The aliases, in the order of their lines (mod_alias).
-    pub maps: List<Alias>,
+    pub aliases: List<Alias>,
     /// What stands outside its sections.
     pub body: Body,
     pub sections: List<Section>,
     /// The most internal redirects (core, LimitInternalRecursion).
     pub recursion: Option<u32>,
     /// The maps of RewriteMap (mod_rewrite).
-    pub maps_by_name: List<Map>,
+    pub rewrite_maps: List<Map>,
 }
 
 /// An address of a virtual host, IPv4 with a port. None is `*`.
@@ -73,14 +73,14 @@ impl Clone for Server {
             place: self.place.clone()?,
             addresses: self.addresses.copy()?,
             name: copy_option(&self.name)?,
-            aliases: self.aliases.copy()?,
+            names: self.names.copy()?,
             root: copy_option(&self.root)?,
             redirects: self.redirects.copy()?,
-            maps: self.maps.copy()?,
+            aliases: self.aliases.copy()?,
             body: self.body.clone()?,
             sections: self.sections.copy()?,
             recursion: self.recursion,
-            maps_by_name: self.maps_by_name.copy()?,
+            rewrite_maps: self.rewrite_maps.copy()?,
         })
     }
 }

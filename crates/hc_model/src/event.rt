@@ -71,3 +71,12 @@ pub enum Authorized {
     /// No Require is in force.
     Unasked,
 }
+
+/// What a branch decided at a line.
+#[derive(Clone, Drop)]
+pub enum Decision {
+    /// A RewriteCond.
+    Cond { place: Place, held: bool },
+    /// A RewriteRule.
+    Rule { place: Place, matched: bool },
+}

@@ -1,13 +1,12 @@
 //! The types of the model, and in `specs/` what a world, a configuration, a name and a request mean.
 //!
-//! All types of a request, a configuration, rewriting, authorization and claims, those of claims not used yet, and
-//! the definitions of a world and a walk; each clone equals what it is made of. Rules stand in a list (`Rules`)
-//! whose copies are meant to share it, which no clause says. An `Expression` is a list of steps that contracts see
-//! as a tree, and a `Requirement` a list of trees that they see as one.
+//! All types of a request, a configuration, rewriting and authorization, and the definitions of a world and a walk;
+//! each clone equals what it is made of. Rules stand in a list (`Rules`) whose copies are meant to share it, which no
+//! clause says. An `Expression` is a list of steps that contracts see as a tree, and a `Requirement` a list of trees
+//! that they see as one.
 #![tactic(auto)]
 
 mod authorization;
-mod claim;
 mod config;
 mod entry;
 mod event;
@@ -29,10 +28,9 @@ mod template;
 mod walk;
 
 pub use authorization::{Join, Merging, Need, ReqTree};
-pub use claim::{Claim, Decision, Scope, SetForm};
 pub use config::{Config, Define, HostAddr, HostId, Server};
 pub use entry::{Entry, EntryForm};
-pub use event::{Authorized, Event};
+pub use event::{Authorized, Decision, Event};
 pub use expression::{Expr, ExprStep};
 pub use lookups::{Lookups, Texts};
 pub use mapping::{Alias, Map, MapKind, PathTest, Redirect};

@@ -2,6 +2,7 @@ ghost use Rattle.std.specs.Prelude.{◌≡◌, IfOk};
 
 use crate::{Event, Expression, Merging, Redirect, Regex, ReqTree, Requirement, Rules};
 use hc_base::{List, NoMemory, Place, Span, Text, copy_option};
+use hc_table::OptionName;
 
 /// Where a section applies (Apache manual, "Configuration Sections").
 #[derive(Clone, Drop)]
@@ -62,14 +63,13 @@ pub struct Body {
     pub inherit: Inherit,
 }
 
-/// One Options line, with the options by their places in the list of their names (Apache manual,
-/// core, Options).
+/// One Options line (Apache manual, core, Options).
 #[derive(Drop)]
 pub struct OptStep {
     /// The words have no sign: the options that were in force go.
     pub replace: bool,
-    pub add: List<u8>,
-    pub take: List<u8>,
+    pub add: List<OptionName>,
+    pub take: List<OptionName>,
 }
 
 /// What a `.htaccess` may hold: the classes of AllowOverride (Apache manual, core).

@@ -1,6 +1,7 @@
 ghost use Rattle.std.specs.Prelude.{◌≡◌, IfOk};
 
 use hc_base::{Boxed, List, NoMemory, Text};
+use hc_table::Variable;
 
 /// A text with parts that are filled in where it is used (Apache manual, mod_rewrite, "Test String"
 /// and "Substitution").
@@ -34,8 +35,7 @@ pub enum Var {
     Header(Text),
     /// `ENV:name`.
     Env(Text),
-    /// By its place in the table of variables.
-    Named(u8),
+    Named(Variable),
 }
 
 impl Clone for Piece {

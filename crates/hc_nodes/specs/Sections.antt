@@ -15,14 +15,17 @@ followed (directive line name rest next) after = directive line name rest (follo
 followed (block line name args body next) after = block line name args body (followed next after)
 
 abbrev pub section_closed : Section → Nodes → Nodes
-section_closed section body = followed (nodes_view section.before.items) (block section.line.now section.name.now section.args.now body none)
+section_closed section body =
+    followed (nodes_view section.before.items) (block section.line.now section.name.now section.args.now body none)
 
 -- The tree of open sections, the nodes so far in the innermost, and the levels of the lines to come.
 abbrev pub whole : List Section → Nodes → List Nodes → Nodes
 whole [] nodes levels = followed nodes (next_of levels)
-whole (section ∷ open_sections) nodes levels = whole open_sections (section_closed section (followed nodes (next_of levels))) (drop 1 levels)
+whole (section ∷ open_sections) nodes levels =
+    whole open_sections (section_closed section (followed nodes (next_of levels))) (drop 1 levels)
 
 -- The innermost section has gone behind the nodes before it. Where none is open nothing is said.
 abbrev pub IsClosed : List Section → Nodes → List Section → Nodes → Type 0
 IsClosed [] body later nodes = Unit {0}
-IsClosed (section ∷ open_sections) body later nodes = (later ≡ open_sections) × (nodes ≡ section_closed section body)
+IsClosed (section ∷ open_sections) body later nodes = (later ≡ open_sections)
+    × (nodes ≡ section_closed section body)

@@ -2,7 +2,9 @@
 -- Apache manual, "Configuration Sections": `<Name arguments>` opens a section and `</Name>` closes
 -- it; sections nest. The forms of a close and of an opening, the most sections, and the order of
 -- refusals are our own choice.
-use Rattle.std.specs.Prelude.{◌≡◌, ℕ, ◌-◌, ◌==◌, ◌<◌, List, [], ◌∷◌, ◌++◌, length, map, take, drop, Bool, true, false, not, ◌&&◌, ◌||◌, if◌then◌else◌, nat_le, nat_lt, Option, Some, None, Result, Ok, Err, take_while}
+use Rattle.std.specs.Prelude.{◌≡◌, ℕ, ◌-◌, ◌==◌, ◌<◌, List, [], ◌∷◌, ◌++◌, length, map}
+use Rattle.std.specs.Prelude.{take, drop, Bool, true, false, not, ◌&&◌, ◌||◌, if◌then◌else◌, nat_le}
+use Rattle.std.specs.Prelude.{nat_lt, Option, Some, None, Result, Ok, Err, take_while}
 use Rattle.std.specs.Char.{to_ascii_lowercase}
 use Rattle.std.specs.Str.{bytes_eq}
 use Rattle.hc_base.specs.Bytes.{begins_with, ends_with, greater, less, slash}
@@ -72,7 +74,8 @@ Reads room (directive line name rest next) lines =
     (more : List Line) × (lines ≡ line ∷ more) × (begins_with less line.text ≡ false)
     × (name ≡ name_of line.text) × (rest ≡ behind_name line.text) × Reads room next more
 Reads room (block line name args body next) lines =
-    (inside : List Line) × (close : Line) × (more : List Line) × (lines ≡ line ∷ inside ++ close ∷ more) × (0 < room)
+    (inside : List Line) × (close : Line) × (more : List Line) × (lines ≡ line ∷ inside ++ close ∷ more)
+    × (0 < room)
     × (is_complete line ≡ true) × (closes line close ≡ true)
     × (name ≡ name_of (inside_brackets line)) × (args ≡ behind_name (inside_brackets line))
     × Reads (room - 1) body inside × Reads room next more
@@ -108,7 +111,8 @@ with_broken line (Some code) refusals = refused_at line code ∷ refusals
 -- Each rule that lines break behind these openings. An opening that is open at the end is unclosed.
 abbrev pub refusals : List Line → List Line → List AtLine
 refusals open_lines [] = map (λ opening. refused_at opening UNCLOSED_SECTION) open_lines
-refusals open_lines (line ∷ lines) = with_broken line (rule_broken open_lines line) (refusals (open_behind open_lines line) lines)
+refusals open_lines (line ∷ lines) =
+    with_broken line (rule_broken open_lines line) (refusals (open_behind open_lines line) lines)
 
 -- The smaller line comes first, and on one line the smaller code.
 abbrev pub comes_first : AtLine → AtLine → Bool
@@ -153,5 +157,6 @@ nodes_of lines = unless_refused (refusal_of lines) (next_of (levels_of lines))
 
 -- Lines have a tree exactly where they break no rule, and then this one alone.
 abbrev pub IsOnlyTree : Result Nodes AtLine → List Line → Type 0
-IsOnlyTree (Ok nodes) lines = Reads most_open nodes lines × ((other : Nodes) → Reads most_open other lines → other ≡ nodes)
+IsOnlyTree (Ok nodes) lines = Reads most_open nodes lines
+    × ((other : Nodes) → Reads most_open other lines → other ≡ nodes)
 IsOnlyTree (Err refusal) lines = (other : Nodes) → Reads most_open other lines → ⊥

@@ -22,8 +22,10 @@ piece text span = take (span.end - span.start) (drop span.start text)
 -- its turns takes, be it the last one or not, and the empty text where it has no turn.
 pub data MayHold (text : List ℕ) (from : ℕ) (way : Way Turns) : ℕ → List ℕ → Type 0 where
   whole : MayHold text from way 0 (piece text (record { start = from; end = way.end }))
-  turn : {number : ℕ} {span : Span} → 0 < number → Contains way.held (number, span) → MayHold text from way number (piece text span)
-  unset : {number : ℕ} → 0 < number → ((span : Span) → Contains way.held (number, span) → ⊥) → MayHold text from way number []
+  turn : {number : ℕ} {span : Span} → 0 < number → Contains way.held (number, span)
+      → MayHold text from way number (piece text span)
+  unset : {number : ℕ} → 0 < number → ((span : Span) → Contains way.held (number, span) → ⊥)
+      → MayHold text from way number []
 
 -- The group may hold the piece on some way of the pattern in some text of the set.
 pub record IsGroupText (pattern : Pattern) (set : TextSet) (number : ℕ) (held : List ℕ) : Type 0 where

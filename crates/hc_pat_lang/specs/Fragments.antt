@@ -1,5 +1,6 @@
 -- What the nodes of a pattern take, by the ways of the pattern.
-use Rattle.std.specs.Prelude.{◌≡◌, ℕ, ◌<◌, ◌≤◌, ◌==◌, ◌||◌, ◌⊎◌, ◌↔◌, nat_lt, Bool, true, List, [], ◌∷◌, length, drop, if◌then◌else◌, slice_get, Some}
+use Rattle.std.specs.Prelude.{◌≡◌, ℕ, ◌<◌, ◌≤◌, ◌==◌, ◌||◌, ◌⊎◌, ◌↔◌, nat_lt}
+use Rattle.std.specs.Prelude.{Bool, true, List, [], ◌∷◌, length, drop, if◌then◌else◌, slice_get, Some}
 use Rattle.std.specs.List.{AllByRecursion}
 use Rattle.hc_dfa.specs.Explored.{Extends}
 use Rattle.hc_ways.specs.Ways.{Way, Ways}
@@ -30,7 +31,8 @@ LeadsTo nodes text exits moved at way = TakesRest nodes text exits (moved || nat
 
 -- At each place, the entries take the rest of the text exactly where some way leads to where the exits do.
 pub record Serves (nodes : List Node) (text : List ℕ) (ways : Ways Turns) (exits entries : Gate) : Type 0 where
-  pub ordered : (at : ℕ) (held : Turns) → at ≤ length text → AllByRecursion (λ way. (at ≤ way.end) × (way.end ≤ length text)) (ways at held)
+  pub ordered : (at : ℕ) (held : Turns) → at ≤ length text
+      → AllByRecursion (λ way. (at ≤ way.end) × (way.end ≤ length text)) (ways at held)
   pub leads : (at : ℕ) (held : Turns) (moved : Bool) → at ≤ length text → (moved ≡ true → 0 < at)
       → TakesRest nodes text entries moved at ↔ Exists (LeadsTo nodes text exits moved at) (ways at held)
 
@@ -68,11 +70,13 @@ pub record IsReady (nodes : List Node) (gate : Gate) : Type 0 where
   pub below : IsBelow (length nodes) gate
 
 -- The new nodes lead from the entries to the exits by the ways. Nodes that are added later change nothing.
-pub record IsFragment (ways : List ℕ → Ways Turns) (exits : Gate) (old new : List Node) (entries : Gate) : Type 0 where
+pub record IsFragment (ways : List ℕ → Ways Turns) (exits : Gate) (old new : List Node) (entries : Gate) : Type
+    0 where
   pub kept : Extends old new
   pub longer : length old ≤ length new
   pub ready : IsReady new entries
-  pub ends : (later : List Node) → AreNodes later → AgreesFrom (length old) new later → KeepsEnds later exits entries
+  pub ends : (later : List Node) → AreNodes later → AgreesFrom (length old) new later
+      → KeepsEnds later exits entries
   pub serves : (later : List Node) → AreNodes later → AgreesFrom (length old) new later → KnowsEnds later exits
       → (text : List ℕ) → Serves later text (ways text) exits entries
 
@@ -83,11 +87,13 @@ pub record IsLooped (body : List ℕ → Ways Turns) (exits : Gate) (old new : L
   pub longer : length old ≤ length new
   pub ready : IsReady new turn
   pub ends : (later : List Node) → AreNodes later → AgreesFrom (length old) new later → KeepsEnds later exits turn
-  pub loop : (later : List Node) → AgreesFrom (length old) new later → slice_get later again.state ≡ Some (Fork exits.moved.state turn.still.state)
+  pub loop : (later : List Node) → AgreesFrom (length old) new later → slice_get later again.state
+      ≡ Some (Fork exits.moved.state turn.still.state)
   pub serves : (later : List Node) → AreNodes later → AgreesFrom (length old) new later → KnowsEnds later exits
       → (text : List ℕ) → Serves later text (body text) (record exits { moved = again }) turn
 
 -- Both gates of turns lead to the exits, the one by all ways and the other by those with a chosen turn.
-pub record AreTurns (all chosen : List ℕ → Ways Turns) (exits : Gate) (old new : List Node) (turns : Both) : Type 0 where
+pub record AreTurns (all chosen : List ℕ → Ways Turns) (exits : Gate) (old new : List Node) (turns : Both) : Type
+    0 where
   pub all_ways : IsFragment all exits old new turns.all
   pub chosen_ways : IsFragment chosen exits old new turns.chosen

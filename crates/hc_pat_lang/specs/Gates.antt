@@ -1,5 +1,6 @@
 -- The gates that are made of gates.
-use Rattle.std.specs.Prelude.{◌≡◌, ◌||◌, List, [], ◌∷◌, ◌++◌, length, true, false, if◌then◌else◌}
+use Rattle.std.specs.Prelude.{◌≡◌, ◌||◌, List, [], ◌∷◌, ◌++◌, length, true, false}
+use Rattle.std.specs.Prelude.{if◌then◌else◌}
 use Rattle.hc_pat_lang.specs.declared.gates.Gate.{Gate}
 use Rattle.hc_pat_lang.specs.declared.gates.Point.{Point}
 use Rattle.hc_pat_lang.specs.declared.nodes.Node.{Node}
@@ -23,7 +24,8 @@ abbrev pub finish_point : Point → Point
 finish_point point = if point.ends then record { state = 1; ends = true } else nowhere
 
 abbrev pub finish_gate : Gate → Gate
-finish_gate gate = record { first = finish_point gate.first; still = finish_point gate.still; moved = finish_point gate.moved }
+finish_gate gate =
+    record { first = finish_point gate.first; still = finish_point gate.still; moved = finish_point gate.moved }
 
 abbrev pub start_gate : Gate → Gate
 start_gate gate = record { first = gate.first; still = nowhere; moved = nowhere }

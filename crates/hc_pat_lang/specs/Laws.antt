@@ -17,5 +17,6 @@ held_text text (Some span) = piece text span
 
 -- What the groups hold after the first match of a text of the set, they may hold.
 abbrev pub CoversMatch : Pattern → TextSet → List ℕ → Type 0
-CoversMatch pattern set text = (held : Held) (number : ℕ) → IsText text → IsTrue (set text) → first_match text pattern ≡ Some held
+CoversMatch pattern set text = (held : Held) (number : ℕ) → IsText text → IsTrue (set text)
+    → first_match text pattern ≡ Some held
     → IsGroupText pattern set number (held_text text (held number))

@@ -1,5 +1,6 @@
 -- Which states the texts of a set lead to, and from which they lead to a final state.
-use Rattle.std.specs.Prelude.{◌≡◌, ℕ, ◌+◌, ◌*◌, ◌<◌, ◌==◌, ◌⊎◌, IsTrue, List, Bool, true, false, length, slice_get, Some}
+use Rattle.std.specs.Prelude.{◌≡◌, ℕ, ◌+◌, ◌*◌, ◌<◌, ◌==◌, ◌⊎◌, IsTrue, List, Bool, true}
+use Rattle.std.specs.Prelude.{false, length, slice_get, Some}
 use Rattle.hc_dfa.specs.Automata.{Automaton, states, is_final, run, accepts_from, accepts}
 use Rattle.hc_dfa.specs.Explored.{Extends}
 use Rattle.hc_dfa.specs.Pairs.{IsPair, pair_step}
@@ -52,7 +53,8 @@ pub record AddsNexts (a b : Automaton) (pair : ℕ × ℕ) (count : ℕ) (old ne
 pub record ArePairs (a b : Automaton) (pairs : List (ℕ × ℕ)) (count : ℕ) : Type 0 where
   pub begin : IsKept pairs (0, 0)
   pub led : (i : ℕ) (pair : ℕ × ℕ) → slice_get pairs i ≡ Some pair → IsPair a b pair × IsLedPair a b pair
-  pub closed : (i byte : ℕ) (pair : ℕ × ℕ) → i < count → slice_get pairs i ≡ Some pair → byte < 256 → IsKept pairs (pair_step a b pair byte)
+  pub closed : (i byte : ℕ) (pair : ℕ × ℕ) → i < count → slice_get pairs i ≡ Some pair → byte < 256
+      → IsKept pairs (pair_step a b pair byte)
 
 -- The pairs that texts lead to.
 pub record AreLed (a b : Automaton) (pairs : List (ℕ × ℕ)) : Type 0 where
@@ -62,7 +64,8 @@ pub record AreLed (a b : Automaton) (pairs : List (ℕ × ℕ)) : Type 0 where
 -- The answer tells whether the state stands in a pair with a final one.
 pub record StandsWithFinal (b : Automaton) (pairs : List (ℕ × ℕ)) (state : ℕ) (answer : Bool) : Type 0 where
   pub some : answer ≡ true → (second : ℕ) × IsKept pairs (state, second) × (is_final b second ≡ true)
-  pub none : answer ≡ false → (i second : ℕ) → slice_get pairs i ≡ Some (state, second) → is_final b second ≡ true → ⊥
+  pub none : answer ≡ false → (i second : ℕ) → slice_get pairs i ≡ Some (state, second)
+      → is_final b second ≡ true → ⊥
 
 -- ---- pairs from which texts lead to final states
 

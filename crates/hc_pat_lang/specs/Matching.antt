@@ -1,5 +1,6 @@
 -- The machine of steps of nodes, and the nodes that look for a pattern.
-use Rattle.std.specs.Prelude.{◌≡◌, ℕ, ◌+◌, ◌<◌, ◌≤◌, ◌⊎◌, ◌↔◌, List, [], ◌∷◌, ◌++◌, length, slice_get, slice_set, Some, true}
+use Rattle.std.specs.Prelude.{◌≡◌, ℕ, ◌+◌, ◌<◌, ◌≤◌, ◌⊎◌, ◌↔◌, List, [], ◌∷◌}
+use Rattle.std.specs.Prelude.{◌++◌, length, slice_get, slice_set, Some, true}
 use Rattle.hc_dfa.specs.Machines.{Steps, HasPath}
 use Rattle.hc_dfa.specs.Texts.{IsText}
 use Rattle.hc_dfa.specs.declared.machine.SilentStep.{SilentStep}
@@ -59,6 +60,7 @@ first_nodes set = Dead ∷ End ∷ Fork 1 3 ∷ Step set 2 ∷ []
 -- Nodes that look for what the entries take, at any place: the first is for places behind some bytes, the second
 -- passes a byte, and the last, where they begin, is for the text's start.
 pub record LooksFor (old new : List Node) (set : ByteSet) (entries : Gate) (start : ℕ) : Type 0 where
-  pub nodes : new ≡ slice_set ((old ++ Dead ∷ []) ++ Step set (length old) ∷ []) (length old) (Fork entries.still.state (length old + 1))
+  pub nodes : new ≡ slice_set ((old ++ Dead ∷ []) ++ Step set (length old) ∷ []) (length old)
+      (Fork entries.still.state (length old + 1))
       ++ Fork entries.first.state (length old + 1) ∷ []
   pub is : start ≡ length old + 2

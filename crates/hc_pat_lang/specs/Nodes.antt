@@ -1,5 +1,6 @@
 -- Nodes, each of which stands for texts: the machine of a pattern, before it is one of steps.
-use Rattle.std.specs.Prelude.{◌≡◌, ℕ, ◌+◌, ◌<◌, ◌≤◌, List, [], ◌∷◌, length, slice_get, Some, true}
+use Rattle.std.specs.Prelude.{◌≡◌, ℕ, ◌+◌, ◌<◌, ◌≤◌, List, [], ◌∷◌, length, slice_get, Some}
+use Rattle.std.specs.Prelude.{true}
 use Rattle.hc_pattern.specs.Bits.{has_byte}
 use Rattle.hc_pattern.specs.declared.set.ByteSet.{ByteSet}
 use Rattle.hc_pat_lang.specs.declared.nodes.Node.{Node}
@@ -36,4 +37,5 @@ pub record AreNodes (nodes : List Node) : Type 0 where
 
 -- From one place on the later nodes are the same.
 abbrev pub AgreesFrom : ℕ → List Node → List Node → Type 0
-AgreesFrom from nodes later = (i : ℕ) (node : Node) → from ≤ i → slice_get nodes i ≡ Some node → slice_get later i ≡ Some node
+AgreesFrom from nodes later = (i : ℕ) (node : Node) → from ≤ i → slice_get nodes i ≡ Some node
+    → slice_get later i ≡ Some node

@@ -1,9 +1,11 @@
 -- The ways of a pattern through a text in which the bytes of one turn of a group are marked.
-use Rattle.std.specs.Prelude.{ℕ, zero, suc, ◌+◌, ◌-◌, ◌==◌, ◌||◌, Bool, false, List, [], length, Option, None, Some, if◌then◌else◌, nat_lt, slice_get}
+use Rattle.std.specs.Prelude.{ℕ, zero, suc, ◌+◌, ◌-◌, ◌==◌, ◌||◌, Bool, false, List, [], length}
+use Rattle.std.specs.Prelude.{Option, None, Some, if◌then◌else◌, nat_lt, slice_get}
 use Rattle.hc_pattern.specs.Bits.{has_byte}
 use Rattle.hc_pattern.specs.Pattern.{Pattern, empty, byte, class, start, finish, cat, alt, group, repeat}
 use Rattle.hc_pattern.specs.declared.set.ByteSet.{ByteSet}
-use Rattle.hc_ways.specs.Ways.{Ways, any_turns, behind, either, grouped, meets, moving, none, repeated, stop, stop_where, turns_then, turns_up_to}
+use Rattle.hc_ways.specs.Ways.{Ways, any_turns, behind, either, grouped, meets, moving, none, repeated, stop}
+use Rattle.hc_ways.specs.Ways.{stop_where, turns_then, turns_up_to}
 use Rattle.hc_ways.specs.Kept.{Turns, with_turn}
 use Rattle.hc_ways.specs.Taking.{takes_a_byte}
 use Rattle.hc_pat_lang.specs.declared.build.Times.{Times}
@@ -50,8 +52,10 @@ part_ways part text start = stop_where (λ at. at == 0)
 part_ways part text finish = stop_where (λ at. at == length text)
 part_ways part text (cat first second) = behind (part_ways part text first) (part_ways part text second)
 part_ways part text (alt first second) = either (part_ways part text first) (part_ways part text second)
-part_ways part text (group number body) = if leaves_out part number then none else grouped with_turn number (part_ways part text body)
-part_ways part text (repeat body least most greedy) = repeated (length text) (part_ways part text body) least most greedy
+part_ways part text (group number body) = if leaves_out part number then none
+    else grouped with_turn number (part_ways part text body)
+part_ways part text (repeat body least most greedy) =
+    repeated (length text) (part_ways part text body) least most greedy
 
 abbrev pub times_of : Pattern → Times → Pattern
 times_of body times = repeat body times.least times.most times.greedy
@@ -99,12 +103,14 @@ chosen_any greedy body chosen bytes =
 abbrev pub chosen_repeated : Bool → ℕ → Ways Turns → Ways Turns → ℕ → Option ℕ → Bool → Ways Turns
 chosen_repeated moves bytes body chosen least None greedy =
     if moves
-    then chosen_then body chosen (least - 1) (behind body (any_turns greedy body bytes)) (chosen_any greedy body chosen bytes)
+    then chosen_then body chosen (least - 1) (behind body (any_turns greedy body bytes))
+    (chosen_any greedy body chosen bytes)
     else chosen_then body chosen least (any_turns greedy body bytes) (chosen_any greedy body chosen bytes)
 chosen_repeated moves bytes body chosen least (Some most) greedy =
     if nat_lt most least
     then none
-    else chosen_then body chosen least (turns_up_to greedy body (most - least)) (chosen_up_to greedy body chosen (most - least))
+    else chosen_then body chosen least (turns_up_to greedy body (most - least))
+    (chosen_up_to greedy body chosen (most - least))
 
 -- The ways in which the marked bytes are those of one turn of the group.
 abbrev pub chosen_ways : ℕ → List ℕ → Pattern → Ways Turns
@@ -114,27 +120,31 @@ chosen_ways number text (class set) = none
 chosen_ways number text start = none
 chosen_ways number text finish = none
 chosen_ways number text (cat first second) =
-    chosen_behind (part_ways Outside text first) (chosen_ways number text first) (part_ways Outside text second) (chosen_ways number text second)
+    chosen_behind (part_ways Outside text first) (chosen_ways number text first) (part_ways Outside text second)
+    (chosen_ways number text second)
 chosen_ways number text (alt first second) = either (chosen_ways number text first) (chosen_ways number text second)
 chosen_ways number text (group own body) =
     if own == number
     then either (part_ways Inside text body) (chosen_ways number text body)
     else chosen_ways number text body
 chosen_ways number text (repeat body least most greedy) =
-    chosen_repeated (takes_a_byte body) (length text) (part_ways Outside text body) (chosen_ways number text body) least most greedy
+    chosen_repeated (takes_a_byte body) (length text) (part_ways Outside text body) (chosen_ways number text body) least
+    most greedy
 
 -- Turns of a body, of which one is chosen.
 abbrev pub then_chosen : ℕ → ℕ → List ℕ → Pattern → Ways Turns → Ways Turns → Ways Turns
 then_chosen number count text body = chosen_then (part_ways Outside text body) (chosen_ways number text body) count
 
 abbrev pub up_to_chosen : Bool → ℕ → ℕ → List ℕ → Pattern → Ways Turns
-up_to_chosen greedy number count text body = chosen_up_to greedy (part_ways Outside text body) (chosen_ways number text body) count
+up_to_chosen greedy number count text body =
+    chosen_up_to greedy (part_ways Outside text body) (chosen_ways number text body) count
 
 abbrev pub any_chosen : Bool → ℕ → List ℕ → Pattern → Ways Turns
 any_chosen greedy number text body =
     chosen_any greedy (part_ways Outside text body) (chosen_ways number text body) (length text)
 
--- The ways in which the marked bytes are what the group holds: the whole way, or one of its turns, or none where it has no turn.
+-- The ways in which the marked bytes are what the group holds: the whole way, or one of its turns, or none where it has
+-- no turn.
 abbrev pub group_ways : ℕ → List ℕ → Pattern → Ways Turns
 group_ways number text pattern =
     if number == 0

@@ -1,5 +1,6 @@
 -- The machine that reads what is marked in the texts of a node, where the texts without marks are in a set.
-use Rattle.std.specs.Prelude.{◌≡◌, ℕ, ◌-◌, ◌<◌, ◌≤◌, ◌↔◌, IsTrue, nat_lt, List, [], ◌∷◌, ◌++◌, length, slice_get, Some, true, if◌then◌else◌, map}
+use Rattle.std.specs.Prelude.{◌≡◌, ℕ, ◌-◌, ◌<◌, ◌≤◌, ◌↔◌, IsTrue, nat_lt, List, []}
+use Rattle.std.specs.Prelude.{◌∷◌, ◌++◌, length, slice_get, Some, true, if◌then◌else◌, map}
 use Rattle.std.specs.List.{Contains}
 use Rattle.hc_dfa.specs.Automata.{Automaton, states, next_state, is_final}
 use Rattle.hc_dfa.specs.Explored.{Extends, IsMet, IsOne}
@@ -75,7 +76,8 @@ pub record Sound (nodes : List Node) (a : Automaton) (keys : List Place) (m : St
   pub proper : (i : ℕ) (place : Place) → slice_get keys i ≡ Some place → IsPlace nodes a place
   pub silent : (i j : ℕ) → IsSilent m i j → Tied keys (Passes nodes a) i j
   pub reads : (i byte j : ℕ) → Reads m i byte j → Tied keys (λ from to. PassesMarked nodes a from byte to) i j
-  pub finals : (i : ℕ) → Contains m.finals i → (place : Place) × (slice_get keys i ≡ Some place) × IsLast nodes a place
+  pub finals : (i : ℕ) → Contains m.finals i → (place : Place) × (slice_get keys i ≡ Some place)
+      × IsLast nodes a place
 
 -- Places and steps are added.
 pub record Grew (keys more : List Place) (m n : Steps) : Type 0 where
@@ -92,13 +94,15 @@ pub record Reaches (keys : List Place) (Steps : ℕ → Type 0) (place : Place) 
   pub step : Steps number
 
 -- The place has all its steps.
-pub record IsDone (nodes : List Node) (a : Automaton) (keys : List Place) (m : Steps) (i : ℕ) (from : Place) : Type 0 where
+pub record IsDone (nodes : List Node) (a : Automaton) (keys : List Place) (m : Steps) (i : ℕ) (from : Place) : Type
+    0 where
   pub silent : (to : Place) → Passes nodes a from to → Reaches keys (IsSilent m i) to
   pub reads : (byte : ℕ) (to : Place) → PassesMarked nodes a from byte to → Reaches keys (Reads m i byte) to
   pub finals : IsLast nodes a from → Contains m.finals i
 
 -- The place gets all its steps.
-pub record Walks (nodes : List Node) (a : Automaton) (keys more : List Place) (m n : Steps) (i : ℕ) (from : Place) : Type 0 where
+pub record Walks (nodes : List Node) (a : Automaton) (keys more : List Place) (m n : Steps) (i : ℕ) (from : Place) :
+    Type 0 where
   pub sound : Sound nodes a more n
   pub grew : Grew keys more m n
   pub done : IsDone nodes a more n i from
@@ -113,7 +117,11 @@ pub record AddsPass (keys more : List Place) (m n : Steps) (i : ℕ) (place : Pl
 pub record AddsRead (keys more : List Place) (m n : Steps) (i low high : ℕ) (place : Place) : Type 0 where
   pub number : ℕ
   pub met : IsMet IsOne keys place more number
-  pub machine : n ≡ record m { states = length more; reading = m.reading ++ record { from = i; low = low; high = high; to = number } ∷ [] }
+  pub machine : n
+      ≡ record m {
+        states = length more;
+        reading = m.reading ++ record { from = i; low = low; high = high; to = number } ∷ [];
+      }
 
 -- The bytes from one on, up to and with another, are in the set and lead to the same state.
 pub record IsAlike (set : ByteSet) (a : Automaton) (state low high : ℕ) : Type 0 where

@@ -23,7 +23,12 @@ abbrev pub place_view : ℕ × CountOfBytes → ℕ × Count
 place_view place = (place.0, count_view place.1)
 
 abbrev pub level_view : Level → KnownLevel
-level_view level = record { sequence = part_view level.sequence; others = option_map part_view level.others; count = option_map place_view level.count }
+level_view level =
+    record {
+      sequence = part_view level.sequence;
+      others = option_map part_view level.others;
+      count = option_map place_view level.count;
+    }
 
 abbrev pub levels_view : Levels → KnownLevels
 levels_view levels = (level_view levels.inner, map level_view (reverse levels.outer.items))

@@ -1,12 +1,14 @@
 -- What is kept of a part of a pattern while its tree is built, instead of the tree.
-use Rattle.std.specs.Prelude.{ℕ, ◌+◌, ◌*◌, ◌==◌, Bool, true, false, ◌&&◌, ◌||◌, List, [], ◌∷◌, min, Option, Some, None, if◌then◌else◌, nat_lt}
+use Rattle.std.specs.Prelude.{ℕ, ◌+◌, ◌*◌, ◌==◌, Bool, true, false, ◌&&◌, ◌||◌, List, []}
+use Rattle.std.specs.Prelude.{◌∷◌, min, Option, Some, None, if◌then◌else◌, nat_lt}
 use Rattle.std.specs.Option.{option_or}
 use Rattle.hc_pattern.specs.Pattern.{Pattern, empty, cat, alt, group, repeat}
 use Rattle.hc_pattern.specs.Refusals.{most_nodes}
 use Rattle.hc_pattern.specs.Syntax.{is_loop, is_place, times}
 use Rattle.hc_pattern.specs.Tokens.{Count, Placed, Token, item, opens, closes, bars, counts, unclosed, broken}
 
--- Its pattern, unless it has too many nodes; its nodes, of which one too many are as many as any more; whether it can match the
+-- Its pattern, unless it has too many nodes; its nodes, of which one too many are as many as any more; whether it can
+-- match the
 -- empty text; the first quantifier whose turns may be many and empty; and whether it is nothing.
 pub record Known : Type 0 where
   pub pattern : Pattern
@@ -26,7 +28,8 @@ abbrev pub nothing_known : Known
 nothing_known = record { pattern = empty; nodes = 0; can_be_empty = true; looping = None; is_nothing = true }
 
 abbrev pub leaf_known : Pattern → Known
-leaf_known pattern = record { pattern = pattern; nodes = 1; can_be_empty = is_place pattern; looping = None; is_nothing = false }
+leaf_known pattern =
+    record { pattern = pattern; nodes = 1; can_be_empty = is_place pattern; looping = None; is_nothing = false }
 
 abbrev pub both_known : Known → Known → Known
 both_known a b =
@@ -93,7 +96,12 @@ counted_known None body = body
 counted_known (Some count) body = turns_known count.0 count.1 body
 
 abbrev pub body_known : Known → KnownLevel → KnownLevel
-body_known body level = record { sequence = before_known (counted_known level.count body) level.sequence; others = level.others; count = None }
+body_known body level =
+    record {
+      sequence = before_known (counted_known level.count body) level.sequence;
+      others = level.others;
+      count = None;
+    }
 
 abbrev pub KnownLevels : Type 0
 KnownLevels = KnownLevel × List KnownLevel
@@ -104,9 +112,11 @@ outer_known (level ∷ levels) = (level, levels)
 
 abbrev pub token_known : ℕ → Token → KnownLevels → KnownLevels
 token_known at (item pattern) levels = (body_known (leaf_known pattern) levels.0, levels.1)
-token_known at (opens number) levels = (body_known (group_known number (whole_known levels.0)) (outer_known levels.1).0, (outer_known levels.1).1)
+token_known at (opens number) levels =
+    (body_known (group_known number (whole_known levels.0)) (outer_known levels.1).0, (outer_known levels.1).1)
 token_known at closes levels = (new_known, levels.0 ∷ levels.1)
-token_known at bars levels = (record { sequence = nothing_known; others = Some (whole_known levels.0); count = None }, levels.1)
+token_known at bars levels =
+    (record { sequence = nothing_known; others = Some (whole_known levels.0); count = None }, levels.1)
 token_known at (counts count) levels = (record levels.0 { count = Some (at, count) }, levels.1)
 token_known at unclosed levels = levels
 token_known at (broken refusal) levels = levels

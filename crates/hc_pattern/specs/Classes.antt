@@ -1,5 +1,6 @@
 -- Classes (PCRE, "pcrepattern": "Square brackets and character classes").
-use Rattle.std.specs.Prelude.{ℕ, zero, suc, ◌+◌, ◌-◌, ◌==◌, Bool, true, false, not, ◌&&◌, ◌||◌, List, [], ◌∷◌, Option, Some, None, if◌then◌else◌, nat_le, nat_lt}
+use Rattle.std.specs.Prelude.{ℕ, zero, suc, ◌+◌, ◌-◌, ◌==◌, Bool, true, false, not, ◌&&◌, ◌||◌}
+use Rattle.std.specs.Prelude.{List, [], ◌∷◌, Option, Some, None, if◌then◌else◌, nat_le, nat_lt}
 use Rattle.std.specs.Option.{option_or}
 use Rattle.std.specs.List.{list_any}
 use Rattle.std.specs.Char.{to_ascii_lowercase, to_ascii_uppercase}
@@ -91,4 +92,5 @@ folded nocase test b = test b || (nocase && (test (to_ascii_lowercase b) || test
 -- A complement is taken last.
 abbrev pub class_test : Bool → Bool → List ClassPart → ℕ → Bool
 class_test nocase complement parts b =
-    if complement then not (folded nocase (λ c. list_any (is_in_part c) parts) b) else folded nocase (λ c. list_any (is_in_part c) parts) b
+    if complement then not (folded nocase (λ c. list_any (is_in_part c) parts) b)
+    else folded nocase (λ c. list_any (is_in_part c) parts) b

@@ -1,5 +1,7 @@
 -- Globs: our own choice, after the Apache manual ("fnmatch") and the shell.
-use Rattle.std.specs.Prelude.{ℕ, zero, suc, ◌+◌, ◌==◌, Bool, true, false, not, ◌&&◌, ◌||◌, List, [], ◌∷◌, length, Option, Some, None, Result, Ok, Err, if◌then◌else◌, nat_le, nat_lt, option_map}
+use Rattle.std.specs.Prelude.{ℕ, zero, suc, ◌+◌, ◌==◌, Bool, true, false, not, ◌&&◌, ◌||◌, List, []}
+use Rattle.std.specs.Prelude.{◌∷◌, length, Option, Some, None, Result, Ok, Err, if◌then◌else◌, nat_le}
+use Rattle.std.specs.Prelude.{nat_lt, option_map}
 use Rattle.std.specs.List.{list_any}
 use Rattle.hc_base.specs.Bytes.{backslash, bracket_close, bracket_open, caret, dash, exclamation, question, slash, star}
 use Rattle.hc_base.specs.declared.fault.AtByte.{AtByte}
@@ -27,7 +29,8 @@ means b mark = (mark.byte == b) && not mark.plain
 -- What stands before the first `]`.
 abbrev pub before_close : List Mark → Option (List Mark)
 before_close [] = None
-before_close (mark ∷ marks) = if means bracket_close mark then Some [] else option_map (λ more. mark ∷ more) (before_close marks)
+before_close (mark ∷ marks) = if means bracket_close mark then Some [] else option_map (λ more. mark ∷ more)
+    (before_close marks)
 
 -- The members of a class, by what stands behind its `[`, `[!` or `[^`: a `]` as the first is a member.
 abbrev pub members_of : List Mark → Option (List Mark)
@@ -46,7 +49,8 @@ pub record Class : Type 0 where
 abbrev pub class_of : List Mark → Option Class
 class_of [] = None
 class_of (mark ∷ marks) =
-    if is_complement (mark ∷ marks) then option_map (λ members. record { complement = true; members = members }) (members_of marks)
+    if is_complement (mark ∷ marks) then option_map (λ members. record { complement = true; members = members })
+    (members_of marks)
     else option_map (λ members. record { complement = false; members = members }) (members_of (mark ∷ marks))
 
 -- A member of a class and a range of two.
@@ -111,7 +115,8 @@ may_be keeps_slash b = not (keeps_slash && (b == slash))
 
 abbrev pub in_class : Bool → Class → ℕ → Bool
 in_class keeps_slash c b =
-    may_be keeps_slash b && (if c.complement then not (is_among b (ranges_of c.members)) else is_among b (ranges_of c.members))
+    may_be keeps_slash b
+    && (if c.complement then not (is_among b (ranges_of c.members)) else is_among b (ranges_of c.members))
 
 abbrev pub unless_falling : Option ℕ → Pattern → Result Pattern AtByte
 unless_falling None pattern = Ok pattern
@@ -121,7 +126,8 @@ abbrev pub piece_pattern : Bool → GlobPiece → Result Pattern AtByte
 piece_pattern keeps_slash (plain b) = Ok (byte b)
 piece_pattern keeps_slash any_byte = Ok (class (set_where (may_be keeps_slash)))
 piece_pattern keeps_slash any_bytes = Ok (repeat (class (set_where (may_be keeps_slash))) 0 None true)
-piece_pattern keeps_slash (one_of c) = unless_falling (falling (ranges_of c.members)) (class (set_where (in_class keeps_slash c)))
+piece_pattern keeps_slash (one_of c) =
+    unless_falling (falling (ranges_of c.members)) (class (set_where (in_class keeps_slash c)))
 
 -- A pattern before others, where none is refused before it.
 abbrev pub before_all : Result Pattern AtByte → Result (List Pattern) AtByte → Result (List Pattern) AtByte
@@ -132,7 +138,8 @@ before_all (Ok pattern) (Ok patterns) = Ok (pattern ∷ patterns)
 -- The patterns of the pieces, or the refusal of the first one that is refused.
 abbrev pub patterns_of : Bool → List GlobPiece → Result (List Pattern) AtByte
 patterns_of keeps_slash [] = Ok []
-patterns_of keeps_slash (piece ∷ pieces) = before_all (piece_pattern keeps_slash piece) (patterns_of keeps_slash pieces)
+patterns_of keeps_slash (piece ∷ pieces) =
+    before_all (piece_pattern keeps_slash piece) (patterns_of keeps_slash pieces)
 
 abbrev pub in_a_row : List Pattern → Pattern
 in_a_row [] = finish
@@ -141,7 +148,8 @@ in_a_row (one ∷ more) = cat one (in_a_row more)
 -- Between the start and the end of a text.
 abbrev pub anchored : Result (List Pattern) AtByte → Result Pattern AtByte
 anchored (Err refusal) = Err refusal
-anchored (Ok patterns) = if nat_lt most_nodes (length patterns) then Err too_large else Ok (cat start (in_a_row patterns))
+anchored (Ok patterns) = if nat_lt most_nodes (length patterns) then Err too_large
+    else Ok (cat start (in_a_row patterns))
 
 abbrev pub glob_pieces : List ℕ → List GlobPiece
 glob_pieces text = pieces_of 0 (marks_from 0 text)

@@ -1,8 +1,13 @@
 -- Escapes and named sets (PCRE, "pcrepattern": "Backslash", "POSIX character classes").
-use Rattle.std.specs.Prelude.{ℕ, ◌+◌, ◌*◌, ◌==◌, not, ◌&&◌, List, [], ◌∷◌, length, if◌then◌else◌, nat_eq, codes}
+use Rattle.std.specs.Prelude.{ℕ, ◌+◌, ◌*◌, ◌==◌, not, ◌&&◌, List, [], ◌∷◌, length}
+use Rattle.std.specs.Prelude.{if◌then◌else◌, nat_eq, codes}
 use Rattle.std.specs.List.{starts_with}
 use Rattle.std.specs.Char.{digit_value, is_ascii_alphanumeric, is_ascii_hexdigit}
-use Rattle.hc_base.specs.Bytes.{at_sign, backslash, backspace, brace_open, bracket_open, capital_a, capital_d, capital_f, capital_s, capital_w, capital_z, caret, colon, cr, dash, delete, digit_nine, digit_zero, exclamation, grave, last_byte, letter_a, letter_d, letter_f, letter_s, letter_w, letter_x, letter_z, nul, shift_out, slash, space, tab, tilde, underscore, unit_separator}
+use Rattle.hc_base.specs.Bytes.{at_sign, backslash, backspace, brace_open, bracket_open, capital_a, capital_d}
+use Rattle.hc_base.specs.Bytes.{capital_f, capital_s, capital_w, capital_z, caret, colon, cr, dash, delete, digit_nine}
+use Rattle.hc_base.specs.Bytes.{digit_zero, exclamation, grave, last_byte, letter_a, letter_d, letter_f, letter_s}
+use Rattle.hc_base.specs.Bytes.{letter_w, letter_x, letter_z, nul, shift_out, slash, space, tab, tilde, underscore}
+use Rattle.hc_base.specs.Bytes.{unit_separator}
 use Rattle.hc_base.specs.declared.fault.AtByte.{AtByte}
 use Rattle.hc_pattern.specs.Refusals.{unsupported, wrong_syntax}
 
@@ -46,7 +51,8 @@ abbrev pub hex_escape : ℕ → List ℕ → Written
 hex_escape at [] = record { member = refused (unsupported at); length = 2 }
 hex_escape at (high ∷ []) = record { member = refused (unsupported at); length = 2 }
 hex_escape at (high ∷ low ∷ rest) =
-    if is_ascii_hexdigit high && is_ascii_hexdigit low then record { member = one (16 * digit_value high + digit_value low); length = 4 }
+    if is_ascii_hexdigit high && is_ascii_hexdigit low
+    then record { member = one (16 * digit_value high + digit_value low); length = 4 }
     else record { member = refused (unsupported at); length = 2 }
 
 -- A backslash and a letter or digit other than `x`.
@@ -77,8 +83,11 @@ named_sets =
     (codes "upper:]", (capital_a, capital_z) ∷ []) ∷
     (codes "lower:]", (letter_a, letter_z) ∷ []) ∷
     (codes "space:]", spaces) ∷
-    (codes "blank:]", (tab, tab) ∷ (space, space) ∷ []) ∷
-    (codes "punct:]", (exclamation, slash) ∷ (colon, at_sign) ∷ (bracket_open, grave) ∷ (brace_open, tilde) ∷ []) ∷
+    (codes "blank:]", (tab, tab) ∷ (space, space) ∷ []) ∷ (
+      codes "punct:]",
+      (exclamation, slash) ∷ (colon, at_sign) ∷ (bracket_open, grave) ∷ (brace_open, tilde)
+          ∷ [],
+    ) ∷
     (codes "print:]", (space, tilde) ∷ []) ∷
     (codes "graph:]", (exclamation, tilde) ∷ []) ∷
     (codes "cntrl:]", (nul, unit_separator) ∷ (delete, delete) ∷ []) ∷
@@ -90,7 +99,8 @@ named_sets =
 abbrev pub named_set : List ℕ → List (List ℕ × List (ℕ × ℕ)) → Written
 named_set text [] = record { member = one bracket_open; length = 1 }
 named_set text (set ∷ sets) =
-    if starts_with nat_eq text set.0 then record { member = many set.1; length = length set.0 + 2 } else named_set text sets
+    if starts_with nat_eq text set.0 then record { member = many set.1; length = length set.0 + 2 }
+    else named_set text sets
 
 abbrev pub bracket : ℕ → List ℕ → Written
 bracket at [] = record { member = one bracket_open; length = 1 }

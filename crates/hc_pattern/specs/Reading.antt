@@ -1,10 +1,12 @@
 -- Which patterns are read, and as what.
-use Rattle.std.specs.Prelude.{ℕ, ◌+◌, Bool, not, ◌&&◌, ◌||◌, List, [], ◌∷◌, Option, Some, None, Result, Ok, Err, if◌then◌else◌, nat_lt}
+use Rattle.std.specs.Prelude.{ℕ, ◌+◌, Bool, not, ◌&&◌, ◌||◌, List, [], ◌∷◌, Option, Some, None}
+use Rattle.std.specs.Prelude.{Result, Ok, Err, if◌then◌else◌, nat_lt}
 use Rattle.hc_base.specs.declared.fault.AtByte.{AtByte}
 use Rattle.hc_pattern.specs.Pattern.{Pattern}
 use Rattle.hc_pattern.specs.Refusals.{empty_loop, most_nodes, too_large, unsupported, wrong_syntax}
 use Rattle.hc_pattern.specs.Syntax.{Syntax, empty_loops, nodes, syntax_of, syntax_pattern}
-use Rattle.hc_pattern.specs.Tokens.{Count, Placed, Token, item, opens, closes, bars, counts, unclosed, broken, tokens_of}
+use Rattle.hc_pattern.specs.Tokens.{Count, Placed, Token, item, opens, closes, bars, counts, unclosed, broken}
+use Rattle.hc_pattern.specs.Tokens.{tokens_of}
 
 -- What stands directly before a token, as a quantifier sees it: nothing, something that it may count,
 -- or another quantifier, which may be lazy.
@@ -23,7 +25,8 @@ unclosed_refusal (at ∷ more ∷ opened) = unclosed_refusal (more ∷ opened)
 abbrev pub count_refusal : ℕ → Before → Count → Option AtByte
 count_refusal at nothing count = Some (wrong_syntax at)
 count_refusal at something count = None
-count_refusal at (quantifier lazy) count = if count.is_plus && not lazy then Some (unsupported at) else Some (wrong_syntax at)
+count_refusal at (quantifier lazy) count = if count.is_plus && not lazy then Some (unsupported at)
+    else Some (wrong_syntax at)
 
 abbrev pub or_else : Option AtByte → Option AtByte → Option AtByte
 or_else None later = later
@@ -35,19 +38,22 @@ close_refusal [] at later = Some (wrong_syntax at)
 close_refusal (opening ∷ opened) at later = later opened
 
 -- The first refusal from a token on, by the one behind it.
-abbrev pub refusal_at : List ℕ → Before → ℕ → Token → (List ℕ → Before → Option AtByte) → Option AtByte
+abbrev pub refusal_at : List ℕ → Before → ℕ → Token → (List ℕ → Before → Option AtByte)
+    → Option AtByte
 refusal_at opened before at (item pattern) later = later opened something
 refusal_at opened before at (opens number) later = later (at ∷ opened) nothing
 refusal_at opened before at closes later = close_refusal opened at (λ opened. later opened something)
 refusal_at opened before at bars later = later opened nothing
-refusal_at opened before at (counts count) later = or_else (count_refusal at before count) (later opened (quantifier (not count.greedy)))
+refusal_at opened before at (counts count) later =
+    or_else (count_refusal at before count) (later opened (quantifier (not count.greedy)))
 refusal_at opened before at unclosed later = unclosed_refusal (at ∷ opened)
 refusal_at opened before at (broken refusal) later = Some refusal
 
 -- The first refusal of form in reading from the left, where these groups are open.
 abbrev pub first_refusal : List ℕ → Before → List Placed → Option AtByte
 first_refusal opened before [] = unclosed_refusal opened
-first_refusal opened before (placed ∷ tokens) = refusal_at opened before placed.at placed.token (λ opened before. first_refusal opened before tokens)
+first_refusal opened before (placed ∷ tokens) =
+    refusal_at opened before placed.at placed.token (λ opened before. first_refusal opened before tokens)
 
 abbrev pub opens_one : Token → ℕ
 opens_one (opens (Some number)) = 1

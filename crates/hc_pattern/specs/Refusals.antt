@@ -1,6 +1,7 @@
 -- How a pattern or a glob is read, or refused.
 use Rattle.std.specs.Prelude.{◌≡◌, ℕ, Result, Ok, Err}
-use Rattle.hc_base.specs.declared.codes.TheConstants.{PATTERN_UNSUPPORTED, PATTERN_SYNTAX, PATTERN_TOO_LARGE, EMPTY_LOOP}
+use Rattle.hc_base.specs.declared.codes.TheConstants.{PATTERN_UNSUPPORTED, PATTERN_SYNTAX, PATTERN_TOO_LARGE}
+use Rattle.hc_base.specs.declared.codes.TheConstants.{EMPTY_LOOP}
 use Rattle.hc_base.specs.declared.fault.AtByte.{AtByte}
 use Rattle.hc_base.specs.declared.fault.Fault.{Fault}
 use Rattle.hc_base.specs.declared.fault.Fault.TheVariants.{NoMemory, Refused}

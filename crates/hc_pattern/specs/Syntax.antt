@@ -1,5 +1,6 @@
 -- The tree of a pattern's tokens (PCRE, "pcrepattern").
-use Rattle.std.specs.Prelude.{ℕ, ◌+◌, ◌*◌, ◌==◌, Bool, true, false, ◌&&◌, ◌||◌, List, [], ◌∷◌, ◌++◌, max, Option, Some, None, if◌then◌else◌, nat_lt}
+use Rattle.std.specs.Prelude.{ℕ, ◌+◌, ◌*◌, ◌==◌, Bool, true, false, ◌&&◌, ◌||◌, List, []}
+use Rattle.std.specs.Prelude.{◌∷◌, ◌++◌, max, Option, Some, None, if◌then◌else◌, nat_lt}
 use Rattle.hc_pattern.specs.Pattern.{Pattern, empty, start, finish, cat, alt, group, repeat}
 use Rattle.hc_pattern.specs.Tokens.{Count, Placed, Token, item, opens, closes, bars, counts, unclosed, broken}
 
@@ -36,7 +37,8 @@ counted None body = body
 counted (Some count) body = turns count.0 count.1 body
 
 abbrev pub with_body : Syntax → Level → Level
-with_body body level = record { sequence = before (counted level.count body) level.sequence; others = level.others; count = None }
+with_body body level =
+    record { sequence = before (counted level.count body) level.sequence; others = level.others; count = None }
 
 -- A level, and those around it, the innermost first.
 abbrev pub Levels : Type 0
@@ -48,7 +50,8 @@ outer (level ∷ levels) = (level, levels)
 
 abbrev pub with_token : ℕ → Token → Levels → Levels
 with_token at (item pattern) levels = (with_body (leaf pattern) levels.0, levels.1)
-with_token at (opens number) levels = (with_body (grouped number (whole levels.0)) (outer levels.1).0, (outer levels.1).1)
+with_token at (opens number) levels =
+    (with_body (grouped number (whole levels.0)) (outer levels.1).0, (outer levels.1).1)
 with_token at closes levels = (new_level, levels.0 ∷ levels.1)
 with_token at bars levels = (record { sequence = nothing; others = Some (whole levels.0); count = None }, levels.1)
 with_token at (counts count) levels = (record levels.0 { count = Some (at, count) }, levels.1)

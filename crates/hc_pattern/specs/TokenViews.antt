@@ -1,6 +1,7 @@
 -- What the tokens of `src/` are seen as.
 use Rattle.hc_pattern.specs.Pattern.{Pattern, byte, class, start, finish}
-use Rattle.hc_pattern.specs.Tokens.{Braces, Count, Placed, Sign, Token, item, opens, closes, bars, counts, unclosed, broken}
+use Rattle.hc_pattern.specs.Tokens.{Braces, Count, Placed, Sign, Token, item, opens, closes, bars, counts, unclosed}
+use Rattle.hc_pattern.specs.Tokens.{broken}
 use Rattle.hc_pattern.specs.declared.count.Braces.{Braces as BracesOfBytes}
 use Rattle.hc_pattern.specs.declared.count.Count.{Count as CountOfBytes}
 use Rattle.hc_pattern.specs.declared.token.Leaf.{Leaf}

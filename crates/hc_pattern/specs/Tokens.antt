@@ -1,8 +1,10 @@
 -- The signs of a pattern (PCRE, "pcrepattern").
-use Rattle.std.specs.Prelude.{ℕ, zero, suc, ◌+◌, ◌-◌, ◌*◌, ◌==◌, Bool, true, false, not, ◌&&◌, List, [], ◌∷◌, length, take, drop, Option, Some, None, if◌then◌else◌, nat_lt}
+use Rattle.std.specs.Prelude.{ℕ, zero, suc, ◌+◌, ◌-◌, ◌*◌, ◌==◌, Bool, true, false, not, ◌&&◌}
+use Rattle.std.specs.Prelude.{List, [], ◌∷◌, length, take, drop, Option, Some, None, if◌then◌else◌, nat_lt}
 use Rattle.std.specs.List.{fold, prefix_len}
 use Rattle.std.specs.Char.{eq_ignore_ascii_case, is_ascii_alphabetic, is_ascii_digit}
-use Rattle.hc_base.specs.Bytes.{backslash, bar, begins_with, brace_close, brace_open, bracket_open, caret, colon, comma, digit_zero, dollar, dot, parenthesis_close, parenthesis_open, plus, question, star}
+use Rattle.hc_base.specs.Bytes.{backslash, bar, begins_with, brace_close, brace_open, bracket_open, caret, colon, comma}
+use Rattle.hc_base.specs.Bytes.{digit_zero, dollar, dot, parenthesis_close, parenthesis_open, plus, question, star}
 use Rattle.hc_base.specs.declared.fault.AtByte.{AtByte}
 use Rattle.hc_pattern.specs.Bits.{set_where}
 use Rattle.hc_pattern.specs.Classes.{Class, class_from, class_test, is_in_ranges, parts_of, parts_refusal}
@@ -43,7 +45,8 @@ pub record Placed : Type 0 where
 
 -- Without case, a letter is each of its cases.
 abbrev pub byte_item : Bool → ℕ → Token
-byte_item nocase b = if nocase && is_ascii_alphabetic b then item (class (set_where (eq_ignore_ascii_case b))) else item (byte b)
+byte_item nocase b = if nocase && is_ascii_alphabetic b then item (class (set_where (eq_ignore_ascii_case b)))
+    else item (byte b)
 
 abbrev pub member_item : Bool → Member → Token
 member_item nocase (one b) = byte_item nocase b
@@ -52,7 +55,8 @@ member_item nocase hyphen = unclosed
 member_item nocase (refused refusal) = broken refusal
 
 abbrev pub escape_sign : Bool → ℕ → List ℕ → Sign
-escape_sign nocase at rest = record { token = member_item nocase (escape at rest).member; length = (escape at rest).length }
+escape_sign nocase at rest =
+    record { token = member_item nocase (escape at rest).member; length = (escape at rest).length }
 
 abbrev pub unless_refused : Option AtByte → Token → Token
 unless_refused None token = token
@@ -67,14 +71,21 @@ class_token nocase complement c =
 abbrev pub class_sign : Bool → ℕ → List ℕ → Sign
 class_sign nocase at [] = record { token = unclosed; length = 1 }
 class_sign nocase at (b ∷ rest) =
-    if b == caret then record { token = class_token nocase true (class_from 0 true (at + 2) rest); length = (class_from 0 true (at + 2) rest).length + 2 }
-    else record { token = class_token nocase false (class_from 0 true (at + 1) (b ∷ rest)); length = (class_from 0 true (at + 1) (b ∷ rest)).length + 1 }
+    if b == caret then record {
+      token = class_token nocase true (class_from 0 true (at + 2) rest);
+      length = (class_from 0 true (at + 2) rest).length + 2;
+    }
+    else record {
+      token = class_token nocase false (class_from 0 true (at + 1) (b ∷ rest));
+      length = (class_from 0 true (at + 1) (b ∷ rest)).length + 1;
+    }
 
 -- A `(`, by what stands behind it and how many groups began before.
 abbrev pub open_sign : ℕ → ℕ → List ℕ → Sign
 open_sign groups at [] = record { token = opens (Some (groups + 1)); length = 1 }
 open_sign groups at (b ∷ []) =
-    if b == question then record { token = broken (unsupported at); length = 1 } else record { token = opens (Some (groups + 1)); length = 1 }
+    if b == question then record { token = broken (unsupported at); length = 1 }
+    else record { token = opens (Some (groups + 1)); length = 1 }
 open_sign groups at (b ∷ c ∷ rest) =
     if not (b == question) then record { token = opens (Some (groups + 1)); length = 1 }
     else if c == colon then record { token = opens None; length = 3 }
@@ -84,7 +95,8 @@ open_sign groups at (b ∷ c ∷ rest) =
 abbrev pub count_sign : Count → ℕ → List ℕ → Sign
 count_sign count length [] = record { token = counts count; length = length }
 count_sign count length (b ∷ rest) =
-    if b == question then record { token = counts (record count { greedy = false }); length = length + 1 } else record { token = counts count; length = length }
+    if b == question then record { token = counts (record count { greedy = false }); length = length + 1 }
+    else record { token = counts count; length = length }
 
 abbrev pub sign_count : ℕ → Option ℕ → Bool → Count
 sign_count least most is_plus = record { least = least; most = most; greedy = true; is_sign = true; is_plus = is_plus }
@@ -97,7 +109,8 @@ value_of = fold (λ value digit. 10 * value + (digit - digit_zero)) 0
 -- A number to 255, with leading zeros.
 abbrev pub number : List ℕ → Option ℕ
 number [] = None
-number (digit ∷ digits) = if nat_lt 255 (value_of (digit ∷ digits)) then None else Some (value_of (digit ∷ digits))
+number (digit ∷ digits) = if nat_lt 255 (value_of (digit ∷ digits)) then None
+    else Some (value_of (digit ∷ digits))
 
 -- A count, and how many bytes stand behind its `{` up to and with the `}`.
 pub record Braces : Type 0 where
@@ -111,9 +124,11 @@ braces_between least (Some most) written = Some (record { least = least; most = 
 
 -- Behind `m,` and these digits: `}`, where there is a number or no digit.
 abbrev pub braces_to : ℕ → ℕ → List ℕ → List ℕ → Option Braces
-braces_to least written [] rest = if begins_with brace_close rest then Some (record { least = least; most = None; length = written + 1 }) else None
+braces_to least written [] rest = if begins_with brace_close rest
+    then Some (record { least = least; most = None; length = written + 1 }) else None
 braces_to least written (digit ∷ digits) rest =
-    if begins_with brace_close rest then braces_between least (number (digit ∷ digits)) (written + length (digit ∷ digits) + 1) else None
+    if begins_with brace_close rest then braces_between least (number (digit ∷ digits))
+    (written + length (digit ∷ digits) + 1) else None
 
 abbrev pub digits_of : List ℕ → List ℕ
 digits_of text = take (prefix_len is_ascii_digit text) text
@@ -138,10 +153,12 @@ falls braces = elim braces.most [ Some most ↦ nat_lt most braces.least | None 
 
 -- A `{` that begins no count is a byte, but for `{,`.
 abbrev pub brace_sign : ℕ → List ℕ → Option Braces → Sign
-brace_sign at rest None = record { token = if begins_with comma rest then broken (unsupported at) else item (byte brace_open); length = 1 }
+brace_sign at rest None =
+    record { token = if begins_with comma rest then broken (unsupported at) else item (byte brace_open); length = 1 }
 brace_sign at rest (Some braces) =
     if falls braces then record { token = broken (wrong_syntax at); length = 1 }
-    else count_sign (record { least = braces.least; most = braces.most; greedy = true; is_sign = false; is_plus = false })
+    else count_sign
+    (record { least = braces.least; most = braces.most; greedy = true; is_sign = false; is_plus = false })
     (braces.length + 1) (drop braces.length rest)
 
 -- ---- all signs
@@ -174,7 +191,8 @@ tokens_from nocase passed groups at [] = []
 tokens_from nocase (suc passed) groups at (b ∷ rest) = tokens_from nocase passed groups (at + 1) rest
 tokens_from nocase zero groups at (b ∷ rest) =
     record { at = at; token = (sign_at nocase groups at b rest).token }
-    ∷ tokens_from nocase ((sign_at nocase groups at b rest).length - 1) (groups_with (sign_at nocase groups at b rest).token groups) (at + 1) rest
+    ∷ tokens_from nocase ((sign_at nocase groups at b rest).length - 1)
+    (groups_with (sign_at nocase groups at b rest).token groups) (at + 1) rest
 
 abbrev pub tokens_of : Bool → List ℕ → List Placed
 tokens_of nocase text = tokens_from nocase 0 0 0 text

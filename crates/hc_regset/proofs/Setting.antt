@@ -1,19 +1,23 @@
 -- Automata of sets, made of automata of sets.
-use Rattle.hc_regset.proofs.Common.{◌≡◌, ◌↔◌, ℕ, Bool, not, IsTrue, List, [], ◌∷◌, None, Some, Err, map, drop, length, get_or, sym, refl, ap, ◌∙◌, subst, inl, inr, ⊎_elim, ◌+◌, ◌<◌, Accepts, kept, product_of, Form, form_of, put_of}
+use Rattle.hc_regset.proofs.Common.{◌≡◌, ◌↔◌, ℕ, Bool, not, IsTrue, List, [], ◌∷◌, None, Some, Err}
+use Rattle.hc_regset.proofs.Common.{map, drop, length, get_or, sym, refl, ap, ◌∙◌, subst, inl, inr, ⊎_elim}
+use Rattle.hc_regset.proofs.Common.{◌+◌, ◌<◌, Accepts, kept, product_of, Form, form_of, put_of}
 use Rattle.std.specs.List.{fold}
 use Rattle.std.specs.Option.{option_or}
-use Rattle.std.proofs.lemmas.Bool.{and_from, and_parts, both_ways, false_from_ne_true, not-true, not_from_false, or_cases, or_left, or_right}
+use Rattle.std.proofs.lemmas.Bool.{and_from, and_parts, both_ways, false_from_ne_true, not-true, not_from_false}
+use Rattle.std.proofs.lemmas.Bool.{or_cases, or_left, or_right}
 use Rattle.hc_base.specs.declared.fault.AtByte.{AtByte}
 use Rattle.hc_base.specs.declared.fault.Fault.{Fault}
 use Rattle.hc_base.specs.declared.fault.Fault.TheVariants.{NoMemory, Refused}
 use Rattle.hc_dfa.specs.Automata.{Automaton, accepts}
 use Rattle.hc_dfa.specs.declared.products.Keep.{Keep}
 use Rattle.hc_dfa.specs.declared.products.Keep.TheVariants.{Both, Either, FirstOnly}
-use Rattle.hc_model.specs.declared.claim.SetForm.{SetForm}
+use Rattle.hc_scope.specs.declared.form.SetForm.{SetForm}
 use Rattle.std.proofs.lemmas.List.{drop_more}
 use Rattle.hc_regset.specs.Sets.{GivesSet, Has, IsSetOf, refusal}
 
-kept_is : (keep : Keep) (F G : Form) (text : List ℕ) (x y z : Bool) → IsTrue x ↔ Has F text → IsTrue y ↔ Has G text
+kept_is : (keep : Keep) (F G : Form) (text : List ℕ) (x y z : Bool) → IsTrue x ↔ Has F text → IsTrue y
+    ↔ Has G text
     → z ≡ kept keep x y → IsTrue z ↔ Has (put_of keep F G) text
 kept_is Both F G text x y z h k e =
     ((λ t. let p = and_parts x y (sym e ∙ t) in (h.0 p.0, k.0 p.1)), (λ p. e ∙ and_from x y (h.1 p.0) (k.1 p.1)))
@@ -61,7 +65,8 @@ pub record IsSoFar (keep : Keep) (a : Automaton) (left : List Form) (whole : For
   pub makes : fold (put_of keep) form left ≡ whole
 
 pub so_far_put : (keep : Keep) (a b made : Automaton) (G : Form) (left : List Form) (whole : Form)
-    → IsSoFar keep a (G ∷ left) whole → IsSetOf G b → Accepts made (product_of keep a b) → IsSoFar keep made left whole
+    → IsSoFar keep a (G ∷ left) whole → IsSetOf G b → Accepts made (product_of keep a b)
+    → IsSoFar keep made left whole
 so_far_put keep a b made G left whole h g is =
     record { form = put_of keep h.form G; set = put_set keep h.form G a b made h.set g is; makes = h.makes }
 

@@ -1,5 +1,7 @@
 -- The automata of one state.
-use Rattle.hc_regset.proofs.Common.{◌≡◌, ℕ, ◌+◌, ◌*◌, ◌<◌, Bool, false, List, [], ◌∷◌, replicate, slice_index, slice_index_or, sym, refl, ap, ◌∙◌, subst, arith, Accepts}
+use Rattle.hc_regset.proofs.Common.{◌≡◌, ℕ, ◌+◌, ◌*◌, ◌<◌, Bool, false, List, [], ◌∷◌}
+use Rattle.hc_regset.proofs.Common.{replicate, slice_index, slice_index_or, sym, refl, ap, ◌∙◌, subst, arith}
+use Rattle.hc_regset.proofs.Common.{Accepts}
 use Rattle.std.proofs.lemmas.List.{get_or-replicate}
 use Rattle.hc_dfa.specs.Automata.{Automaton, IsTable, accepts, run}
 use Rattle.hc_dfa.specs.Texts.{IsText}
@@ -32,5 +34,6 @@ answers : (answer : Bool) → Accepts (constant answer) (λ text. answer)
 unfolding accepts
 answers answer text bytes = ap (λ state. slice_index_or (answer ∷ []) state false) (stays answer text bytes)
 
-pub constant_accepts : (answer : Bool) (made : Automaton) → made ≡ constant answer → Accepts made (λ text. answer)
+pub constant_accepts : (answer : Bool) (made : Automaton) → made ≡ constant answer
+    → Accepts made (λ text. answer)
 constant_accepts answer made e = subst (λ a. Accepts a (λ text. answer)) (sym e) (answers answer)

@@ -1,8 +1,8 @@
 -- Sets of texts, as they are written.
 use Rattle.std.specs.Prelude.{ℕ, List}
 use Rattle.std.specs.List.{fold}
-use Rattle.hc_model.specs.declared.claim.SetForm.{SetForm, fold-SetForm}
-use Rattle.hc_model.specs.declared.claim.SetForm.TheOpen.{SetForm-F}
+use Rattle.hc_scope.specs.declared.form.SetForm.{SetForm, fold-SetForm}
+use Rattle.hc_scope.specs.declared.form.SetForm.TheOpen.{SetForm-F}
 
 -- Every text, no text, one text, the texts that a pattern is found in, and what two sets have: both, either,
 -- or the first without the second.

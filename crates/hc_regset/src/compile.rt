@@ -6,9 +6,9 @@ ghost use Rattle.hc_regset.specs.Sets.{GivesSet, IsSetOf};
 use crate::automata::{constant, kept};
 use hc_base::{AtByte, Boxed, Fault, List, NoMemory};
 use hc_dfa::{Dfa, Keep, single};
-use hc_model::SetForm;
 use hc_pat_lang::matched;
 use hc_pattern::parse_pattern;
+use hc_scope::SetForm;
 use std::alloc::Global;
 
 /// Why a set is not made: memory was refused, or a pattern is not read, by the rule (13 to 16) that it

@@ -29,7 +29,8 @@ not_matched rule left = told (event.Rule (rule_spot rule) false) (attempted fals
 
 unfoldable pub matched : Context → Looks → Rule → Bool → Rewritten → Step Outcome Attempt
 matched context looks rule followed before =
-    say (event.Rule (rule_spot rule) true) (applied context looks rule followed before >>= λ left. leaves (attempted true left))
+    say (event.Rule (rule_spot rule) true)
+    (applied context looks rule followed before >>= λ left. leaves (attempted true left))
 
 unfoldable pub if_tested : Context → Looks → Rule → Bool → Rewritten → Tested → Step Outcome Attempt
 if_tested context looks rule followed before tested =
@@ -41,17 +42,18 @@ abbrev pub groups_of : Bool → Option Matched → Option Matched
 groups_of true found = None
 groups_of false found = found
 
-abbrev pub with_groups : Rule → Option Matched → RwState → RwState
-with_groups rule found state = record state { groups = groups_of rule.negated found; cond_groups = None }
+abbrev pub with_found : Rule → Option Matched → RwState → RwState
+with_found rule found state = record state { groups = groups_of rule.negated found; cond_groups = None }
 
 unfoldable pub pattern_held : Context → Looks → Rule → Bool → Rewritten → Step Outcome Attempt
 pattern_held context looks rule followed before =
     conds_tried context looks before.state rule.conds >>= if_tested context looks rule followed before
 
-unfoldable pub pattern_tried : Context → Looks → Rule → Bool → Rewritten → Option Matched → Step Outcome Attempt
+unfoldable pub pattern_tried : Context → Looks → Rule → Bool → Rewritten → Option Matched
+    → Step Outcome Attempt
 pattern_tried context looks rule followed before found =
     if counted rule.negated (is_found found)
-    then pattern_held context looks rule followed (with_state before (with_groups rule found before.state))
+    then pattern_held context looks rule followed (with_state before (with_found rule found before.state))
     else not_matched rule before
 
 -- What the pattern of a rule finds: in a server in the text that is rewritten.

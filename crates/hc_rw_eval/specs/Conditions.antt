@@ -1,6 +1,7 @@
 -- The conditions of a rule.
 -- Apache manual, mod_rewrite, RewriteCond. What `-f` and `-d` look at is our own choice.
-use Rattle.std.specs.Prelude.{ℕ, List, [], ◌∷◌, Bool, true, false, not, ◌&&◌, if◌then◌else◌, Option, Some, None}
+use Rattle.std.specs.Prelude.{ℕ, List, [], ◌∷◌, Bool, true, false, not, ◌&&◌, if◌then◌else◌, Option}
+use Rattle.std.specs.Prelude.{Some, None}
 use Rattle.std.specs.Str.{bytes_eq, str_eq_ignore_ascii_case}
 use Rattle.hc_base.specs.Paths.{begins_with_slash, has_dots, merge_slashes, without_final_slash}
 use Rattle.hc_model.specs.declared.event.Event.TheVariants as event
@@ -116,23 +117,26 @@ abbrev pub into_group : Cond → List (List Cond) → List (List Cond)
 into_group cond [] = (cond ∷ []) ∷ []
 into_group cond (group ∷ groups) = (cond ∷ group) ∷ groups
 
-abbrev pub groups_of : List Cond → List (List Cond)
-groups_of [] = []
-groups_of (cond ∷ conds) = if cond.or_next then into_group cond (groups_of conds) else (cond ∷ []) ∷ groups_of conds
+abbrev pub or_groups : List Cond → List (List Cond)
+or_groups [] = []
+or_groups (cond ∷ conds) =
+    if cond.or_next then into_group cond (or_groups conds) else (cond ∷ []) ∷ or_groups conds
 
 abbrev pub tested_so_far : Bool → RwState → Tested
 tested_so_far holds state = record { holds = holds; state = state }
 
 -- Once a member of a group holds the others are skipped.
 unfoldable pub unless_held : Context → Looks → Tested → Cond → Step Outcome Tested
-unless_held context looks tested cond = if tested.holds then leaves tested else cond_tried context looks tested.state cond
+unless_held context looks tested cond =
+    if tested.holds then leaves tested else cond_tried context looks tested.state cond
 
 unfoldable pub group_tried : Context → Looks → RwState → List Cond → Step Outcome Tested
 group_tried context looks state group = in_order (unless_held context looks) (tested_so_far false state) group
 
 -- All groups have to hold. Behind one that does not none is tried.
 unfoldable pub while_held : Context → Looks → Tested → List Cond → Step Outcome Tested
-while_held context looks tested group = if tested.holds then group_tried context looks tested.state group else leaves tested
+while_held context looks tested group =
+    if tested.holds then group_tried context looks tested.state group else leaves tested
 
 unfoldable pub conds_tried : Context → Looks → RwState → List Cond → Step Outcome Tested
-conds_tried context looks state conds = in_order (while_held context looks) (tested_so_far true state) (groups_of conds)
+conds_tried context looks state conds = in_order (while_held context looks) (tested_so_far true state) (or_groups conds)

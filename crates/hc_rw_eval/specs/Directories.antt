@@ -1,7 +1,9 @@
 -- Texts in the rules of a directory.
--- Apache manual, mod_rewrite: RewriteRule, "What is matched?"; RewriteBase. What path information does, and that a document root is
+-- Apache manual, mod_rewrite: RewriteRule, "What is matched?"; RewriteBase. What path information does, and that a
+-- document root is
 -- taken off, is our own choice.
-use Rattle.std.specs.Prelude.{ℕ, List, [], ◌∷◌, ◌++◌, length, drop, nat_eq, if◌then◌else◌, Option, Some, None, unwrap_or}
+use Rattle.std.specs.Prelude.{ℕ, List, [], ◌∷◌, ◌++◌, length, drop, nat_eq, if◌then◌else◌, Option}
+use Rattle.std.specs.Prelude.{Some, None, unwrap_or}
 use Rattle.std.specs.List.{starts_with}
 use Rattle.hc_base.specs.Bytes.{slash}
 use Rattle.hc_base.specs.Paths.{ends_with_slash}

@@ -1,7 +1,8 @@
 -- The run of a list of rules.
--- Apache manual, "Apache mod_rewrite Technical Details", "Ruleset Processing"; "RewriteRule Flags": C, S, N, L, END, PT. The bound of
--- rounds, and that N at its bound ends the request, are our own choice.
-use Rattle.std.specs.Prelude.{ℕ, zero, suc, ◌+◌, ◌==◌, List, [], ◌∷◌, length, Bool, true, false, not, ◌||◌, nat_le, max, if◌then◌else◌}
+-- Apache manual, "Apache mod_rewrite Technical Details", "Ruleset Processing"; "RewriteRule Flags": C, S, N, L, END,
+-- PT. The bound of rounds, and that N at its bound ends the request, are our own choice.
+use Rattle.std.specs.Prelude.{ℕ, zero, suc, ◌+◌, ◌==◌, List, [], ◌∷◌, length, Bool, true, false, not}
+use Rattle.std.specs.Prelude.{◌||◌, nat_le, max, if◌then◌else◌}
 use Rattle.std.specs.Prelude.{take_while}
 use Rattle.std.specs.List.{fold}
 use Rattle.hc_model.specs.declared.event.Event.TheVariants as event
@@ -14,6 +15,7 @@ use Rattle.hc_rw_eval.specs.Attempts.{attempt}
 use Rattle.hc_rw_eval.specs.declared.attempt.Attempt.{Attempt}
 use Rattle.hc_rw_eval.specs.declared.attempt.Rewritten.{Rewritten}
 use Rattle.hc_rw_eval.specs.declared.run.Finished.{Finished}
+use Rattle.hc_rw_eval.specs.declared.run.NextRound.{NextRound}
 use Rattle.hc_rw_eval.specs.declared.run.Round.{Round}
 use Rattle.hc_rw_eval.specs.declared.run.Round.TheVariants.{Again, Over}
 use Rattle.hc_rw_expand.specs.Contexts.{Context}
@@ -43,19 +45,26 @@ skipped_chain rule rules = if has_chain rule then length (take_while has_chain r
 abbrev pub stops_run : Flags → Bool
 stops_run flags = flags.pass || (flags.last || flags.end)
 
+-- What a further round begins with.
+abbrev pub next_by : Rule → Rewritten → NextRound
+next_by rule left = record { left = left; place = rule.place; bound = rule.flags.rounds }
+
 -- N in a round that is the rule's bound ends the request; before it the list begins again.
-unfoldable pub begun_again : Flags → ℕ → Rewritten → Step Outcome Round
-begun_again flags round left = if nat_le flags.rounds round then ends (Limit Rounds) else leaves (Again left)
+unfoldable pub begun_again : Rule → ℕ → Rewritten → Step Outcome Round
+begun_again rule round left =
+    if nat_le rule.flags.rounds round then ends (Limit Rounds) else leaves (Again (next_by rule left))
 
 -- Behind a rule that matched: over, begun again, or so many rules are skipped.
-unfoldable pub behind_match : (ℕ → Rewritten → Step Outcome Round) → Flags → ℕ → Rewritten → Step Outcome Round
-behind_match further flags round left =
-    if stops_run flags then leaves (over flags.pass (with_end flags.end left))
-    else (if flags.next then begun_again flags round left else further flags.skip left)
+unfoldable pub behind_match : (ℕ → Rewritten → Step Outcome Round) → Rule → ℕ → Rewritten
+    → Step Outcome Round
+behind_match further rule round left =
+    if stops_run rule.flags then leaves (over rule.flags.pass (with_end rule.flags.end left))
+    else (if rule.flags.next then begun_again rule round left else further rule.flags.skip left)
 
-unfoldable pub behind : (ℕ → Rewritten → Step Outcome Round) → Rule → List Rule → ℕ → Attempt → Step Outcome Round
-behind further rule rules round attempt =
-    if attempt.matched then behind_match further rule.flags round attempt.left
+unfoldable pub behind_attempt : (ℕ → Rewritten → Step Outcome Round) → Rule → List Rule → ℕ → Attempt
+    → Step Outcome Round
+behind_attempt further rule rules round attempt =
+    if attempt.matched then behind_match further rule round attempt.left
     else further (skipped_chain rule rules) attempt.left
 
 -- ---- a round
@@ -69,7 +78,7 @@ from_place context looks round skipped [] left = leaves (over false left)
 from_place context looks round (suc skipped) (rule ∷ rules) left = from_place context looks round skipped rules left
 from_place context looks round zero (rule ∷ rules) left =
     attempt context looks rule (is_followed rules) left
-    >>= behind (λ skipped left. from_place context looks round skipped rules left) rule rules round
+    >>= behind_attempt (λ skipped left. from_place context looks round skipped rules left) rule rules round
 
 -- ---- all rounds
 
@@ -80,7 +89,7 @@ most_rounds rules = fold (λ most rule. max most rule.flags.rounds) 1 rules
 -- Behind a round: over, or begun again.
 unfoldable pub next_round : (ℕ → Rewritten → Step Outcome Finished) → ℕ → Round → Step Outcome Finished
 next_round further round (Over finished) = leaves finished
-next_round further round (Again left) = say (event.Round (round + 1)) (further (round + 1) left)
+next_round further round (Again next) = say (event.Round (round + 1)) (further (round + 1) next.left)
 
 -- So many rounds at most, from this one on.
 unfoldable pub rounds_from : ℕ → Context → Looks → List Rule → ℕ → Rewritten → Step Outcome Finished

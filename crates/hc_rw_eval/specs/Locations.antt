@@ -1,7 +1,9 @@
 -- Where a substitution leads: a path of the server's own, or a location that the request is sent to.
--- Apache manual, mod_rewrite, RewriteRule ("Substitution"); "RewriteRule Flags": R, NE. Which schemes are outside, and when a
+-- Apache manual, mod_rewrite, RewriteRule ("Substitution"); "RewriteRule Flags": R, NE. Which schemes are outside, and
+-- when a
 -- query is escaped, is our own choice.
-use Rattle.std.specs.Prelude.{ℕ, ◌==◌, List, [], ◌∷◌, ◌++◌, length, drop, Bool, true, false, ◌&&◌, ◌||◌, if◌then◌else◌, codes}
+use Rattle.std.specs.Prelude.{ℕ, ◌==◌, List, [], ◌∷◌, ◌++◌, length, drop, Bool, true, false, ◌&&◌}
+use Rattle.std.specs.Prelude.{◌||◌, if◌then◌else◌, codes}
 use Rattle.std.specs.Prelude.{Option, Some, None}
 use Rattle.std.specs.Char.{is_ascii_alphabetic, is_ascii_alphanumeric}
 use Rattle.std.specs.List.{before_first, starts_with}
@@ -60,7 +62,8 @@ or_slash (b ∷ bs) = b ∷ bs
 -- What follows the authority, which ends before the first slash.
 abbrev pub path_behind : Caller → List ℕ → Option (List ℕ)
 path_behind caller rest =
-    if is_own caller (before_first is_slash rest) then Some (or_slash (drop (length (before_first is_slash rest)) rest)) else None
+    if is_own caller (before_first is_slash rest) then Some (or_slash (drop (length (before_first is_slash rest)) rest))
+    else None
 
 -- The path of a URL of the server's own: the scheme of the request without case, and an authority of the server.
 abbrev pub own_path : Caller → List ℕ → Option (List ℕ)

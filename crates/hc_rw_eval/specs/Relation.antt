@@ -1,7 +1,7 @@
--- The run of a list of rules in a world, as a relation: what the first rule that is left does, what follows it, and what follows
--- a round.
--- Apache manual, "Apache mod_rewrite Technical Details", "Ruleset Processing"; "RewriteRule Flags": C, S, N, L, END, PT. The bound of
--- rounds, and that N at its bound ends the request, are our own choice.
+-- The run of a list of rules in a world, as a relation: what the first rule that is left does, what follows it, and
+-- what follows a round.
+-- Apache manual, "Apache mod_rewrite Technical Details", "Ruleset Processing"; "RewriteRule Flags": C, S, N, L, END,
+-- PT. The bound of rounds, and that N at its bound ends the request, are our own choice.
 use Rattle.std.specs.Prelude.{◌≡◌, ℕ, zero, suc, ◌+◌, ◌<◌, ◌≤◌, List, [], ◌∷◌, true, false}
 use Rattle.hc_model.specs.declared.event.Event.TheVariants as event
 use Rattle.hc_model.specs.declared.outcome.LimitKind.TheVariants.{Rounds}
@@ -9,9 +9,11 @@ use Rattle.hc_model.specs.declared.outcome.Outcome.{Outcome}
 use Rattle.hc_model.specs.declared.outcome.Outcome.TheVariants.{Limit}
 use Rattle.hc_model.specs.declared.rewrite.Rule.{Rule}
 use Rattle.hc_rw_eval.specs.Attempts.{attempt, attempted}
-use Rattle.hc_rw_eval.specs.Lists.{begun, from_place, is_followed, over, run_rules, skipped_chain, stops_run, with_end}
+use Rattle.hc_rw_eval.specs.Lists.{begun, from_place, is_followed, next_by, over, run_rules, skipped_chain, stops_run}
+use Rattle.hc_rw_eval.specs.Lists.{with_end}
 use Rattle.hc_rw_eval.specs.declared.attempt.Attempt.{Attempt}
 use Rattle.hc_rw_eval.specs.declared.attempt.Rewritten.{Rewritten}
+use Rattle.hc_rw_eval.specs.declared.run.NextRound.{NextRound}
 use Rattle.hc_rw_eval.specs.declared.run.Round.{Round}
 use Rattle.hc_rw_eval.specs.declared.run.Finished.{Finished}
 use Rattle.hc_rw_eval.specs.declared.run.Round.TheVariants.{Again, Over}
@@ -31,11 +33,13 @@ module _ (context : Context) (looks : Looks) (shown : Shown) where
     no_rule : {skipped : ℕ} {left : Rewritten} → Comes round [] skipped left (run (leaves (over false left)) shown)
     skipped_rule : {rule : Rule} {rest : List Rule} {skipped : ℕ} {left : Rewritten} {further : Run Outcome Round}
         → Comes round rest skipped left further → Comes round (rule ∷ rest) (suc skipped) left further
-    answered : {rule : Rule} {rest : List Rule} {left : Rewritten} {end : Outcome} → (tried rule rest left).way ≡ is_over end
+    answered : {rule : Rule} {rest : List Rule} {left : Rewritten} {end : Outcome}
+        → (tried rule rest left).way ≡ is_over end
         → Comes round (rule ∷ rest) zero left (behind (tried rule rest left) (run (ends end) shown))
     -- C skips the rules of its chain.
     unmatched : {rule : Rule} {rest : List Rule} {left next : Rewritten} {further : Run Outcome Round}
-        → (tried rule rest left).way ≡ goes_on (attempted false next) → Comes round rest (skipped_chain rule rest) next further
+        → (tried rule rest left).way ≡ goes_on (attempted false next)
+        → Comes round rest (skipped_chain rule rest) next further
         → Comes round (rule ∷ rest) zero left (behind (tried rule rest left) further)
     -- L, END or PT.
     stopped : {rule : Rule} {rest : List Rule} {left next : Rewritten}
@@ -46,7 +50,8 @@ module _ (context : Context) (looks : Looks) (shown : Shown) where
     again : {rule : Rule} {rest : List Rule} {left next : Rewritten}
         → (tried rule rest left).way ≡ goes_on (attempted true next) → stops_run rule.flags ≡ false
         → rule.flags.next ≡ true → round < rule.flags.rounds
-        → Comes round (rule ∷ rest) zero left (behind (tried rule rest left) (run (leaves (Again next)) shown))
+        → Comes round (rule ∷ rest) zero left
+        (behind (tried rule rest left) (run (leaves (Again (next_by rule next))) shown))
     at_bound : {rule : Rule} {rest : List Rule} {left next : Rewritten}
         → (tried rule rest left).way ≡ goes_on (attempted true next) → stops_run rule.flags ≡ false
         → rule.flags.next ≡ true → rule.flags.rounds ≤ round
@@ -66,18 +71,25 @@ module _ (context : Context) (looks : Looks) (shown : Shown) where
         → Comes round rules 0 left once → once.way ≡ goes_on (Over finished)
         → Finishes rules round left (behind once (run (leaves finished) shown))
     -- N begins the next round.
-    next_round : {round : ℕ} {left next : Rewritten} {once : Run Outcome Round} {further : Run Outcome Finished}
-        → Comes round rules 0 left once → once.way ≡ goes_on (Again next) → Finishes rules (round + 1) next further
+    next_round : {round : ℕ} {left : Rewritten} {next : NextRound} {once : Run Outcome Round}
+        {further : Run Outcome Finished}
+        → Comes round rules 0 left once → once.way ≡ goes_on (Again next)
+        → Finishes rules (round + 1) next.left further
         → Finishes rules round left (behind once (saying (event.Round (round + 1)) further))
 
 -- A round from a place is one that the rules come to.
 abbrev pub RunIsRelated : Type 0
-RunIsRelated = (context : Context) (looks : Looks) (shown : Shown) (round : ℕ) (rules : List Rule) (skipped : ℕ) (left : Rewritten)
-    → Comes context looks shown round rules skipped left (run (from_place context looks round skipped rules left) shown)
+RunIsRelated =
+    (context : Context) (looks : Looks) (shown : Shown) (round : ℕ) (rules : List Rule) (skipped : ℕ)
+    (left : Rewritten)
+    → Comes context looks shown round rules skipped left
+    (run (from_place context looks round skipped rules left) shown)
 
 -- Rules come to one run.
 abbrev pub OneRun : Type 0
-OneRun = (context : Context) (looks : Looks) (shown : Shown) (round : ℕ) (rules : List Rule) (skipped : ℕ) (left : Rewritten)
+OneRun =
+    (context : Context) (looks : Looks) (shown : Shown) (round : ℕ) (rules : List Rule) (skipped : ℕ)
+    (left : Rewritten)
     (one other : Run Outcome Round) → Comes context looks shown round rules skipped left one
     → Comes context looks shown round rules skipped left other → one ≡ other
 

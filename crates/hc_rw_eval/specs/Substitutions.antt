@@ -1,7 +1,8 @@
 -- What a rule that matches does: its variables, its status and its substitution.
--- Apache manual, mod_rewrite: RewriteRule; RewriteBase; "RewriteRule Flags". The order of variables and substitution, the longest text,
--- and what is outside, are our own choice.
-use Rattle.std.specs.Prelude.{ℕ, ◌==◌, List, [], ◌++◌, length, Bool, true, false, not, ◌&&◌, ◌||◌, nat_lt, if◌then◌else◌}
+-- Apache manual, mod_rewrite: RewriteRule; RewriteBase; "RewriteRule Flags". The order of variables and substitution,
+-- the longest text, and what is outside, are our own choice.
+use Rattle.std.specs.Prelude.{ℕ, ◌==◌, List, [], ◌++◌, length, Bool, true, false, not, ◌&&◌, ◌||◌}
+use Rattle.std.specs.Prelude.{nat_lt, if◌then◌else◌}
 use Rattle.std.specs.Prelude.{Option, Some, None, is_some, Result, Ok, Err}
 use Rattle.hc_base.specs.Paths.{begins_with_slash}
 use Rattle.hc_model.specs.declared.event.Event.TheVariants as event
@@ -41,18 +42,19 @@ abbrev pub without_variable : List ℕ → RwState → RwState
 without_variable name state = with_variable name [] state
 
 unfoldable pub set_to : RwState → List ℕ → List ℕ → Step Outcome RwState
-set_to state name value = if is_long value then ends (outcome.Outside LongText) else leaves (with_variable name value state)
+set_to state name value =
+    if is_long value then ends (outcome.Outside LongText) else leaves (with_variable name value state)
 
 unfoldable pub set_by : Context → Looks → RwState → List ℕ → Option (List Piece) → Step Outcome RwState
 set_by context looks state name None = leaves (without_variable name state)
 set_by context looks state name (Some value) = expanded looks (filling_in context state) value >>= set_to state name
 
-unfoldable pub variable_set : Context → Looks → RwState → EnvSet → Step Outcome RwState
-variable_set context looks state set = set_by context looks state set.name set.value
+unfoldable pub with_set : Context → Looks → RwState → EnvSet → Step Outcome RwState
+with_set context looks state set = set_by context looks state set.name set.value
 
 -- One after another, each from the state that the ones before it leave.
 unfoldable pub variables_set : Context → Looks → RwState → List EnvSet → Step Outcome RwState
-variables_set context looks state sets = in_order (variable_set context looks) state sets
+variables_set context looks state sets = in_order (with_set context looks) state sets
 
 -- ---- statuses
 
@@ -86,16 +88,16 @@ sent flags followed location =
 abbrev pub location_of : Context → Flags → List ℕ → RwState → List ℕ
 location_of context flags front state = location flags.noescape front state.text context.first_query state.query
 
-abbrev pub rewritten : RwState → Rewritten
-rewritten state = record { state = state; substituted = true }
+abbrev pub substituted_by : RwState → Rewritten
+substituted_by state = record { state = state; substituted = true }
 
-unfoldable pub left : RwState → Step Outcome Rewritten
-left state = told (event.Text state.text state.query) (rewritten state)
+unfoldable pub told_text : RwState → Step Outcome Rewritten
+told_text state = told (event.Text state.text state.query) (substituted_by state)
 
 -- A URL of the server's own loses its scheme and name, unless R is there.
 unfoldable pub url_placed : Context → Flags → Bool → RwState → Option (List ℕ) → Step Outcome Rewritten
 url_placed context flags followed state None = sent flags followed (location_of context flags [] state)
-url_placed context flags followed state (Some path) = left (record state { text = path })
+url_placed context flags followed state (Some path) = told_text (record state { text = path })
 
 abbrev pub own_unless : Bool → Option (List ℕ) → Option (List ℕ)
 own_unless true path = None
@@ -108,7 +110,8 @@ base_front (Some base) = Ok (with_slash base)
 
 -- Without RewriteBase a text in a directory that does not come from the document root is outside.
 abbrev pub dir_front : Engine → Result (List ℕ) Reason
-dir_front engine = if engine.aliased && not (is_some engine.base) then Err RelativeUnderAlias else Ok (with_slash engine.dir)
+dir_front engine =
+    if engine.aliased && not (is_some engine.base) then Err RelativeUnderAlias else Ok (with_slash engine.dir)
 
 -- What a relative text is put behind, by whether R is there. In a server it stays, and a redirect is outside.
 abbrev pub front_of : Option Engine → Bool → Result (List ℕ) Reason
@@ -137,9 +140,10 @@ path_location context flags state = location_of context flags (origin context.ca
 
 unfoldable pub path_placed : Context → Flags → Bool → RwState → Step Outcome Rewritten
 path_placed context flags followed state =
-    if redirects flags then sent flags followed (path_location context flags state) else left state
+    if redirects flags then sent flags followed (path_location context flags state) else told_text state
 
-unfoldable pub front_placed : Context → Flags → Bool → RwState → Result (List ℕ) Reason → Step Outcome Rewritten
+unfoldable pub front_placed : Context → Flags → Bool → RwState → Result (List ℕ) Reason
+    → Step Outcome Rewritten
 front_placed context flags followed state (Err reason) = ends (outcome.Outside reason)
 front_placed context flags followed state (Ok front) = path_placed context flags followed (with_front front state)
 
@@ -171,14 +175,17 @@ unfoldable pub text_made : Context → Flags → Bool → RwState → List ℕ �
 text_made context flags followed state text = unless_long context flags followed (with_text flags state text)
 
 -- With `-` the text, the query and the path information stay.
-unfoldable pub substituted : Context → Looks → Flags → Bool → Rewritten → Option (List Piece) → Step Outcome Rewritten
+unfoldable pub substituted : Context → Looks → Flags → Bool → Rewritten → Option (List Piece)
+    → Step Outcome Rewritten
 substituted context looks flags followed before None = leaves before
 substituted context looks flags followed before (Some template) =
     expanded looks (filling_in context before.state) template >>= text_made context flags followed before.state
 
-unfoldable pub unless_answered : Context → Looks → Rule → Bool → Rewritten → Option ℕ → Step Outcome Rewritten
+unfoldable pub unless_answered : Context → Looks → Rule → Bool → Rewritten → Option ℕ
+    → Step Outcome Rewritten
 unless_answered context looks rule followed before (Some status) = ends (outcome.Status status)
-unless_answered context looks rule followed before None = substituted context looks rule.flags followed before rule.subst
+unless_answered context looks rule followed before None =
+    substituted context looks rule.flags followed before rule.subst
 
 -- ---- a rule that matches
 

@@ -4,11 +4,10 @@ use Rattle.hc_model.specs.declared.event.Event.TheVariants as event
 use Rattle.hc_model.specs.declared.outcome.LimitKind.TheVariants.{Rounds}
 use Rattle.hc_model.specs.declared.outcome.Outcome.{Outcome}
 use Rattle.hc_model.specs.declared.outcome.Outcome.TheVariants.{Limit}
-use Rattle.hc_model.specs.declared.rewrite.Flags.{Flags}
 use Rattle.hc_model.specs.declared.rewrite.Rule.{Rule}
 use Rattle.hc_rw_eval.specs.Attempts.{groups_of, pattern_held, rule_spot}
 use Rattle.hc_rw_eval.specs.Conditions.{counted, is_found}
-use Rattle.hc_rw_eval.specs.Lists.{is_followed, over, skipped_chain, stops_run, with_end}
+use Rattle.hc_rw_eval.specs.Lists.{is_followed, next_by, over, skipped_chain, stops_run, with_end}
 use Rattle.hc_rw_eval.specs.declared.attempt.Attempt.{Attempt}
 use Rattle.hc_rw_eval.specs.declared.attempt.Looked.{Looked}
 use Rattle.hc_rw_eval.specs.declared.attempt.Looked.TheVariants.{Failed, Held}
@@ -30,16 +29,16 @@ looked rule found =
 abbrev pub with_groups : Option Matched → Rewritten → Rewritten
 with_groups groups before = record before { state = record before.state { groups = groups; cond_groups = None } }
 
-unfoldable pub turned_match : Flags → ℕ → Rewritten → Step Outcome Turn
-turned_match flags round left =
-    if stops_run flags then leaves (Ended (over flags.pass (with_end flags.end left)))
-    else (if flags.next
-    then (if nat_le flags.rounds round then ends (Limit Rounds) else leaves (Ended (Again left)))
-    else leaves (Further flags.skip left))
+unfoldable pub turned_match : Rule → ℕ → Rewritten → Step Outcome Turn
+turned_match rule round left =
+    if stops_run rule.flags then leaves (Ended (over rule.flags.pass (with_end rule.flags.end left)))
+    else (if rule.flags.next
+    then (if nat_le rule.flags.rounds round then ends (Limit Rounds) else leaves (Ended (Again (next_by rule left))))
+    else leaves (Further rule.flags.skip left))
 
 unfoldable pub turned : Rule → List Rule → ℕ → Attempt → Step Outcome Turn
 turned rule rules round attempt =
-    if attempt.matched then turned_match rule.flags round attempt.left
+    if attempt.matched then turned_match rule round attempt.left
     else leaves (Further (skipped_chain rule rules) attempt.left)
 
 unfoldable pub rule_held : Context → Looks → Rule → List Rule → ℕ → Rewritten → Step Outcome Turn

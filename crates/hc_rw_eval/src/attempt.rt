@@ -32,7 +32,7 @@ pub struct Rewritten {
 
 /// What an attempt leaves, and whether the rule matched: its pattern, negation counted, and its conditions.
 #[derive(Drop)]
-pub(crate) struct Attempt {
+pub struct Attempt {
     pub matched: bool,
     pub left: Rewritten,
 }

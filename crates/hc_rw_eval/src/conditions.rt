@@ -1,7 +1,9 @@
 //! The conditions of a rule (Apache manual, mod_rewrite, RewriteCond).
 ghost use Rattle.std.specs.Prelude.{◌≡◌, ◌<◌, ◌≤◌, IfOk, length};
-ghost use Rattle.hc_rw_eval.specs.Conditions.{by_pattern, cond_told, cond_tried, conds_tried, counted, group_tried, is_text};
-ghost use Rattle.hc_rw_eval.specs.Conditions.{newer, searched, seen_by, tested_by, text_tested, unless_held, while_held};
+ghost use Rattle.hc_rw_eval.specs.Conditions.{by_pattern, cond_told, cond_tried, conds_tried, counted, group_tried};
+ghost use Rattle.hc_rw_eval.specs.Conditions.{is_text};
+ghost use Rattle.hc_rw_eval.specs.Conditions.{newer, searched, seen_by, tested_by, text_tested, unless_held};
+ghost use Rattle.hc_rw_eval.specs.Conditions.{while_held};
 ghost use Rattle.hc_rw_eval.specs.Conditions.{without_groups};
 ghost use Rattle.hc_rw_eval.specs.Frames.{context_at, looks_at, shown_at};
 ghost use Rattle.hc_rw_eval.specs.Groups.{group_length};
@@ -22,14 +24,14 @@ use std::alloc::Global;
 
 /// What the conditions that were tried come to, and the state that they leave.
 #[derive(Drop)]
-pub(crate) struct Tested {
+pub struct Tested {
     pub holds: bool,
     pub state: RwState,
 }
 
 /// Whether a test holds before its negation, and what its pattern found.
 #[derive(Drop)]
-pub(crate) struct Seen {
+pub struct Seen {
     pub holds: bool,
     pub found: Option<Matched>,
 }

@@ -24,6 +24,7 @@ mod substitution;
 mod told;
 mod variables;
 
-pub use attempt::Rewritten;
+pub use attempt::{Attempt, Rewritten};
+pub use conditions::{Seen, Tested};
 pub use directories::url_path;
-pub use run::{Finished, RulesRun, run_rules};
+pub use run::{Finished, NextRound, Round, RulesRun, run_rules};

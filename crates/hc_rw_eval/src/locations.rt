@@ -3,7 +3,8 @@ ghost use Rattle.std.specs.Prelude.{◌≡◌, ◌≤◌, ◌++◌, IfOk, OnOk, 
 ghost use Rattle.std.specs.List.{prefix_len};
 ghost use Rattle.hc_addr.specs.Numbers.{at_most, decimal_of};
 ghost use Rattle.hc_base.specs.Paths.{is_slash};
-ghost use Rattle.hc_rw_eval.specs.Locations.{has_scheme, is_number, is_own, is_port, is_scheme_byte, location, or_slash, own_front, own_path, path_behind};
+ghost use Rattle.hc_rw_eval.specs.Locations.{has_scheme, is_number, is_own, is_port, is_scheme_byte, location};
+ghost use Rattle.hc_rw_eval.specs.Locations.{or_slash, own_front, own_path, path_behind};
 ghost use Rattle.hc_rw_eval.specs.Locations.{query_part, scheme_ends, unless_kept};
 
 use hc_addr::{HIGHEST_PORT, number_up_to};

@@ -3,8 +3,10 @@
 ghost use Rattle.std.specs.Prelude.{◌≡◌, IfOk, [], option_map};
 ghost use Rattle.hc_rw_eval.specs.Frames.{context_at, shown_at};
 ghost use Rattle.hc_rw_eval.specs.Locations.{own_path};
-ghost use Rattle.hc_rw_eval.specs.Substitutions.{base_front, dir_front, front_before, front_of, front_placed, left};
-ghost use Rattle.hc_rw_eval.specs.Substitutions.{location_of, own_unless, path_location, path_placed, redirects, sent, status_sent};
+ghost use Rattle.hc_rw_eval.specs.Substitutions.{base_front, dir_front, front_before, front_of, front_placed};
+ghost use Rattle.hc_rw_eval.specs.Substitutions.{told_text};
+ghost use Rattle.hc_rw_eval.specs.Substitutions.{location_of, own_unless, path_location, path_placed, redirects, sent};
+ghost use Rattle.hc_rw_eval.specs.Substitutions.{status_sent};
 ghost use Rattle.hc_rw_eval.specs.Substitutions.{stops, text_placed, unless_long, url_placed, with_front, with_path};
 ghost use Rattle.hc_rw_expand.specs.Contexts.{context_of, engine_of};
 ghost use Rattle.hc_steps.specs.Ran.{Ran};
@@ -88,9 +90,13 @@ fn location_of(
     )
 }
 
-#[tactic(auto, unfolding(crate::specs::Substitutions::left), using(hc_steps::proofs::Going::telling))]
-fn left<P: Lookups>(frame: &Frame<'_, P>, log: &mut Log, state: RwState) -> Result<Rewritten, Stop>
-    ensures { Ran result log.old log.new (run (left state) (shown_at frame.now)) }
+#[tactic(auto, unfolding(crate::specs::Substitutions::told_text), using(hc_steps::proofs::Going::telling))]
+fn told_text<P: Lookups>(
+    frame: &Frame<'_, P>,
+    log: &mut Log,
+    state: RwState,
+) -> Result<Rewritten, Stop>
+    ensures { Ran result log.old log.new (run (told_text state) (shown_at frame.now)) }
 {
     tell_text(log, &state)?;
     Ok(Rewritten {
@@ -117,7 +123,7 @@ fn url_placed<P: Lookups>(
         let location = location_of(frame.context, flags, front, &state)?;
         return sent(frame, log, flags, followed, location);
     };
-    left(frame, log, RwState { text, ..state })
+    told_text(frame, log, RwState { text, ..state })
 }
 
 // With R a URL of the server's own is a URL like others.
@@ -246,7 +252,7 @@ fn path_placed<P: Lookups>(
         (run (path_placed (context_at frame.now) flags.now followed state) (shown_at frame.now)) }
 {
     if !redirects(flags) {
-        return left(frame, log, state);
+        return told_text(frame, log, state);
     }
     let location = path_location(log.allocator(), frame.context, flags, state)?;
     sent(frame, log, flags, followed, location)

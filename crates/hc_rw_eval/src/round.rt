@@ -1,16 +1,17 @@
 //! One round through a list of rules (Apache manual, "RewriteRule Flags": C, S, N, L, END, PT).
-ghost use Rattle.std.specs.Prelude.{◌≡◌, ◌≤◌, drop, length, nat_le};
+ghost use Rattle.std.specs.Prelude.{◌≡◌, ◌≤◌, IfOk, drop, length, nat_le};
 ghost use Rattle.std.specs.List.{prefix_len};
 ghost use Rattle.hc_rw_eval.specs.Frames.{context_at, looks_at, shown_at};
-ghost use Rattle.hc_rw_eval.specs.Lists.{from_place, has_chain, is_followed, skipped_chain, stops_run, with_end};
+ghost use Rattle.hc_rw_eval.specs.Lists.{from_place, has_chain, is_followed, next_by, skipped_chain, stops_run};
+ghost use Rattle.hc_rw_eval.specs.Lists.{with_end};
 ghost use Rattle.hc_rw_eval.specs.Turns.{rule_held, turned, turned_match};
 ghost use Rattle.hc_steps.specs.Ran.{Ran};
 ghost use Rattle.hc_steps.specs.Run.{run};
 
 use crate::attempt::{Attempt, Looked, Rewritten, looked_in, pattern_held, with_groups};
 use crate::frame::{Frame, Stop};
-use crate::run::{Finished, Round};
-use hc_base::Fault;
+use crate::run::{Finished, NextRound, Round};
+use hc_base::{Fault, NoMemory};
 use hc_model::{Flags, LimitKind, Lookups, Outcome, Rule};
 use hc_rw_expand::RwState;
 use hc_steps::Log;
@@ -80,17 +81,29 @@ fn is_last(flags: &Flags, round: u32) -> bool
     flags.rounds <= round
 }
 
+// The round that a rule with N begins.
+fn next_by(rule: &Rule, left: Rewritten) -> Result<NextRound, NoMemory>
+    ensures { IfOk result (λ next. next ≡ next_by rule.now left) }
+{
+    Ok(NextRound {
+        place: rule.place.clone()?,
+        bound: rule.flags.rounds,
+        left,
+    })
+}
+
 // A rule that matched. N in a round that is its bound ends the request.
 #[tactic(auto, unfolding(crate::specs::Turns::turned_match), using(hc_steps::proofs::Going::telling))]
 fn turned_match<P: Lookups>(
     frame: &Frame<'_, P>,
     log: &mut Log,
-    flags: &Flags,
+    rule: &Rule,
     round: u32,
     left: Rewritten,
 ) -> Result<Turn, Stop>
-    ensures { Ran result log.old log.new (run (turned_match flags.now round left) (shown_at frame.now)) }
+    ensures { Ran result log.old log.new (run (turned_match rule.now round left) (shown_at frame.now)) }
 {
+    let flags = &rule.flags;
     if stops_run(flags) {
         return Ok(Turn::Ended(Round::Over(Finished {
             left: with_end(flags.end, left),
@@ -106,7 +119,7 @@ fn turned_match<P: Lookups>(
     if is_last(flags, round) {
         return Err(Fault::Refused(Outcome::Limit(LimitKind::Rounds)));
     }
-    Ok(Turn::Ended(Round::Again(left)))
+    Ok(Turn::Ended(Round::Again(next_by(rule, left)?)))
 }
 
 #[tactic(auto, unfolding(crate::specs::Turns::turned), using(hc_steps::proofs::Going::telling))]
@@ -126,7 +139,7 @@ fn turned<P: Lookups>(
             left: attempt.left,
         });
     }
-    turned_match(frame, log, &rule.flags, round, attempt.left)
+    turned_match(frame, log, rule, round, attempt.left)
 }
 
 fn is_followed(behind: &[Rule]) -> bool

@@ -11,7 +11,7 @@ ghost use Rattle.hc_steps.specs.Shown.{shown_by};
 use crate::attempt::Rewritten;
 use crate::frame::{Frame, Stop};
 use crate::round::from_place;
-use hc_base::{Fault, NoMemory};
+use hc_base::{Fault, NoMemory, Place};
 use hc_model::{Event, LimitKind, Lookups, Outcome, Rule};
 use hc_rw_expand::{RwContext, RwState};
 use hc_steps::Log;
@@ -31,11 +31,19 @@ pub struct RulesRun {
     pub came: Result<Finished, Outcome>,
 }
 
+/// What a further round begins with, and the rule whose N begins it: its place, and its bound of rounds.
+#[derive(Drop)]
+pub struct NextRound {
+    pub left: Rewritten,
+    pub place: Place,
+    pub bound: u32,
+}
+
 /// What a round comes to: the run is over, or N begins the list again.
 #[derive(Drop)]
-pub(crate) enum Round {
+pub enum Round {
     Over(Finished),
-    Again(Rewritten),
+    Again(NextRound),
 }
 
 impl Clone for Finished {
@@ -97,9 +105,9 @@ fn rounds_from<P: Lookups>(
         let round = earlier + 1;
         match from_place(frame, log, round, rules, left)? {
             Round::Over(finished) => return Ok(finished),
-            Round::Again(again) => {
+            Round::Again(next) => {
                 tell_round(log, round)?;
-                left = again;
+                left = next.left;
             }
         }
     }

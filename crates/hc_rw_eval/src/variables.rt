@@ -1,7 +1,7 @@
 //! The variables that a rule sets (Apache manual, "RewriteRule Flags", E).
 ghost use Rattle.std.specs.Prelude.{◌≡◌, IfOk};
 ghost use Rattle.hc_rw_eval.specs.Frames.{context_at, looks_at, shown_at};
-ghost use Rattle.hc_rw_eval.specs.Substitutions.{is_long, set_by, set_to, variable_set, variables_set};
+ghost use Rattle.hc_rw_eval.specs.Substitutions.{is_long, set_by, set_to, with_set, variables_set};
 ghost use Rattle.hc_rw_eval.specs.Substitutions.{with_variable, without_variable};
 ghost use Rattle.hc_steps.specs.Ran.{Ran};
 ghost use Rattle.hc_steps.specs.Run.{run};
@@ -69,15 +69,15 @@ fn set_by<P: Lookups>(
     set_to(frame, log, state, name, value)
 }
 
-#[tactic(auto, unfolding(crate::specs::Substitutions::variable_set))]
-fn variable_set<P: Lookups>(
+#[tactic(auto, unfolding(crate::specs::Substitutions::with_set))]
+fn with_set<P: Lookups>(
     frame: &Frame<'_, P>,
     log: &mut Log,
     state: RwState,
     set: &EnvSet,
 ) -> Result<RwState, Stop>
     ensures { Ran result log.old log.new
-        (run (variable_set (context_at frame.now) (looks_at P.files P.values frame.now) state set.now)
+        (run (with_set (context_at frame.now) (looks_at P.files P.values frame.now) state set.now)
         (shown_at frame.now)) }
 {
     set_by(frame, log, state, &set.name, &set.value)
@@ -97,7 +97,7 @@ pub(crate) fn variables_set<P: Lookups>(
 {
     let mut state = state;
     for set in sets {
-        state = variable_set(frame, log, state, set)?;
+        state = with_set(frame, log, state, set)?;
     }
     Ok(state)
 }

@@ -65,6 +65,8 @@ abbrev pub text_shown : Shown → Option (List ℕ) → Option (List ℕ)
 text_shown shown path = option_and_then (λ path. (shown (TextOf path)).text) path
 
 -- The files and values of maps are these in a world.
-pub record Stands (files : List ℕ → Option (List ℕ)) (values : Values) (looks : Looks) (shown : Shown) : Type 0 where
+pub record Stands (files : List ℕ → Option (List ℕ)) (values : Values) (looks : Looks) (shown : Shown) : Type
+    0 where
   pub same_files : (name : List ℕ) → files name ≡ looks.file name
-  pub same_values : (name key : List ℕ) → values name key ≡ looks.value name key (text_shown shown (looks.file name))
+  pub same_values : (name key : List ℕ)
+      → values name key ≡ looks.value name key (text_shown shown (looks.file name))

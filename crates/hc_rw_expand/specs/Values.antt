@@ -7,10 +7,10 @@ use Rattle.hc_base.specs.Bytes.{space}
 use Rattle.hc_model.specs.declared.request.Request.{Request}
 use Rattle.hc_model.specs.declared.template.Var.{Var}
 use Rattle.hc_model.specs.declared.template.Var.TheVariants as var
-use Rattle.hc_table.specs.declared.variable.TheConstants.{DOCUMENT_ROOT, HTTP_ACCEPT, HTTP_COOKIE, PATH_INFO, SCRIPT_FILENAME}
-use Rattle.hc_table.specs.declared.variable.TheConstants.{SERVER_ADDR, THE_REQUEST}
+use Rattle.hc_table.specs.declared.variable.Variable.{Variable}
+use Rattle.hc_table.specs.declared.variable.Variable.TheVariants as variable
 use Rattle.hc_template.specs.Filled.{Filling}
-use Rattle.hc_template.specs.Variables.{Seen, header_value, host_with_port, value_among, values_of}
+use Rattle.hc_template.specs.Variables.{Seen, header_value, host_with_port, value_of}
 use Rattle.hc_rw_expand.specs.Contexts.{Context}
 use Rattle.hc_rw_expand.specs.Groups.{group_of}
 use Rattle.hc_rw_expand.specs.Variables.{variable_set}
@@ -24,20 +24,16 @@ seen_in context state = record { caller = context.caller; path = context.path; q
 abbrev pub request_line : Request → List ℕ
 request_line request = request.method ++ space ∷ request.target ++ codes " HTTP/1.1"
 
--- The values that expressions do not have.
-abbrev pub further_values : Context → RwState → List (ℕ × List ℕ)
-further_values context state =
-    (SCRIPT_FILENAME, state.text) ∷
-    (PATH_INFO, state.info) ∷
-    (DOCUMENT_ROOT, unwrap_or context.root []) ∷
-    (SERVER_ADDR, printed context.caller.request.server) ∷
-    (HTTP_COOKIE, header_value context.caller.request.headers (codes "Cookie")) ∷
-    (HTTP_ACCEPT, header_value context.caller.request.headers (codes "Accept")) ∷
-    (THE_REQUEST, request_line context.caller.request) ∷
-    []
-
-abbrev pub rule_values : Context → RwState → List (ℕ × List ℕ)
-rule_values context state = further_values context state ++ values_of (seen_in context state)
+-- Some have no value in expressions.
+abbrev pub named_value : Context → RwState → Variable → List ℕ
+named_value context state variable.ScriptFilename = state.text
+named_value context state variable.PathInfo = state.info
+named_value context state variable.DocumentRoot = unwrap_or context.root []
+named_value context state variable.ServerAddr = printed context.caller.request.server
+named_value context state variable.HttpCookie = header_value context.caller.request.headers (codes "Cookie")
+named_value context state variable.HttpAccept = header_value context.caller.request.headers (codes "Accept")
+named_value context state variable.TheRequest = request_line context.caller.request
+named_value context state other = value_of (seen_in context state) other
 
 -- A header by its name, without case.
 abbrev pub header_named : Request → List ℕ → List ℕ
@@ -47,7 +43,7 @@ header_named request name =
 abbrev pub rule_value : Context → RwState → Var → List ℕ
 rule_value context state (var.Header name) = header_named context.caller.request name
 rule_value context state (var.Env name) = variable_set state.vars name
-rule_value context state (var.Named number) = value_among (rule_values context state) number
+rule_value context state (var.Named named) = named_value context state named
 
 abbrev pub filling_in : Context → RwState → Filling
 filling_in context state = record {

@@ -1,18 +1,15 @@
 ghost use Rattle.std.specs.Prelude.{◌≡◌, [], ◌++◌, unwrap_or, OnOk};
 ghost use Rattle.hc_rw_expand.specs.Contexts.{context_of};
-ghost use Rattle.hc_rw_expand.specs.Values.{filling_in, header_named, request_line, rule_values};
+ghost use Rattle.hc_rw_expand.specs.Values.{filling_in, header_named, named_value, request_line};
 ghost use Rattle.hc_rw_expand.specs.Values.{seen_in};
 ghost use Rattle.hc_template.specs.SeenView.{seen_of};
-ghost use Rattle.hc_template.specs.Variables.{value_among};
 
 use crate::context::RwContext;
 use crate::groups::group_of;
 use crate::state::RwState;
 use hc_base::NoMemory;
 use hc_model::{Request, Var};
-use hc_table::variable::{
-    DOCUMENT_ROOT, HTTP_ACCEPT, HTTP_COOKIE, PATH_INFO, SCRIPT_FILENAME, SERVER_ADDR, THE_REQUEST,
-};
+use hc_table::Variable;
 use hc_template::{Fills, Values, header_value, push_address, push_host};
 
 /// What the parts of a template stand for where a list of rules runs (Apache manual, mod_rewrite, "Test
@@ -38,32 +35,31 @@ impl<'s> Fills for StateFilling<'s> {
         match var {
             Var::Header(name) => push_header(out, &self.context.caller.request, name.as_bytes()),
             Var::Env(name) => out.extend_from_slice(self.state.vars.value(name)),
-            Var::Named(number) => push_value(self.context, self.state, out, *number),
+            Var::Named(variable) => push_value(self.context, self.state, out, *variable),
         }
     }
 }
 
-/// Adds the value of a variable of the table.
 fn push_value(
     context: &RwContext<'_>,
     state: &RwState,
     out: &mut Vec<u8>,
-    number: u8,
+    variable: Variable,
 ) -> Result<(), NoMemory>
     ensures { OnOk result (out.new.items
-        ≡ out.old.items ++ value_among (rule_values (context_of context.now) state.now) number) }
+        ≡ out.old.items ++ named_value (context_of context.now) state.now variable) }
 {
     let request = &context.caller.request;
     let headers = request.headers.as_slice();
-    match u16::from(number) {
-        SCRIPT_FILENAME => out.extend_from_slice(state.text.as_bytes()),
-        PATH_INFO => out.extend_from_slice(state.info.as_bytes()),
-        DOCUMENT_ROOT => push_root(out, context),
-        SERVER_ADDR => push_address(out, request.server),
-        HTTP_COOKIE => out.extend_from_slice(header_value(headers, b"Cookie")),
-        HTTP_ACCEPT => out.extend_from_slice(header_value(headers, b"Accept")),
-        THE_REQUEST => push_request_line(out, request),
-        _ => values_in(context, state).push_value(out, number),
+    match variable {
+        Variable::ScriptFilename => out.extend_from_slice(state.text.as_bytes()),
+        Variable::PathInfo => out.extend_from_slice(state.info.as_bytes()),
+        Variable::DocumentRoot => push_root(out, context),
+        Variable::ServerAddr => push_address(out, request.server),
+        Variable::HttpCookie => out.extend_from_slice(header_value(headers, b"Cookie")),
+        Variable::HttpAccept => out.extend_from_slice(header_value(headers, b"Accept")),
+        Variable::TheRequest => push_request_line(out, request),
+        _ => values_in(context, state).push_value(out, variable),
     }
 }
 

@@ -28,6 +28,8 @@ pub read_alike : {A B : Type 0} (read : Result (A × B) (Fault AtByte)) (wanted 
 read_alike (Ok p) wanted h = h
 read_alike (Err fault) wanted h = h
 
-pub made_of_three : {A B C D : Type 0} (f : A → B → C → D) (a : Result A AtByte) (b : Result B AtByte) (c : Result C AtByte) (read : Result D (Fault AtByte))
-    → Gives read (made_of_two (λ p z. f p.0 p.1 z) (pair a b) c) → Gives read (made_of_two (λ made. made) (made_of_two f a b) c)
+pub made_of_three : {A B C D : Type 0} (f : A → B → C → D) (a : Result A AtByte) (b : Result B AtByte)
+    (c : Result C AtByte) (read : Result D (Fault AtByte))
+    → Gives read (made_of_two (λ p z. f p.0 p.1 z) (pair a b) c)
+    → Gives read (made_of_two (λ made. made) (made_of_two f a b) c)
 made_of_three f a b c read h = subst (Gives read) (joined f a b c) h

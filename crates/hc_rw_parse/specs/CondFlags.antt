@@ -35,4 +35,5 @@ abbrev pub no_cond_flags : CondFlags
 no_cond_flags = record { nocase = false; or_next = false }
 
 abbrev pub cond_flags_in : List ℕ → Result CondFlags AtByte
-cond_flags_in word = if is_bracketed word then with_names (Ok no_cond_flags) (slice_split is_comma (inside word)) else bad
+cond_flags_in word = if is_bracketed word then with_names (Ok no_cond_flags) (slice_split is_comma (inside word))
+    else bad

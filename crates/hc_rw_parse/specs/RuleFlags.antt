@@ -1,7 +1,8 @@
 -- The flags of a RewriteRule, as they are written.
 -- Apache manual, "RewriteRule Flags". The ranges of the numbers of S, N and R, and which flags are refused, are our own
 -- choice.
-use Rattle.std.specs.Prelude.{ℕ, ◌-◌, ◌==◌, ◌&&◌, List, [], ◌∷◌, ◌++◌, length, take, drop, Bool, true, false, if◌then◌else◌}
+use Rattle.std.specs.Prelude.{ℕ, ◌-◌, ◌==◌, ◌&&◌, List, [], ◌∷◌, ◌++◌, length, take, drop, Bool}
+use Rattle.std.specs.Prelude.{true, false, if◌then◌else◌}
 use Rattle.std.specs.Prelude.{nat_le, codes, Option, Some, None, Result, Ok, Err}
 use Rattle.std.specs.List.{after_first, before_first, fold, list_any, slice_split}
 use Rattle.std.specs.Str.{str_eq_ignore_ascii_case}
@@ -16,8 +17,8 @@ use Rattle.hc_model.specs.declared.rewrite.Flags.{Flags}
 use Rattle.hc_model.specs.declared.template.Piece.{Piece}
 use Rattle.hc_table.specs.Flags.{flag_rows}
 use Rattle.hc_table.specs.Table.{find_in}
-use Rattle.hc_table.specs.declared.flag.TheConstants as number
-use Rattle.hc_table.specs.declared.table.RowKind.{RowKind}
+use Rattle.hc_table.specs.declared.flag.FlagName.{FlagName}
+use Rattle.hc_table.specs.declared.flag.FlagName.TheVariants as name
 use Rattle.hc_template.specs.Reading.{template}
 use Rattle.hc_rw_parse.specs.Templates.{rewriting}
 use Rattle.hc_rw_parse.specs.declared.flag.Flag.{Flag}
@@ -102,11 +103,14 @@ unset name = flag.Set (record { name = name; value = None })
 
 -- `name:value`, and `name` with an empty value.
 abbrev pub set : List ℕ → Result Flag AtByte
-set text = if_named (before_first is_colon text) (set_to (before_first is_colon text) (template rewriting (after_first is_colon text)))
+set text =
+    if_named (before_first is_colon text)
+    (set_to (before_first is_colon text) (template rewriting (after_first is_colon text)))
 
 -- `!name` takes the variable away.
 abbrev pub environment_of : List ℕ → Result Flag AtByte
-environment_of text = if begins_with exclamation text then if_named (drop 1 text) (Ok (unset (drop 1 text))) else set text
+environment_of text = if begins_with exclamation text then if_named (drop 1 text) (Ok (unset (drop 1 text)))
+    else set text
 
 -- `E=..`.
 abbrev pub environment : Valued
@@ -115,32 +119,27 @@ environment (Some value) = environment_of value
 
 -- ---- one flag
 
-abbrev pub table : List (ℕ × Valued)
-table =
-    (number.LAST, alone flag.Last) ∷
-    (number.END, alone flag.End) ∷
-    (number.NEXT, next) ∷
-    (number.CHAIN, alone flag.Chain) ∷
-    (number.SKIP, skip) ∷
-    (number.FORBIDDEN, alone flag.Forbid) ∷
-    (number.GONE, alone flag.Gone) ∷
-    (number.REDIRECT, redirect) ∷
-    (number.APPEND_QUERY, alone flag.AppendQuery) ∷
-    (number.DISCARD_QUERY, alone flag.DiscardQuery) ∷
-    (number.NO_CASE, alone flag.NoCase) ∷
-    (number.NO_ESCAPE, alone flag.NoEscape) ∷
-    (number.PASS_THROUGH, alone flag.Pass) ∷
-    (number.DISCARD_PATH, alone flag.DiscardPath) ∷
-    (number.ENVIRONMENT, environment) ∷
-    (number.TYPE, without_effect) ∷
-    (number.HANDLER, without_effect) ∷
-    (number.COOKIE, without_effect) ∷
-    (number.NO_SUBREQUEST, alone flag.NoEffect) ∷
-    (number.UNSUPPORTED_FLAG, unsupported) ∷ []
-
-abbrev pub valued_by : List (ℕ × Valued) → ℕ → Valued
-valued_by [] number value = bad
-valued_by (row ∷ rows) number value = if number == row.0 then row.1 value else valued_by rows number value
+abbrev pub valued_by : FlagName → Valued
+valued_by name.Last = alone flag.Last
+valued_by name.End = alone flag.End
+valued_by name.Next = next
+valued_by name.Chain = alone flag.Chain
+valued_by name.Skip = skip
+valued_by name.Forbidden = alone flag.Forbid
+valued_by name.Gone = alone flag.Gone
+valued_by name.Redirect = redirect
+valued_by name.AppendQuery = alone flag.AppendQuery
+valued_by name.DiscardQuery = alone flag.DiscardQuery
+valued_by name.NoCase = alone flag.NoCase
+valued_by name.NoEscape = alone flag.NoEscape
+valued_by name.PassThrough = alone flag.Pass
+valued_by name.DiscardPath = alone flag.DiscardPath
+valued_by name.Environment = environment
+valued_by name.Type = without_effect
+valued_by name.Handler = without_effect
+valued_by name.Cookie = without_effect
+valued_by name.NoSubrequest = alone flag.NoEffect
+valued_by name.Unsupported = unsupported
 
 abbrev pub is_equals : ℕ → Bool
 is_equals b = b == equals
@@ -149,9 +148,9 @@ is_equals b = b == equals
 abbrev pub value_in : List ℕ → Option (List ℕ)
 value_in text = if list_any is_equals text then Some (after_first is_equals text) else None
 
-abbrev pub flag_named : Option RowKind → Valued
+abbrev pub flag_named : Option FlagName → Valued
 flag_named None value = bad
-flag_named (Some kind) value = valued_by table kind.meaning value
+flag_named (Some found) value = valued_by found value
 
 -- By its short or long name, without case.
 abbrev pub flag_of : List ℕ → Result Flag AtByte

@@ -1,6 +1,8 @@
 -- The words of RewriteRule and RewriteCond.
--- Apache manual, mod_rewrite: RewriteRule, RewriteCond. What is not supported, and the order of refusals, is our own choice.
-use Rattle.std.specs.Prelude.{ℕ, ◌==◌, ◌||◌, List, [], ◌∷◌, drop, Bool, false, if◌then◌else◌, codes, Option, Some, None, Result, Ok, Err}
+-- Apache manual, mod_rewrite: RewriteRule, RewriteCond. What is not supported, and the order of refusals, is our own
+-- choice.
+use Rattle.std.specs.Prelude.{ℕ, ◌==◌, ◌||◌, List, [], ◌∷◌, drop, Bool, false, if◌then◌else◌}
+use Rattle.std.specs.Prelude.{codes, Option, Some, None, Result, Ok, Err}
 use Rattle.std.specs.Str.{bytes_eq, str_eq_ignore_ascii_case}
 use Rattle.hc_base.specs.Bytes.{begins_with, dash, equals, exclamation, greater, less}
 use Rattle.hc_base.specs.Rules.{rule}
@@ -62,7 +64,9 @@ rule_at spot negated pattern flags subst = record {
 -- Of what is refused the smallest number counts.
 abbrev pub rule_with : Spot → List ℕ → List ℕ → Flagged → Result Rule AtByte
 rule_with spot pattern subst flagged =
-    made_of_two (λ made. made) (made_of_two (rule_at spot (is_negated pattern)) (parse_pattern (without_sign pattern) flagged.nocase) (flags_of flagged))
+    made_of_two (λ made. made)
+    (made_of_two (rule_at spot (is_negated pattern)) (parse_pattern (without_sign pattern) flagged.nocase)
+    (flags_of flagged))
     (substitution subst)
 
 unfoldable pub rule_of : Spot → List (List ℕ) → Result Rule AtByte
@@ -118,7 +122,8 @@ cond_at spot negated kind flags test = record {
 
 abbrev pub cond_with : Spot → List ℕ → List ℕ → Result CondFlags AtByte → Result Cond AtByte
 cond_with spot test text flags =
-    made_of_two (λ made. made) (made_of_two (cond_at spot (is_negated text)) (kind_behind test (nocase_of flags) (without_sign text)) flags)
+    made_of_two (λ made. made)
+    (made_of_two (cond_at spot (is_negated text)) (kind_behind test (nocase_of flags) (without_sign text)) flags)
     (template rewriting test)
 
 unfoldable pub cond_of : Spot → List (List ℕ) → Result Cond AtByte

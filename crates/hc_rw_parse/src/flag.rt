@@ -2,7 +2,7 @@
 ghost use Rattle.std.specs.Prelude.{◌≡◌, ◌<◌, length, option_map, IfSome};
 ghost use Rattle.std.specs.List.{before_first, position};
 ghost use Rattle.hc_base.specs.Gives.{Gives};
-ghost use Rattle.hc_rw_parse.specs.RuleFlags.{alone, flag_of, is_equals, table, valued_by, value_in};
+ghost use Rattle.hc_rw_parse.specs.RuleFlags.{alone, flag_of, is_equals, valued_by, value_in};
 
 use crate::environment::environment;
 use crate::parts::RwFault;
@@ -10,7 +10,7 @@ use crate::values::{next, redirect, skip};
 use hc_base::codes::{BAD_FLAG, UNSUPPORTED_FLAG};
 use hc_base::{AtByte, Fault};
 use hc_model::EnvSet;
-use hc_table::{find_in, flag, rule_flags};
+use hc_table::{FlagName, flag_named};
 use std::alloc::Global;
 
 /// A flag of a RewriteRule (Apache manual, "RewriteRule Flags").
@@ -83,8 +83,8 @@ pub(crate) fn flag_of(alloc: Global, text: &[u8]) -> Result<Flag, RwFault>
     ensures { Gives result (flag_of text.now) }
 {
     let (name, value) = split_value(text);
-    match find_in(rule_flags().rows, name) {
-        Some(kind) => valued_by(alloc, kind.meaning, value),
+    match flag_named(name) {
+        Some(name) => valued_by(alloc, name, value),
         None => Err(BAD),
     }
 }
@@ -109,29 +109,28 @@ fn equals_at(text: &[u8]) -> Option<usize>
     text.iter().position(|byte| *byte == b'=')
 }
 
-fn valued_by(alloc: Global, meaning: u16, value: Option<&[u8]>) -> Result<Flag, RwFault>
-    ensures { Gives result (valued_by table meaning (option_map (λ value. value.now) value.entry)) }
+fn valued_by(alloc: Global, name: FlagName, value: Option<&[u8]>) -> Result<Flag, RwFault>
+    ensures { Gives result (valued_by name (option_map (λ value. value.now) value.entry)) }
 {
-    match meaning {
-        flag::LAST => alone(Flag::Last, value),
-        flag::END => alone(Flag::End, value),
-        flag::NEXT => next(value),
-        flag::CHAIN => alone(Flag::Chain, value),
-        flag::SKIP => skip(value),
-        flag::FORBIDDEN => alone(Flag::Forbid, value),
-        flag::GONE => alone(Flag::Gone, value),
-        flag::REDIRECT => redirect(value),
-        flag::APPEND_QUERY => alone(Flag::AppendQuery, value),
-        flag::DISCARD_QUERY => alone(Flag::DiscardQuery, value),
-        flag::NO_CASE => alone(Flag::NoCase, value),
-        flag::NO_ESCAPE => alone(Flag::NoEscape, value),
-        flag::PASS_THROUGH => alone(Flag::Pass, value),
-        flag::DISCARD_PATH => alone(Flag::DiscardPath, value),
-        flag::ENVIRONMENT => environment(alloc, value),
-        flag::TYPE | flag::HANDLER | flag::COOKIE => Ok(Flag::NoEffect),
-        flag::NO_SUBREQUEST => alone(Flag::NoEffect, value),
-        flag::UNSUPPORTED_FLAG => Err(UNSUPPORTED),
-        _ => Err(BAD),
+    match name {
+        FlagName::Last => alone(Flag::Last, value),
+        FlagName::End => alone(Flag::End, value),
+        FlagName::Next => next(value),
+        FlagName::Chain => alone(Flag::Chain, value),
+        FlagName::Skip => skip(value),
+        FlagName::Forbidden => alone(Flag::Forbid, value),
+        FlagName::Gone => alone(Flag::Gone, value),
+        FlagName::Redirect => redirect(value),
+        FlagName::AppendQuery => alone(Flag::AppendQuery, value),
+        FlagName::DiscardQuery => alone(Flag::DiscardQuery, value),
+        FlagName::NoCase => alone(Flag::NoCase, value),
+        FlagName::NoEscape => alone(Flag::NoEscape, value),
+        FlagName::PassThrough => alone(Flag::Pass, value),
+        FlagName::DiscardPath => alone(Flag::DiscardPath, value),
+        FlagName::Environment => environment(alloc, value),
+        FlagName::Type | FlagName::Handler | FlagName::Cookie => Ok(Flag::NoEffect),
+        FlagName::NoSubrequest => alone(Flag::NoEffect, value),
+        FlagName::Unsupported => Err(UNSUPPORTED),
     }
 }
 

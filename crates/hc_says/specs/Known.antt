@@ -1,5 +1,6 @@
 -- What the indexes hold in which modules and variables are found.
-use Rattle.std.specs.Prelude.{◌≡◌, ℕ, List, ◌||◌, Option, Some, if◌then◌else◌, option_map, string_bytes, String}
+use Rattle.std.specs.Prelude.{◌≡◌, ℕ, List, ◌||◌, Option, Some, if◌then◌else◌, option_map}
+use Rattle.std.specs.Prelude.{string_bytes, String}
 use Rattle.std.specs.declared.alloc.Global.{Global}
 use Rattle.std.specs.BTreeMap.{BTreeMap, get_by_text}
 use Rattle.std.specs.BTreeSet.{BTreeSet, contains_text}
@@ -27,4 +28,5 @@ abbrev pub HasName : Set → Set → List ℕ → Type 0
 HasName before later name = (q : List ℕ) → contains_text later q ≡ (bytes_eq name q || contains_text before q)
 
 abbrev pub HasValue : Map → Map → List ℕ → List ℕ → Type 0
-HasValue before later name value = (q : List ℕ) → text_in later q ≡ (if bytes_eq name q then Some value else text_in before q)
+HasValue before later name value = (q : List ℕ)
+    → text_in later q ≡ (if bytes_eq name q then Some value else text_in before q)

@@ -1,7 +1,9 @@
 -- What a line says to those behind it: variables, modules and the server root.
 -- Apache manual, core, Define, IfDefine, IfModule and ServerRoot; mod_so, LoadModule. The list of the
 -- modules that are always there is our own choice.
-use Rattle.std.specs.Prelude.{ℕ, ◌==◌, List, [], ◌∷◌, ◌++◌, drop, length, map, Bool, true, false, not, ◌&&◌, ◌||◌, Option, Some, None, Result, Ok, Err, if◌then◌else◌, is_some, codes}
+use Rattle.std.specs.Prelude.{ℕ, ◌==◌, List, [], ◌∷◌, ◌++◌, drop, length, map, Bool, true, false, not}
+use Rattle.std.specs.Prelude.{◌&&◌, ◌||◌, Option, Some, None, Result, Ok, Err, if◌then◌else◌, is_some}
+use Rattle.std.specs.Prelude.{codes}
 use Rattle.std.specs.List.{flat_map, fold, list_any}
 use Rattle.std.specs.Str.{bytes_eq, str_eq_ignore_ascii_case}
 use Rattle.hc_base.specs.Bytes.{begins_with, exclamation}
@@ -116,7 +118,8 @@ is_condition name = is_named (codes "IfDefine") name || is_named (codes "IfModul
 
 -- What a condition of this name tests a word for.
 abbrev pub holds : List model.Define → List (List ℕ) → List ℕ → List ℕ → Bool
-holds defines modules name word = if is_named (codes "IfDefine") name then is_defined defines word else is_among modules word
+holds defines modules name word = if is_named (codes "IfDefine") name then is_defined defines word
+    else is_among modules word
 
 -- A `!` before the word reverses the test.
 abbrev pub tested : (List ℕ → Bool) → List ℕ → Bool

@@ -1,7 +1,8 @@
 -- Variables in a line.
 -- Apache manual, core, Define: `${NAME}` anywhere in a line stands for the value of that name. That a
 -- replaced text is not looked at again, and what has no value stays, is our own choice.
-use Rattle.std.specs.Prelude.{ℕ, zero, suc, ◌+◌, ◌==◌, List, [], ◌∷◌, ◌++◌, length, Bool, ◌&&◌, ◌||◌, Option, Some, None, option_map, if◌then◌else◌}
+use Rattle.std.specs.Prelude.{ℕ, zero, suc, ◌+◌, ◌==◌, List, [], ◌∷◌, ◌++◌, length, Bool, ◌&&◌}
+use Rattle.std.specs.Prelude.{◌||◌, Option, Some, None, option_map, if◌then◌else◌}
 use Rattle.hc_base.specs.Bytes.{brace_close, brace_open, colon, dollar}
 
 -- A byte that no name of a variable has.

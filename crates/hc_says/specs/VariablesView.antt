@@ -1,5 +1,6 @@
 -- What the chunks of a text give that end at a byte which no name of a variable has.
-use Rattle.std.specs.Prelude.{ℕ, ◌==◌, List, [], ◌∷◌, ◌++◌, drop, Bool, false, ◌&&◌, Option, if◌then◌else◌}
+use Rattle.std.specs.Prelude.{ℕ, ◌==◌, List, [], ◌∷◌, ◌++◌, drop, Bool, false, ◌&&◌, Option}
+use Rattle.std.specs.Prelude.{if◌then◌else◌}
 use Rattle.hc_base.specs.Bytes.{brace_close, brace_open, colon, dollar}
 use Rattle.hc_says.specs.Variables.{stands_for}
 use Rattle.hc_says.specs.declared.variables.Chunk.{Chunk}

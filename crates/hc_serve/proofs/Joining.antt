@@ -1,5 +1,6 @@
 -- The places of two trees that are joined.
-use Rattle.std.proofs.Common.{◌≡◌, ℕ, ◌+◌, ◌<◌, List, [], ◌∷◌, ◌++◌, get_or, length, map, take, Option, Some, None, refl, sym, ap, ◌∙◌}
+use Rattle.std.proofs.Common.{◌≡◌, ℕ, ◌+◌, ◌<◌, List, [], ◌∷◌, ◌++◌, get_or, length, map}
+use Rattle.std.proofs.Common.{take, Option, Some, None, refl, sym, ap, ◌∙◌}
 use Rattle.std.proofs.lemmas.List.{append-nil}
 use Rattle.std.proofs.lemmas.List.Sums.{fold_more}
 use Rattle.hc_base.specs.declared.place.Place.{Place}
@@ -16,10 +17,12 @@ two : (before own : List Place) → all_of (before ∷ own ∷ []) ≡ before ++
 two before own = ap (λ more. before ++ more) (append-nil own)
 
 all_places : (trees : List ReqTree) → places_in (All trees) ≡ all_of (map places_in trees)
-all_places trees = ap places_in (sym (rolls-All trees)) ∙ fold-roll-ReqTree (List Place) level_places (ReqTree-F.All trees)
+all_places trees = ap places_in (sym (rolls-All trees)) ∙ fold-roll-ReqTree (List Place) level_places
+    (ReqTree-F.All trees)
 
 any_places : (trees : List ReqTree) → places_in (AnyOf trees) ≡ all_of (map places_in trees)
-any_places trees = ap places_in (sym (rolls-AnyOf trees)) ∙ fold-roll-ReqTree (List Place) level_places (ReqTree-F.AnyOf trees)
+any_places trees = ap places_in (sym (rolls-AnyOf trees)) ∙ fold-roll-ReqTree (List Place) level_places
+    (ReqTree-F.AnyOf trees)
 
 joined_needs : (before : Option ReqTree) (own : ReqTree) (how : Merging)
     → needs_of (joined_behind before (Some own) how) ≡ places_joined (needs_of before) (places_in own) how

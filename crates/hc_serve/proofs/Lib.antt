@@ -7,3 +7,4 @@ pub mod Passes
 pub mod Stops
 pub mod Told
 pub mod Trees
+pub mod Segments

@@ -10,19 +10,26 @@ use Rattle.hc_serve.specs.Passing.{stopped, with_tree}
 use Rattle.hc_serve.specs.declared.stage.Ended.{Ended}
 use Rattle.hc_steps.specs.Step.{Shown, Step, ◌>>=◌}
 
-ending_fault : {A : Type 0} (require : Option ReqTree) (s : Step Outcome A) (w : Shown) (fault : Fault Outcome) (l m : Logged)
-    → Ran {A = A} (Err fault) l m (run s w) → Ran {A = A} (Err (stopped require fault)) l m (run (ending (with_tree require) s) w)
+ending_fault : {A : Type 0} (require : Option ReqTree) (s : Step Outcome A) (w : Shown) (fault : Fault Outcome)
+    (l m : Logged)
+    → Ran {A = A} (Err fault) l m (run s w)
+    → Ran {A = A} (Err (stopped require fault)) l m (run (ending (with_tree require) s) w)
 unfolding Ran
 ending_fault require s w (Refused outcome) l m h = ending_off (with_tree require) s w outcome l m h
 ending_fault require s w NoMemory l m h = tt
 
-pub treed_off : {A B : Type 0} (require : Option ReqTree) (s : Step Outcome A) (next : A → Step Ended B) (w : Shown) (fault : Fault Outcome) (l m : Logged)
-    → Ran {A = A} (Err fault) l m (run s w) → Ran {A = B} (Err (stopped require fault)) l m (run (ending (with_tree require) s >>= next) w)
+pub treed_off : {A B : Type 0} (require : Option ReqTree) (s : Step Outcome A) (next : A → Step Ended B) (w : Shown)
+    (fault : Fault Outcome) (l m : Logged)
+    → Ran {A = A} (Err fault) l m (run s w)
+    → Ran {A = B} (Err (stopped require fault)) l m (run (ending (with_tree require) s >>= next) w)
 treed_off require s next w fault l m h =
-    ran_no_further (ending (with_tree require) s) next w (stopped require fault) l m (ending_fault require s w fault l m h)
+    ran_no_further (ending (with_tree require) s) next w (stopped require fault) l m
+    (ending_fault require s w fault l m h)
 
-pub treed_on : {A B : Type 0} (require : Option ReqTree) (s : Step Outcome A) (next : A → Step Ended B) (w : Shown) (a : A) (r : Result B (Fault Ended)) (l m n : Logged)
-    → Ran (Ok a) l m (run s w) → Ran r m n (run (next a) w) → Ran r l n (run (ending (with_tree require) s >>= next) w)
+pub treed_on : {A B : Type 0} (require : Option ReqTree) (s : Step Outcome A) (next : A → Step Ended B) (w : Shown)
+    (a : A) (r : Result B (Fault Ended)) (l m n : Logged)
+    → Ran (Ok a) l m (run s w) → Ran r m n (run (next a) w)
+    → Ran r l n (run (ending (with_tree require) s >>= next) w)
 treed_on require s next w a r l m n h k =
     ran_then (ending (with_tree require) s) next w a r l m n (ending_on (with_tree require) s w a l m h) k
 

@@ -14,7 +14,8 @@ abbrev pub log_of : Option ℕ → List Read → Logged
 log_of cap reads = with_reads (empty_log cap) reads
 
 -- At most so many events are kept.
-pub record IsServed (cap : Option ℕ) (world : World) (config : Config) (request : Request) (served : Served) : Type 0 where
+pub record IsServed (cap : Option ℕ) (world : World) (config : Config) (request : Request) (served : Served) : Type
+    0 where
   pub outcome : served.outcome ≡ received world config request
   pub require : served.require ≡ tree_of (whole_run world config request).way
   pub keeps : Keeps cap served.log (whole_run world config request).events

@@ -1,29 +1,20 @@
--- The rules of the directory in which a request arrives, and the restart that they lead to.
--- Apache manual, mod_rewrite: RewriteRule ("Per-directory Rewrites"), RewriteBase; "RewriteRule Flags": END; core: Options
--- (FollowSymLinks), LimitInternalRecursion. Which rules run, and what a restart keeps of the variables, is our own choice.
+-- What the rules of a directory run with, and what the restart that they lead to begins with.
+-- Apache manual, mod_rewrite: RewriteRule ("Per-directory Rewrites"), RewriteBase; "RewriteRule Flags": END; core:
+-- LimitInternalRecursion. Which rules run, and what a restart keeps of the variables, is our own choice.
 use Rattle.std.specs.Prelude.{ℕ, ◌+◌, nat_le, List, Bool, not, ◌&&◌, ◌||◌, if◌then◌else◌, codes}
 use Rattle.std.specs.Prelude.{Option, Some, None, is_some}
 use Rattle.std.specs.Str.{bytes_eq}
 use Rattle.hc_alias.specs.Mapping.{root_of}
-use Rattle.hc_base.specs.Paths.{ends_with_slash, has_dots, merge_slashes}
-use Rattle.hc_model.specs.declared.event.Event.TheVariants as event
-use Rattle.hc_model.specs.declared.outcome.Outcome.{Outcome}
-use Rattle.hc_model.specs.declared.outcome.LimitKind.TheVariants.{Redirects}
-use Rattle.hc_model.specs.declared.outcome.Outcome.TheVariants.{Limit, Outside, Status}
-use Rattle.hc_model.specs.declared.outcome.Reason.TheVariants.{DotSegment}
+use Rattle.hc_base.specs.Paths.{ends_with_slash}
 use Rattle.hc_rw_eval.specs.Directories.{url_path}
-use Rattle.hc_rw_eval.specs.Lists.{run_rules}
-use Rattle.hc_rw_eval.specs.declared.run.Finished.{Finished}
 use Rattle.hc_rw_expand.specs.Contexts.{Context, Engine}
 use Rattle.hc_rw_expand.specs.Variables.{Variables, renamed, with_value}
 use Rattle.hc_rw_expand.specs.declared.state.RwState.{RwState}
-use Rattle.hc_serve.specs.ServerRules.{looks_of, maps_at, pass_at}
+use Rattle.hc_serve.specs.ServerRules.{pass_at}
 use Rattle.hc_serve.specs.Site.{Site, most_passes}
-use Rattle.hc_serve.specs.declared.admission.TheConstants.{FORBIDDEN}
 use Rattle.hc_serve.specs.declared.stage.Here.{Here}
 use Rattle.hc_serve.specs.declared.stage.Named.{Named}
 use Rattle.hc_serve.specs.declared.stage.Pass.{Pass}
-use Rattle.hc_steps.specs.Step.{Step, ends, leaves, told, ◌>>=◌}
 use Rattle.hc_vhost.specs.Servers.{servers_of}
 
 -- ---- where rules run
@@ -71,25 +62,6 @@ state_in here = record {
   cond_groups = None;
 }
 
-abbrev pub state_left : Finished → Step Outcome (Option RwState)
-state_left run = leaves (Some run.left.state)
-
-unfoldable pub rules_left : Site → Here → List ℕ → Step Outcome (Option RwState)
-rules_left site here dir =
-    run_rules (context_in site here dir) (looks_of (maps_at site)) here.force.rules (state_in here) >>= state_left
-
--- Rules need one of the options that let links be followed.
-unfoldable pub rules_run_in : Site → Here → List ℕ → Step Outcome (Option RwState)
-rules_run_in site here dir = if here.force.follow then rules_left site here dir else ends (Status FORBIDDEN)
-
-unfoldable pub ruled : Site → Here → Option (List ℕ) → Step Outcome (Option RwState)
-ruled site here None = leaves None
-ruled site here (Some dir) = rules_run_in site here dir
-
--- 6. What the rules of the directory leave, where they run.
-unfoldable pub rewritten_there : Site → Here → Step Outcome (Option RwState)
-rewritten_there site here = ruled site here (ruling_dir here)
-
 abbrev pub query_left : Here → Option RwState → List ℕ
 query_left here None = here.named.pass.query
 query_left here (Some state) = state.query
@@ -107,17 +79,7 @@ next_pass here state path = pass_at (here.named.pass.number + 1) path state.quer
 abbrev pub is_last : Site → Here → Bool
 is_last site here = nat_le (most_passes site.config site.host) (here.named.pass.number + 1)
 
--- A restart that the limit does not allow is not told.
-unfoldable pub redirected : Site → Here → RwState → List ℕ → Step Outcome Pass
-redirected site here state path =
-    if has_dots path then ends (Outside DotSegment)
-    else (if is_last site here then ends (Limit Redirects)
-    else told (event.Restart (merge_slashes path)) (next_pass here state (merge_slashes path)))
-
 -- The URL path that a text stands for.
 abbrev pub path_for : Site → Here → Option (List ℕ) → List ℕ → List ℕ
 path_for site here None text = text
 path_for site here (Some dir) text = url_path (root_at site) (engine_in here dir) text
-
-unfoldable pub restarted : Site → Here → RwState → Step Outcome Pass
-restarted site here state = redirected site here state (path_for site here here.force.dir state.text)

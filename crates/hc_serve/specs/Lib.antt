@@ -1,11 +1,11 @@
 pub mod Site
 pub mod Costs
 pub mod Files
-pub mod Naming
 pub mod ServerRules
 pub mod Inherited
 pub mod DirectoryRules
 pub mod Needs
 pub mod Passing
 pub mod Request
+pub mod Segments
 pub mod Answers

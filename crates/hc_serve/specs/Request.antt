@@ -64,7 +64,8 @@ opened config request = do
   pass ← first_pass (read request.target)
   leaves (record { host = host; pass = pass })
 
--- So many passes at most, one after another. The last one that the limit allows ends the request, so that none is left over.
+-- So many passes at most, one after another. The last one that the limit allows ends the request, so that none is left
+-- over.
 unfoldable pub passes : ℕ → Site → Restarted → Step Ended Restarted
 passes zero site left = leaves left
 passes (suc more) site left = passed site left.pass >>= passes more site

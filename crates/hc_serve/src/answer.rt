@@ -8,7 +8,7 @@ ghost use Rattle.hc_serve.specs.Request.{IsAnswer, IsWholeRun, way};
 
 use crate::needs::needs_of;
 use crate::way::way;
-use hc_base::{Fault, List, NoMemory, Place, Steps};
+use hc_base::{Counter, Fault, List, NoMemory, Place};
 use hc_model::{Config, Event, LimitKind, Outcome, Overrides, Read, Request, Requirement};
 use hc_steps::Log;
 use hc_world::World;
@@ -78,7 +78,7 @@ pub fn evaluate<O: Overrides, L: Ledger>(
     world: &World,
     over: &mut O,
     request: &Request,
-    evals: &mut Steps<L>,
+    evals: &mut Counter<L>,
 ) -> Result<Answer, NoMemory>
     requires slash { begins_with_slash request.now.target ≡ true }
     requires over { O.reading (O.fixed over.old) ≡ reading_in world.now.files config.now }
@@ -108,7 +108,7 @@ pub fn whole_run<O: Overrides, L: Ledger>(
     world: &World,
     over: &mut O,
     request: &Request,
-    evals: &mut Steps<L>,
+    evals: &mut Counter<L>,
 ) -> Result<WholeRun, NoMemory>
     requires slash { begins_with_slash request.now.target ≡ true }
     requires over { O.reading (O.fixed over.old) ≡ reading_in world.now.files config.now }

@@ -1,7 +1,5 @@
 ghost use Rattle.std.specs.Prelude.{◌≡◌, IfOk};
-ghost use Rattle.std.specs.List.{before_first, position};
-ghost use Rattle.hc_base.specs.Paths.{is_slash};
-ghost use Rattle.hc_serve.specs.ServerRules.{as_path, behind_slashes, first_component};
+ghost use Rattle.hc_serve.specs.ServerRules.{as_path, behind_slashes, component, first_component};
 
 use hc_base::{NoMemory, Text};
 use std::alloc::Global;
@@ -10,7 +8,7 @@ use std::alloc::Global;
 pub(crate) fn first_component(alloc: Global, text: &[u8]) -> Result<Option<Text>, NoMemory>
     ensures { IfOk result (λ path. path ≡ first_component text.now) }
 {
-    as_path(alloc, before_slash(behind_slashes(text)))
+    as_path(alloc, component(behind_slashes(text)))
 }
 
 // The bytes behind the slashes that a text begins with.
@@ -24,19 +22,16 @@ fn behind_slashes(text: &[u8]) -> &[u8]
     rest
 }
 
-fn before_slash(text: &[u8]) -> &[u8]
-    ensures { result.now ≡ before_first is_slash text.now }
+// What stands before the first slash.
+fn component(text: &[u8]) -> &[u8]
+    ensures { result.now ≡ component text.now }
 {
-    match find_slash(text) {
-        Some(place) => &text[..place],
-        None => text,
+    for (place, byte) in text.iter().enumerate() {
+        if *byte == b'/' {
+            return text.split_at(place).0;
+        }
     }
-}
-
-fn find_slash(text: &[u8]) -> Option<usize>
-    ensures { result ≡ position is_slash text.now }
-{
-    text.iter().position(|byte| *byte == b'/')
+    text
 }
 
 fn as_path(alloc: Global, component: &[u8]) -> Result<Option<Text>, NoMemory>

@@ -5,8 +5,8 @@ ghost use Rattle.std.specs.Str.{bytes_eq};
 ghost use Rattle.hc_base.specs.Paths.{ends_with_slash};
 ghost use Rattle.hc_rw_eval.specs.Lists.{run_rules};
 ghost use Rattle.hc_rw_expand.specs.Contexts.{context_of, engine_of};
-ghost use Rattle.hc_serve.specs.DirectoryRules.{context_in, engine_in, is_aliased, rewritten_there};
-ghost use Rattle.hc_serve.specs.DirectoryRules.{ruled, rules_left, rules_run_in, ruling_dir, state_in, unless_itself};
+ghost use Rattle.hc_serve.specs.DirectoryRules.{context_in, engine_in, is_aliased, ruling_dir, state_in, unless_itself};
+ghost use Rattle.hc_serve.specs.Passing.{rewritten_there, ruled, rules_left, rules_run_in};
 ghost use Rattle.hc_serve.specs.ServerRules.{looks_of, maps_at};
 ghost use Rattle.hc_serve.specs.Site.{site_of};
 ghost use Rattle.hc_steps.specs.Ran.{Ran};
@@ -27,7 +27,7 @@ use hc_rw_expand::{Engine, RwContext, RwState};
 use hc_steps::Log;
 
 /// What the rules of the directory leave, where they run.
-#[tactic(auto, unfolding(crate::specs::DirectoryRules::rewritten_there))]
+#[tactic(auto, unfolding(crate::specs::Passing::rewritten_there))]
 pub(crate) fn rewritten_there(
     asked: &Asked<'_>,
     log: &mut Log,
@@ -40,7 +40,7 @@ pub(crate) fn rewritten_there(
     ruled(asked, log, here, ruling_dir(here))
 }
 
-#[tactic(auto, unfolding(crate::specs::DirectoryRules::ruled), using(hc_steps::proofs::Going::ran_leaves))]
+#[tactic(auto, unfolding(crate::specs::Passing::ruled), using(hc_steps::proofs::Going::ran_leaves))]
 fn ruled(
     asked: &Asked<'_>,
     log: &mut Log,
@@ -87,7 +87,7 @@ fn is_itself(name: &Text, dir: &Text) -> bool
 }
 
 // Rules need one of the options that let links be followed.
-#[tactic(auto, unfolding(crate::specs::DirectoryRules::rules_run_in), using(hc_steps::proofs::Going::ran_ends))]
+#[tactic(auto, unfolding(crate::specs::Passing::rules_run_in), using(hc_steps::proofs::Going::ran_ends))]
 fn rules_run_in(
     asked: &Asked<'_>,
     log: &mut Log,

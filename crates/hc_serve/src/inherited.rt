@@ -57,11 +57,11 @@ pub(crate) fn maps_at<'c>(asked: &Asked<'c>) -> Result<Maps<'c>, NoMemory>
     ensures { IfOk result (λ maps. list_of maps ≡ maps_at (site_of asked.now)) }
 {
     let server = server_at(asked.config, asked.host);
-    let own = &server.maps_by_name;
+    let own = &server.rewrite_maps;
     match inherited_by(asked.host, server) {
         Inherit::No => Ok(Maps::Own(own.as_slice())),
         Inherit::After | Inherit::Before => {
-            let main = asked.config.main.maps_by_name.as_slice();
+            let main = asked.config.main.rewrite_maps.as_slice();
             Ok(Maps::Joined(joined(own.copy()?, main)?))
         }
     }

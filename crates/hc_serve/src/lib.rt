@@ -4,13 +4,15 @@
 //! of the steps to it and the first 200 of them, and exactly what was looked at; `whole_run` gives the same with
 //! all steps, and the `Require` lines that were in force in the last pass (specs/Needs.antt). The way of a request
 //! is `way` there, and the steps of a pass are in specs/Passing.antt, in their order: the rules of the server that
-//! answers (specs/ServerRules.antt), the file name, the looks at the `.htaccess` files of the walk, from `/` down,
-//! of which the first that is refused ends the request, what is in force, who may pass, the rules of the directory
-//! and the restart that they lead to (specs/DirectoryRules.antt). Both calls read these files through any
-//! `Overrides` whose reading is that of the world (`over`), and leave it with that reading and all that it had
-//! loaded (`fixed`, `kept`); with an answer, what it counts of bytes has risen by no more than the texts that the
-//! way looks at (`counted`, with `looked` in specs/Costs.antt). Each call counts one (`evals`).
+//! answers (what they run with: specs/ServerRules.antt), the file name, the looks at the `.htaccess` files of the
+//! walk, from `/` down, of which the first that is refused ends the request, what is in force, who may pass, the
+//! rules of the directory and the restart that they lead to (specs/DirectoryRules.antt). Both calls read these
+//! files through any `Overrides` whose reading is that of the world (`over`), and leave it with that reading and all
+//! that it had loaded (`fixed`, `kept`); with an answer, what it counts of bytes has risen by no more than the texts
+//! that the way looks at (`counted`, with `looked` in specs/Costs.antt). Each call counts one (`evals`).
 //! `laws::answers_agree`: worlds that agree on what the answer of the one rests on give the same run.
+//! `laws::passes_are_segments`: passes are segments (specs/Segments.antt), one after another, each of one round of a
+//! list of rules at most.
 #![tactic(auto)]
 
 mod admission;
@@ -31,3 +33,4 @@ mod stage;
 mod way;
 
 pub use answer::{Answer, LONGEST_TRAIL, WholeRun, evaluate, whole_run};
+pub use stage::{Ended, Here, Named, Pass, Placed, Restarted, Walked};

@@ -1,4 +1,4 @@
-ghost use Rattle.hc_serve.specs.Naming.{named};
+ghost use Rattle.hc_serve.specs.Passing.{named};
 ghost use Rattle.hc_steps.specs.Ran.{Ran};
 ghost use Rattle.hc_steps.specs.Run.{run};
 ghost use Rattle.hc_steps.specs.Shown.{shown_by};
@@ -11,7 +11,7 @@ use hc_steps::Log;
 use hc_world::World;
 
 /// The pass with the file name that its URL path is mapped to, or the end where it is sent away or has none.
-#[tactic(auto, unfolding(crate::specs::Naming::named), using(hc_steps::proofs::Going::telling))]
+#[tactic(auto, unfolding(crate::specs::Passing::named), using(hc_steps::proofs::Going::telling))]
 pub(crate) fn named(world: &World, log: &mut Log, pass: Pass, mapped: Mapped) -> Result<Named, Stop>
     ensures { Ran result log.old log.new (run (named pass mapped) (shown_by world.now.files)) }
 {

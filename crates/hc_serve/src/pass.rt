@@ -4,10 +4,10 @@ ghost use Rattle.hc_htaccess.specs.Reading.{reading_in, size_in};
 ghost use Rattle.hc_model.specs.Overrides.{Kept};
 ghost use Rattle.hc_serve.specs.Costs.{Costs};
 ghost use Rattle.hc_serve.specs.DirectoryRules.{query_left};
-ghost use Rattle.hc_serve.specs.Passing.{admitted, admitted_by, answered, answered_by, begun};
-ghost use Rattle.hc_serve.specs.Passing.{finished_there, mapped_at};
-ghost use Rattle.hc_serve.specs.Passing.{merged, name_of, outcome_at, passed, passed_from, passed_there, reached};
-ghost use Rattle.hc_serve.specs.Passing.{seen_there, sent_by, sent_there, stopped, walked, without_dots};
+ghost use Rattle.hc_serve.specs.Passing.{admitted, admitted_by, answered, answered_by, finished_there};
+ghost use Rattle.hc_serve.specs.Passing.{mapped_at, merged, name_of, outcome_at, passed, passed_from, passed_there};
+ghost use Rattle.hc_serve.specs.Passing.{reached, seen_there, sent_by, sent_there, stopped, told_pass, walked};
+ghost use Rattle.hc_serve.specs.Passing.{without_dots};
 ghost use Rattle.hc_serve.specs.Site.{site_of};
 ghost use Rattle.hc_steps.specs.Ran.{Ran};
 ghost use Rattle.hc_steps.specs.Run.{run};
@@ -113,7 +113,7 @@ fn reached<O: Overrides>(
     ensures counted { Costs result asked.now.world.now.files (reached (site_of asked.now) pass)
         (O.counted over.old) (O.counted over.new) }
 {
-    let pass = begun(asked.world, log, pass)?;
+    let pass = told_pass(asked.world, log, pass)?;
     let placed = rewritten(asked, log, pass)?;
     let named = name_of(asked, log, placed)?;
     let named = merged(asked.world, log, named)?;
@@ -148,9 +148,9 @@ fn finished_there(
     answered(asked, log, here, left)
 }
 
-#[tactic(auto, unfolding(crate::specs::Passing::begun), using(hc_steps::proofs::Going::telling))]
-fn begun(world: &World, log: &mut Log, pass: Pass) -> Result<Pass, Stop>
-    ensures { Ran result log.old log.new (run (begun pass) (shown_by world.now.files)) }
+#[tactic(auto, unfolding(crate::specs::Passing::told_pass), using(hc_steps::proofs::Going::telling))]
+fn told_pass(world: &World, log: &mut Log, pass: Pass) -> Result<Pass, Stop>
+    ensures { Ran result log.old log.new (run (told_pass pass) (shown_by world.now.files)) }
 {
     log.say(Event::Pass {
         number: pass.number,

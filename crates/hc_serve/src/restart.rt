@@ -1,6 +1,7 @@
 //! The restart that the rules of a directory lead to (Apache manual, mod_rewrite, "Per-directory Rewrites").
 ghost use Rattle.std.specs.Prelude.{◌≡◌, IfOk};
-ghost use Rattle.hc_serve.specs.DirectoryRules.{is_last, next_pass, path_for, redirected, restarted, vars_behind};
+ghost use Rattle.hc_serve.specs.DirectoryRules.{is_last, next_pass, path_for, vars_behind};
+ghost use Rattle.hc_serve.specs.Passing.{redirected, restarted, restarted_at};
 ghost use Rattle.hc_serve.specs.Site.{site_of};
 ghost use Rattle.hc_steps.specs.Ran.{Ran};
 ghost use Rattle.hc_steps.specs.Run.{run};
@@ -28,7 +29,7 @@ const STATUS_NAME: &[u8] = b"REDIRECT_STATUS";
 const STATUS: &[u8] = b"200";
 
 /// The pass that follows where the rules of a directory leave another text than the file name.
-#[tactic(auto, unfolding(crate::specs::DirectoryRules::restarted), using(hc_steps::proofs::Going::telling))]
+#[tactic(auto, unfolding(crate::specs::Passing::restarted), using(hc_steps::proofs::Going::telling))]
 pub(crate) fn restarted(
     asked: &Asked<'_>,
     log: &mut Log,
@@ -62,7 +63,7 @@ fn is_last(asked: &Asked<'_>, here: &Here) -> bool
     most_passes(asked.config, asked.host) <= u64::from(here.named.pass.number) + 1
 }
 
-#[tactic(auto, unfolding(crate::specs::DirectoryRules::redirected), using(hc_steps::proofs::Going::telling))]
+#[tactic(auto, unfolding(crate::specs::Passing::redirected), using(hc_steps::proofs::Going::telling))]
 fn redirected(
     asked: &Asked<'_>,
     log: &mut Log,
@@ -73,13 +74,27 @@ fn redirected(
     ensures { Ran result log.old log.new
         (run (redirected (site_of asked.now) here.now state path) (shown_by asked.now.world.now.files)) }
 {
+    let path = merge_slashes(log.allocator(), path.as_bytes())?;
+    restarted_at(asked, log, here, state, path)
+}
+
+#[tactic(auto, unfolding(crate::specs::Passing::restarted_at), using(hc_steps::proofs::Going::telling))]
+fn restarted_at(
+    asked: &Asked<'_>,
+    log: &mut Log,
+    here: &Here,
+    state: RwState,
+    path: Text,
+) -> Result<Pass, Stop>
+    ensures { Ran result log.old log.new
+        (run (restarted_at (site_of asked.now) here.now state path) (shown_by asked.now.world.now.files)) }
+{
     if has_dots(path.as_bytes()) {
         return Err(Fault::Refused(Outcome::Outside(Reason::DotSegment)));
     }
     if is_last(asked, here) {
         return Err(Fault::Refused(Outcome::Limit(LimitKind::Redirects)));
     }
-    let path = merge_slashes(log.allocator(), path.as_bytes())?;
     log.say(Event::Restart {
         path: path.clone()?,
     })?;

@@ -3,9 +3,10 @@ ghost use Rattle.std.specs.Prelude.{◌≡◌, [], IfOk, OnOk};
 ghost use Rattle.hc_rw_eval.specs.Frames.{as_step};
 ghost use Rattle.hc_rw_eval.specs.Lists.{run_rules};
 ghost use Rattle.hc_rw_expand.specs.Contexts.{context_of};
-ghost use Rattle.hc_serve.specs.ServerRules.{absolute_left, context_at, exists, finished, is_there, looks_of, maps_at};
-ghost use Rattle.hc_serve.specs.ServerRules.{name_left, own_name, pass_with, path_left, rewritten, rules_at, rules_run};
-ghost use Rattle.hc_serve.specs.ServerRules.{state_at, text_left};
+ghost use Rattle.hc_serve.specs.Passing.{absolute_left, exists, finished, name_left, path_left, path_without_dots};
+ghost use Rattle.hc_serve.specs.Passing.{rewritten, rules_run, text_left};
+ghost use Rattle.hc_serve.specs.ServerRules.{context_at, is_there, looks_of, maps_at, own_name, pass_with, rules_at};
+ghost use Rattle.hc_serve.specs.ServerRules.{state_at};
 ghost use Rattle.hc_serve.specs.Site.{site_of};
 ghost use Rattle.hc_steps.specs.Ran.{Ran};
 ghost use Rattle.hc_steps.specs.Run.{run};
@@ -31,7 +32,7 @@ use std::alloc::Global;
 use std::mem::replace;
 
 /// What the rules of the server leave, where its engine is on.
-#[tactic(auto, unfolding(crate::specs::ServerRules::rewritten), using(hc_steps::proofs::Going::ran_leaves))]
+#[tactic(auto, unfolding(crate::specs::Passing::rewritten), using(hc_steps::proofs::Going::ran_leaves))]
 pub(crate) fn rewritten(asked: &Asked<'_>, log: &mut Log, pass: Pass) -> Result<Placed, Stop>
     requires { IsHostOf asked.now.config.now asked.now.host }
     ensures { Ran result log.old log.new
@@ -44,7 +45,7 @@ pub(crate) fn rewritten(asked: &Asked<'_>, log: &mut Log, pass: Pass) -> Result<
     }
 }
 
-#[tactic(auto, unfolding(crate::specs::ServerRules::rules_run), using(hc_steps::proofs::Going::ran_no_memory))]
+#[tactic(auto, unfolding(crate::specs::Passing::rules_run), using(hc_steps::proofs::Going::ran_no_memory))]
 fn rules_run(asked: &Asked<'_>, log: &mut Log, pass: Pass) -> Result<Placed, Stop>
     requires { IsHostOf asked.now.config.now asked.now.host }
     ensures { Ran result log.old log.new
@@ -149,7 +150,7 @@ fn context_at<'p>(asked: &Asked<'p>, pass: &'p Pass) -> RwContext<'p>
     }
 }
 
-#[tactic(auto, unfolding(crate::specs::ServerRules::finished), using(hc_steps::proofs::Going::ran_leaves))]
+#[tactic(auto, unfolding(crate::specs::Passing::finished), using(hc_steps::proofs::Going::ran_leaves))]
 fn finished(asked: &Asked<'_>, log: &mut Log, pass: Pass, ran: Finished) -> Result<Placed, Stop>
     requires { IsHostOf asked.now.config.now asked.now.host }
     ensures { Ran result log.old log.new
@@ -186,7 +187,7 @@ fn pass_with(pass: Pass, state: RwState) -> (Pass, Text)
     (pass, text)
 }
 
-#[tactic(auto, unfolding(crate::specs::ServerRules::text_left), using(hc_steps::proofs::Going::ran_ends))]
+#[tactic(auto, unfolding(crate::specs::Passing::text_left), using(hc_steps::proofs::Going::ran_ends))]
 fn text_left(
     asked: &Asked<'_>,
     passed: bool,
@@ -206,7 +207,7 @@ fn text_left(
 }
 
 // PT: the text is a URL path.
-#[tactic(auto, unfolding(crate::specs::ServerRules::absolute_left), using(hc_steps::proofs::Going::ran_no_memory))]
+#[tactic(auto, unfolding(crate::specs::Passing::absolute_left), using(hc_steps::proofs::Going::ran_no_memory))]
 fn absolute_left(
     asked: &Asked<'_>,
     passed: bool,
@@ -226,18 +227,25 @@ fn absolute_left(
     name_left(asked, log, pass, text, there)
 }
 
-#[tactic(auto, unfolding(crate::specs::ServerRules::path_left), using(hc_steps::proofs::Going::telling))]
+#[tactic(auto, unfolding(crate::specs::Passing::path_left), using(hc_steps::proofs::Going::telling))]
 fn path_left(world: &World, log: &mut Log, pass: Pass, text: Text) -> Result<Placed, Stop>
     ensures { Ran result log.old log.new (run (path_left pass text) (shown_by world.now.files)) }
 {
-    if has_dots(text.as_bytes()) {
+    let path = merge_slashes(log.allocator(), text.as_bytes())?;
+    path_without_dots(world, log, pass, path)
+}
+
+#[tactic(auto, unfolding(crate::specs::Passing::path_without_dots), using(hc_steps::proofs::Going::telling))]
+fn path_without_dots(world: &World, log: &mut Log, pass: Pass, path: Text) -> Result<Placed, Stop>
+    ensures { Ran result log.old log.new (run (path_without_dots pass path) (shown_by world.now.files)) }
+{
+    if has_dots(path.as_bytes()) {
         return Err(Fault::Refused(Outcome::Outside(Reason::DotSegment)));
     }
-    let path = merge_slashes(log.allocator(), text.as_bytes())?;
     Ok(Placed::Unnamed(Pass { path, ..pass }))
 }
 
-#[tactic(auto, unfolding(crate::specs::ServerRules::exists), using(hc_steps::proofs::Going::ran_leaves))]
+#[tactic(auto, unfolding(crate::specs::Passing::exists), using(hc_steps::proofs::Going::ran_leaves))]
 fn exists(world: &World, log: &mut Log, path: Option<Text>) -> Result<bool, Stop>
     ensures { Ran result log.old log.new (run (exists path) (shown_by world.now.files)) }
 {
@@ -255,7 +263,7 @@ fn is_there(kind: Kind) -> bool
 }
 
 // A text that names something that exists is a file name.
-#[tactic(auto, unfolding(crate::specs::ServerRules::name_left), using(hc_steps::proofs::Going::telling))]
+#[tactic(auto, unfolding(crate::specs::Passing::name_left), using(hc_steps::proofs::Going::telling))]
 fn name_left(
     asked: &Asked<'_>,
     log: &mut Log,

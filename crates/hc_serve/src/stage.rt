@@ -12,7 +12,7 @@ pub(crate) type Stop = Fault<Outcome>;
 
 /// A pass as it begins.
 #[derive(Drop)]
-pub(crate) struct Pass {
+pub struct Pass {
     /// Passes count from 0.
     pub number: u32,
     /// The URL path.
@@ -56,7 +56,7 @@ pub(crate) struct Opened {
 
 /// A pass that has a file name.
 #[derive(Drop)]
-pub(crate) struct Named {
+pub struct Named {
     pub pass: Pass,
     pub name: Text,
     /// The alias that gave the name.
@@ -67,7 +67,7 @@ pub(crate) struct Named {
 
 /// What the rules of the server leave.
 #[derive(Drop)]
-pub(crate) enum Placed {
+pub enum Placed {
     /// A pass whose URL path is to be mapped.
     Unnamed(Pass),
     Named(Named),
@@ -75,14 +75,14 @@ pub(crate) enum Placed {
 
 /// A pass whose name was followed.
 #[derive(Drop)]
-pub(crate) struct Walked {
+pub struct Walked {
     pub named: Named,
     pub walk: Walk,
 }
 
 /// A pass with what is in force where it is.
 #[derive(Drop)]
-pub(crate) struct Here {
+pub struct Here {
     pub named: Named,
     pub walk: Walk,
     pub force: Effective,
@@ -90,14 +90,14 @@ pub(crate) struct Here {
 
 /// How a pass ends a request, and the tree of Require lines that was in force.
 #[derive(Drop)]
-pub(crate) struct Ended {
+pub struct Ended {
     pub outcome: Outcome,
     pub require: Requirement,
 }
 
 /// A pass that follows another one, and the tree of Require lines that was in force in that one.
 #[derive(Drop)]
-pub(crate) struct Restarted {
+pub struct Restarted {
     pub pass: Pass,
     pub require: Requirement,
 }

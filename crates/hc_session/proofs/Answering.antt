@@ -1,5 +1,9 @@
 -- What was answered, line after line.
-use Rattle.hc_session.proofs.Common.{◌≡◌, ℕ, ◌+◌, ◌≤◌, List, [], ◌∷◌, ◌++◌, Option, true, false, arith, refl, sym, ap, ◌∙◌, subst, inl, inr, take, length, append_assoc, length-append, true≢false, Appends, State, AnswersTaking, AppendsFront, SendsInPart, AnswersLine, AnswersInPart, AnswersLines, AnswersLinesInPart, IsSpent, Work, work, both, output, refusals}
+use Rattle.hc_session.proofs.Common.{◌≡◌, ℕ, ◌+◌, ◌≤◌, List, [], ◌∷◌, ◌++◌, Option, true}
+use Rattle.hc_session.proofs.Common.{false, arith, refl, sym, ap, ◌∙◌, subst, inl, inr, take, length}
+use Rattle.hc_session.proofs.Common.{append_assoc, length-append, true≢false, Appends, State, AnswersTaking}
+use Rattle.hc_session.proofs.Common.{AppendsFront, SendsInPart, AnswersLine, AnswersInPart, AnswersLines}
+use Rattle.hc_session.proofs.Common.{AnswersLinesInPart, IsSpent, Work, work, both, output, refusals}
 use Rattle.std.proofs.lemmas.List.Concat.{flat_map-append}
 use Rattle.std.proofs.lemmas.List.Elements.{filter-append}
 use Rattle.std.proofs.Math.Seq.{take-append-add}
@@ -36,23 +40,31 @@ both_assoc u v w =
     λ i. work (evals i) (bytes i)
 
 refusals-append : (xs ys : List Reply) → refusals (xs ++ ys) ≡ refusals xs + refusals ys
-refusals-append xs ys = rw (filter-append is_no_memory xs ys) (length-append (filter is_no_memory xs) (filter is_no_memory ys))
+refusals-append xs ys =
+    rw (filter-append is_no_memory xs ys) (length-append (filter is_no_memory xs) (filter is_no_memory ys))
 
 pub spent_none : (state : State) (n : Work) → IsSpent state state [] (work 0 0) n n
 spent_none state n = record { rises = omega arith; evals = omega arith; bytes = λ none. omega arith }
 
-pub spent_append : (old mid new : State) (replies later : List Reply) (most more k m n : Work) → IsSpent old mid replies most k m → IsSpent mid new later more m n → IsSpent old new (replies ++ later) (both most more) k n
+pub spent_append : (old mid new : State) (replies later : List Reply) (most more k m n : Work)
+    → IsSpent old mid replies most k m → IsSpent mid new later more m n
+    → IsSpent old new (replies ++ later) (both most more) k n
 spent_append old mid new replies later most more k m n first next = record {
   rises = omega (arith, first.rises, next.rises);
   evals = omega (arith, first.evals, next.evals);
-  bytes = λ none. omega (arith, first.bytes (omega (arith, none, refusals-append replies later)), next.bytes (omega (arith, none, refusals-append replies later)));
+  bytes = λ none. omega (
+    arith,
+    first.bytes (omega (arith, none, refusals-append replies later)),
+    next.bytes (omega (arith, none, refusals-append replies later)),
+  );
 }
 
 -- ---- one line
 
 module _ (old new : State) (line : List ℕ) (k n : Work) where
   -- No memory was found for it.
-  pub spent_refused : new ≡ old → (k.evals ≤ n.evals) × (n.evals ≤ k.evals + command_evals (command_of line)) → IsSpent old new (no_memory ∷ []) (line_work old line no_memory) k n
+  pub spent_refused : new ≡ old → (k.evals ≤ n.evals) × (n.evals ≤ k.evals + command_evals (command_of line))
+      → IsSpent old new (no_memory ∷ []) (line_work old line no_memory) k n
   spent_refused same counts = record {
     rises = counts.0;
     evals = omega (arith, counts.1, ap (λ s. s.evaluations) same);
@@ -60,24 +72,39 @@ module _ (old new : State) (line : List ℕ) (k n : Work) where
   }
 
   -- It was answered.
-  pub spent_answered : (said : Reply) → (k.evals ≤ n.evals) × (n.evals ≤ k.evals + command_evals (command_of line)) × (n.evals + old.evaluations ≡ k.evals + new.evaluations)
+  pub spent_answered : (said : Reply) → (k.evals ≤ n.evals)
+      × (n.evals ≤ k.evals + command_evals (command_of line))
+      × (n.evals + old.evaluations ≡ k.evals + new.evaluations)
       → n.bytes ≤ k.bytes + line_bytes old line → IsSpent old new (said ∷ []) (line_work old line said) k n
   spent_answered said counts few = record { rises = counts.0; evals = omega (arith, counts.2); bytes = λ none. few }
 
 module _ (old new : State) (line : List ℕ) (a b : Option (List ℕ)) (k n : Work) where
   -- The line of the fixed reply was written, whole or in part.
-  module _ (same : new ≡ old) (counts : (k.evals ≤ n.evals) × (n.evals ≤ k.evals + command_evals (command_of line))) where
+  module _ (same : new ≡ old)
+      (counts : (k.evals ≤ n.evals) × (n.evals ≤ k.evals + command_evals (command_of line))) where
     pub answers_no_memory : Appends a b (codes "{\"no_memory\":true}\n") → AnswersLine old new line a b k n
     answers_no_memory wrote =
-        record { reply = no_memory; turns = inl (refl, same); writes = rw no_memory_printed wrote; spent = spent_refused old new line k n same counts }
+        record {
+          reply = no_memory;
+          turns = inl (refl, same);
+          writes = rw no_memory_printed wrote;
+          spent = spent_refused old new line k n same counts;
+        }
 
-    pub answers_no_memory_in_part : AppendsFront a b (codes "{\"no_memory\":true}\n") → AnswersInPart old new line a b k n
+    pub answers_no_memory_in_part : AppendsFront a b (codes "{\"no_memory\":true}\n")
+        → AnswersInPart old new line a b k n
     answers_no_memory_in_part wrote =
-        record { reply = no_memory; turns = inl (refl, same); writes = rw no_memory_printed wrote; spent = spent_refused old new line k n same counts }
+        record {
+          reply = no_memory;
+          turns = inl (refl, same);
+          writes = rw no_memory_printed wrote;
+          spent = spent_refused old new line k n same counts;
+        }
 
   -- So was that of another reply.
   module _ (stepped : Stepped) (gave : (said : Reply) × Says said stepped × LineTurn old line said new)
-      (counts : (k.evals ≤ n.evals) × (n.evals ≤ k.evals + command_evals (command_of line)) × (n.evals + old.evaluations ≡ k.evals + new.evaluations))
+      (counts : (k.evals ≤ n.evals) × (n.evals ≤ k.evals + command_evals (command_of line))
+      × (n.evals + old.evaluations ≡ k.evals + new.evaluations))
       (few : n.bytes ≤ k.bytes + line_bytes old line) where
     pub answers_stepped : Appends a b stepped.line → AnswersLine old new line a b k n
     answers_stepped wrote = record {
@@ -98,24 +125,31 @@ module _ (old new : State) (line : List ℕ) (a b : Option (List ℕ)) (k n : Wo
 -- ---- several lines
 
 -- Lines behind an `end` have no replies.
-ended_answers : (state : State) (lines : List (List ℕ)) → state.ended ≡ true → AnswersTaking state lines [] state (work 0 0)
+ended_answers : (state : State) (lines : List (List ℕ)) → state.ended ≡ true
+    → AnswersTaking state lines [] state (work 0 0)
 ended_answers state [] ended = (refl, refl, refl)
 ended_answers state (line ∷ lines) ended = inl (ended, refl, refl, refl)
 
-pub answers_ended : (old new : State) (lines : List (List ℕ)) (replies : List Reply) (most : Work) → old.ended ≡ true → AnswersTaking old lines replies new most
+pub answers_ended : (old new : State) (lines : List (List ℕ)) (replies : List Reply) (most : Work)
+    → old.ended ≡ true → AnswersTaking old lines replies new most
     → (replies ≡ []) × (new ≡ old) × (most ≡ work 0 0)
 answers_ended old new [] replies most ended run = run
 answers_ended old new (line ∷ lines) replies most ended (inl none) = (none.1, none.2, none.3)
 answers_ended old new (line ∷ lines) replies most ended (inr some) = absurd (true≢false (sym ended ∙ some.0))
 
 -- One run after another.
-answers_append : (old mid new : State) (lines more : List (List ℕ)) (replies later : List Reply) (most rest : Work) → AnswersTaking old lines replies mid most
-    → AnswersTaking mid more later new rest → AnswersTaking old (lines ++ more) (replies ++ later) new (both most rest)
+answers_append : (old mid new : State) (lines more : List (List ℕ)) (replies later : List Reply) (most rest : Work)
+    → AnswersTaking old lines replies mid most
+    → AnswersTaking mid more later new rest → AnswersTaking old (lines ++ more) (replies ++ later) new
+    (both most rest)
 answers_append old mid new [] more replies later most rest run next =
     let all : rest ≡ both most rest = none_first rest ∙ ap (λ w. both w rest) (sym run.2) in
-    rw run.0 (subst (AnswersTaking old more later new) all (subst (λ s. AnswersTaking s more later new rest) run.1 next))
+    rw run.0 (subst (AnswersTaking old more later new) all
+    (subst (λ s. AnswersTaking s more later new rest) run.1 next))
 answers_append old mid new (line ∷ lines) more replies later most rest (inl none) next =
-    let after = answers_ended old new more later rest none.0 (subst (λ s. AnswersTaking s more later new rest) none.2 next) in
+    let after =
+    answers_ended old new more later rest none.0
+    (subst (λ s. AnswersTaking s more later new rest) none.2 next) in
     inl (none.0, rw (none.1, after.0) refl, after.1, λ i. both (none.3 i) (after.2 i))
 answers_append old mid new (line ∷ lines) more replies later most rest (inr run) next =
     inr (
@@ -131,13 +165,29 @@ answers_append old mid new (line ∷ lines) more replies later most rest (inr ru
     )
 
 pub lines_none : (state : State) (a : Option (List ℕ)) (n : Work) → AnswersLines state state [] a a n n
-lines_none state a n = record { replies = []; most = work 0 0; answers = (refl, refl, refl); writes = appends_none a; spent = spent_none state n }
+lines_none state a n =
+    record {
+      replies = [];
+      most = work 0 0;
+      answers = (refl, refl, refl);
+      writes = appends_none a;
+      spent = spent_none state n;
+    }
 
-pub lines_ended : (state : State) (lines : List (List ℕ)) (a : Option (List ℕ)) (n : Work) → state.ended ≡ true → AnswersLines state state lines a a n n
-lines_ended state lines a n ended = record { replies = []; most = work 0 0; answers = ended_answers state lines ended; writes = appends_none a; spent = spent_none state n }
+pub lines_ended : (state : State) (lines : List (List ℕ)) (a : Option (List ℕ)) (n : Work) → state.ended ≡ true
+    → AnswersLines state state lines a a n n
+lines_ended state lines a n ended =
+    record {
+      replies = [];
+      most = work 0 0;
+      answers = ended_answers state lines ended;
+      writes = appends_none a;
+      spent = spent_none state n;
+    }
 
 -- Replies that were written, and then others, of the last one's line a front.
-sends_more : (a b c : Option (List ℕ)) (replies later : List Reply) → Appends a b (output replies) → SendsInPart b c later → SendsInPart a c (replies ++ later)
+sends_more : (a b c : Option (List ℕ)) (replies later : List Reply) → Appends a b (output replies)
+    → SendsInPart b c later → SendsInPart a c (replies ++ later)
 sends_more a b c replies later before part = record {
   sent = replies ++ part.sent;
   last = part.last;
@@ -146,30 +196,39 @@ sends_more a b c replies later before part = record {
   unsent = part.unsent;
   line = part.line;
   written =
-      let same = ap (λ l. l ++ part.front) (flat_map-append reply_line replies part.sent) ∙ append_assoc (output replies) (output part.sent) part.front in
-      subst (Appends a c) (sym same) (appends_more a b c (output replies) (output part.sent ++ part.front) before part.written);
+      let same = ap (λ l. l ++ part.front) (flat_map-append reply_line replies part.sent)
+      ∙ append_assoc (output replies) (output part.sent) part.front in
+      subst (Appends a c) (sym same)
+      (appends_more a b c (output replies) (output part.sent ++ part.front) before part.written);
 }
 
 module _ (old mid : State) (a b c : Option (List ℕ)) (k m n : Work) where
-  pub lines_cons : (new : State) (line : List ℕ) (more : List (List ℕ)) → old.ended ≡ false → AnswersLine old mid line a b k m → AnswersLines mid new more b c m n → AnswersLines old new (line ∷ more) a c k n
+  pub lines_cons : (new : State) (line : List ℕ) (more : List (List ℕ)) → old.ended ≡ false
+      → AnswersLine old mid line a b k m → AnswersLines mid new more b c m n
+      → AnswersLines old new (line ∷ more) a c k n
   lines_cons new line more going one next = record {
     replies = one.reply ∷ next.replies;
     most = both (line_work old line one.reply) next.most;
     answers = inr (going, one.reply, next.replies, mid, next.most, refl, refl, one.turns, next.answers);
     writes = appends_more a b c _ _ one.writes next.writes;
-    spent = spent_append old mid new (one.reply ∷ []) next.replies (line_work old line one.reply) next.most k m n one.spent next.spent;
+    spent = spent_append old mid new (one.reply ∷ []) next.replies (line_work old line one.reply) next.most k m n
+        one.spent next.spent;
   }
 
-  pub lines_append : (new : State) (lines more : List (List ℕ)) → AnswersLines old mid lines a b k m → AnswersLines mid new more b c m n → AnswersLines old new (lines ++ more) a c k n
+  pub lines_append : (new : State) (lines more : List (List ℕ)) → AnswersLines old mid lines a b k m
+      → AnswersLines mid new more b c m n → AnswersLines old new (lines ++ more) a c k n
   lines_append new lines more first next = record {
     replies = first.replies ++ next.replies;
     most = both first.most next.most;
-    answers = answers_append old mid new lines more first.replies next.replies first.most next.most first.answers next.answers;
-    writes = rw (flat_map-append reply_line first.replies next.replies) (appends_more a b c _ _ first.writes next.writes);
+    answers = answers_append old mid new lines more first.replies next.replies first.most next.most first.answers
+        next.answers;
+    writes = rw (flat_map-append reply_line first.replies next.replies)
+        (appends_more a b c _ _ first.writes next.writes);
     spent = spent_append old mid new first.replies next.replies first.most next.most k m n first.spent next.spent;
   }
 
-  pub lines_append_in_part : (lines more : List (List ℕ)) → AnswersLines old mid lines a b k m → AnswersLinesInPart mid more b c m n → AnswersLinesInPart old (lines ++ more) a c k n
+  pub lines_append_in_part : (lines more : List (List ℕ)) → AnswersLines old mid lines a b k m
+      → AnswersLinesInPart mid more b c m n → AnswersLinesInPart old (lines ++ more) a c k n
   lines_append_in_part lines more first next = record {
     count = length lines + next.count;
     replies = first.replies ++ next.replies;
@@ -177,13 +236,17 @@ module _ (old mid : State) (a b c : Option (List ℕ)) (k m n : Work) where
     most = both first.most next.most;
     answers =
         rw (take-append-add lines more next.count)
-        (answers_append old mid next.state lines (take next.count more) first.replies next.replies first.most next.most first.answers next.answers);
+        (answers_append old mid next.state lines (take next.count more) first.replies next.replies first.most next.most
+        first.answers next.answers);
     writes = sends_more a b c first.replies next.replies first.writes next.writes;
-    spent = spent_append old mid next.state first.replies next.replies first.most next.most k m n first.spent next.spent;
+    spent = spent_append old mid next.state first.replies next.replies first.most next.most k m n first.spent
+        next.spent;
   }
 
 -- A line that was answered in part is the last.
-pub lines_cons_in_part : (old new : State) (line : List ℕ) (more : List (List ℕ)) (a b : Option (List ℕ)) (k n : Work) → old.ended ≡ false → AnswersInPart old new line a b k n → AnswersLinesInPart old (line ∷ more) a b k n
+pub lines_cons_in_part : (old new : State) (line : List ℕ) (more : List (List ℕ)) (a b : Option (List ℕ))
+    (k n : Work) → old.ended ≡ false → AnswersInPart old new line a b k n
+    → AnswersLinesInPart old (line ∷ more) a b k n
 lines_cons_in_part old new line more a b k n going one =
     let all = line_work old line one.reply in
     record {

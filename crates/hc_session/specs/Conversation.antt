@@ -1,5 +1,6 @@
 -- What a run of the program takes and writes. Our own choice.
-use Rattle.std.specs.Prelude.{◌≡◌, ◌≢◌, ◌⊎◌, ℕ, ◌<◌, ◌≤◌, List, [], ◌∷◌, ◌++◌, length, take}
+use Rattle.std.specs.Prelude.{◌≡◌, ◌≢◌, ◌⊎◌, ℕ, ◌<◌, ◌≤◌, List, [], ◌∷◌, ◌++◌}
+use Rattle.std.specs.Prelude.{length, take}
 use Rattle.std.specs.Prelude.{Bool, true, false, nat_lt, nat_le, if◌then◌else◌, Option, ⊤, IfSome}
 use Rattle.std.specs.Io.KnownBytes.{Consumes, Appends, IsAtEnd}
 use Rattle.hc_base.specs.Lines.{whole_lines, rest_of}
@@ -75,7 +76,8 @@ Sends status old new replies = Appends old new (output replies)
 
 -- When a run ends so, with these bytes taken and these left.
 abbrev pub EndsWith : Status → Option (List ℕ) → List ℕ → Bool → Type 0
-EndsWith Done left taken ended = (ended ≡ true) ⊎ (IsAtEnd left × (rest_of taken ≡ []) × IsOpen taken × (ended ≡ false))
+EndsWith Done left taken ended = (ended ≡ true)
+    ⊎ (IsAtEnd left × (rest_of taken ≡ []) × IsOpen taken × (ended ≡ false))
 EndsWith CutLine left taken ended = IsAtEnd left × (rest_of taken ≢ []) × IsOpen taken × (ended ≡ false)
 EndsWith LineTooLong left taken ended = (LINE_LIMIT ≤ length (rest_of taken)) × (ended ≡ false)
 EndsWith ScriptTooLong left taken ended =
@@ -91,9 +93,11 @@ status_at_end [] = Done
 status_at_end (b ∷ bs) = CutLine
 
 -- A run that served its source: what was written are the session's replies to the whole lines of the bytes taken, up to
--- an `end`, or to so many of them, where the sink failed at the last one; and the counters have risen by no more than these
+-- an `end`, or to so many of them, where the sink failed at the last one; and the counters have risen by no more than
+-- these
 -- lines give.
-pub record Served (left remaining written grown : Option (List ℕ)) (before after : Work) (status : Status) : Type 0 where
+pub record Served (left remaining written grown : Option (List ℕ)) (before after : Work) (status : Status) : Type
+    0 where
   pub taken : List ℕ
   pub count : ℕ
   pub replies : List Reply

@@ -1,5 +1,6 @@
 -- What was written of some bytes.
-use Rattle.std.specs.Prelude.{◌≡◌, ℕ, ◌+◌, ◌≤◌, List, [], ◌∷◌, ◌++◌, length, filter, take, Option}
+use Rattle.std.specs.Prelude.{◌≡◌, ℕ, ◌+◌, ◌≤◌, List, [], ◌∷◌, ◌++◌, length, filter, take}
+use Rattle.std.specs.Prelude.{Option}
 use Rattle.std.specs.List.{flat_map}
 use Rattle.std.specs.Io.KnownBytes.{Appends}
 use Rattle.hc_json.specs.Reply.{Reply, reply_line}
@@ -13,7 +14,8 @@ output replies = flat_map reply_line replies
 abbrev pub refusals : List Reply → ℕ
 refusals replies = length (filter is_no_memory replies)
 
--- Evaluations have risen by no more than the session counts and the lines may take beside that; and bytes by no more than
+-- Evaluations have risen by no more than the session counts and the lines may take beside that; and bytes by no more
+-- than
 -- the lines may take, unless memory was refused for a line.
 pub record IsSpent (old new : State) (replies : List Reply) (most before after : Work) : Type 0 where
   pub rises : before.evals ≤ after.evals

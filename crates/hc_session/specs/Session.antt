@@ -1,5 +1,7 @@
 -- The session: what each line of a script is answered, and what it leaves. Our own choice.
-use Rattle.std.specs.Prelude.{◌≡◌, ◌⊎◌, ◌+◌, ◌≤◌, ◌==◌, ℕ, List, [], ◌∷◌, length, take, Bool, true, false, if◌then◌else◌, is_some, Option, Some, None, Result, Ok, Err, codes}
+use Rattle.std.specs.Prelude.{◌≡◌, ◌⊎◌, ◌+◌, ◌≤◌, ◌==◌, ℕ, List, [], ◌∷◌, length}
+use Rattle.std.specs.Prelude.{take, Bool, true, false, if◌then◌else◌, is_some, Option, Some, None, Result, Ok}
+use Rattle.std.specs.Prelude.{Err, codes}
 use Rattle.std.specs.FinMap.{empty}
 use Rattle.std.specs.Str.{bytes_eq}
 use Rattle.hc_base.specs.declared.codes.TheConstants.{PATH_FORM}
@@ -236,7 +238,8 @@ abbrev pub is_no_memory : Reply → Bool
 is_no_memory reply.no_memory = true
 is_no_memory other = false
 
--- What a line may take beside the evaluations that the session counts: one evaluation where it is an ask that is answered
+-- What a line may take beside the evaluations that the session counts: one evaluation where it is an ask that is
+-- answered
 -- `no_memory`, and the bytes of the texts that it may read.
 abbrev pub line_work : State → List ℕ → Reply → Work
 line_work old line said = work (if is_no_memory said then command_evals (command_of line) else 0) (line_bytes old line)
@@ -305,7 +308,8 @@ evaluated_turn state request trail answer =
     saying (evaluated state request answer) (answer_reply trail state.world.files answer)
 
 abbrev pub new_turn : State → Request → Bool → Result Config Refusal → Turn
-new_turn state request trail (Ok config) = evaluated_turn state request trail (answer_of state.world.files config request)
+new_turn state request trail (Ok config) =
+    evaluated_turn state request trail (answer_of state.world.files config request)
 new_turn state request trail (Err refusal) = refusing state refusal
 
 -- The counter rises by at most so much, and where there is an answer as the evaluations do.

@@ -18,7 +18,8 @@ use Rattle.hc_session.specs.declared.limits.TheConstants.{KEPT_ANSWERS}
 -- What a request receives of the present files.
 abbrev pub IsAnswerOf : Edited → Path → Request → Answer → Type 0
 IsAnswerOf world main request answer =
-    (config : Config) × (configuration world.files main ≡ Ok config) × (answer ≡ answer_of world.files config request)
+    (config : Config) × (configuration world.files main ≡ Ok config)
+    × (answer ≡ answer_of world.files config request)
 
 -- While nothing that it rests on has changed, an answer that is kept is that of the present files.
 pub record IsPresent (world : Edited) (main : Path) (kept : Kept) : Type 0 where

@@ -8,7 +8,7 @@ ghost use Rattle.hc_serve.specs.Request.{way};
 ghost use Rattle.hc_session.specs.Session.{answer_of, request_bytes};
 ghost use Rattle.hc_session.specs.Sound.{Evaluates, IsFound};
 
-use hc_base::{NoMemory, Refusal, Steps};
+use hc_base::{Counter, NoMemory, Refusal};
 use hc_kept::{CachedFiles, CachedOverrides, KeptFiles, Site};
 use hc_model::{Config, Request};
 use hc_serve::{Answer, evaluate};
@@ -22,8 +22,8 @@ pub(crate) fn find_answer<E: Ledger, L: Ledger>(
     world: &World,
     site: &mut Site,
     request: &Request,
-    evals: &mut Steps<E>,
-    bytes: &mut Steps<L>,
+    evals: &mut Counter<E>,
+    bytes: &mut Counter<L>,
 ) -> Result<Result<Answer, Refusal>, NoMemory>
     requires slash { begins_with_slash request.now.target ≡ true }
     requires site { IsSiteOf world.now site.old }
@@ -49,8 +49,8 @@ fn answer<E: Ledger, L: Ledger>(
     world: &World,
     files: &mut KeptFiles,
     request: &Request,
-    evals: &mut Steps<E>,
-    bytes: &mut Steps<L>,
+    evals: &mut Counter<E>,
+    bytes: &mut Counter<L>,
 ) -> Result<Answer, NoMemory>
     requires slash { begins_with_slash request.now.target ≡ true }
     requires files { AreFilesOf world.now config.now files.old }
@@ -72,8 +72,8 @@ fn answer_by<E: Ledger, L: Ledger>(
     world: &World,
     files: &mut CachedFiles<'_>,
     request: &Request,
-    evals: &mut Steps<E>,
-    bytes: &mut Steps<L>,
+    evals: &mut Counter<E>,
+    bytes: &mut Counter<L>,
 ) -> Result<Answer, NoMemory>
     requires slash { begins_with_slash request.now.target ≡ true }
     requires world { files.old.world.files ≡ world.now.files }
@@ -95,7 +95,7 @@ fn evaluated<E: Ledger, L: Ledger>(
     world: &World,
     over: &mut CachedOverrides<'_, '_, L>,
     request: &Request,
-    evals: &mut Steps<E>,
+    evals: &mut Counter<E>,
 ) -> Result<Answer, NoMemory>
     requires slash { begins_with_slash request.now.target ≡ true }
     requires world { over.old.files.now.world.files ≡ world.now.files }

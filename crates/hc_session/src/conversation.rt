@@ -10,7 +10,7 @@ use crate::line_buffer::LineBuffer;
 use crate::serve::answer_lines;
 use crate::session::Session;
 use crate::status::Status;
-use hc_base::{Failed, NoMemory, Sink, Source, Steps};
+use hc_base::{Counter, Failed, NoMemory, Sink, Source};
 use std::alloc::Global;
 use std::sync::ledger::Ledger;
 
@@ -22,8 +22,8 @@ pub fn serve_session<S: Source, K: Sink, E: Ledger, B: Ledger>(
     alloc: Global,
     source: &mut S,
     sink: &mut K,
-    evals: &mut Steps<E>,
-    bytes: &mut Steps<B>,
+    evals: &mut Counter<E>,
+    bytes: &mut Counter<B>,
 ) -> Status
     requires source_counts { S.faults source.old < 2 ^ 64 - 1 }
     requires sink_counts { K.faults sink.old < 2 ^ 64 - 1 }
@@ -87,8 +87,8 @@ fn serve<S: Source, K: Sink, E: Ledger, B: Ledger>(
     line: &mut LineBuffer,
     source: &mut S,
     sink: &mut K,
-    evals: &mut Steps<E>,
-    bytes: &mut Steps<B>,
+    evals: &mut Counter<E>,
+    bytes: &mut Counter<B>,
 ) -> Status
     requires session { session.old ≡ start }
     requires line { line.old ≡ [] }

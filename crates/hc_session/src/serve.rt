@@ -9,7 +9,7 @@ ghost use Rattle.hc_session.specs.declared.limits.TheConstants.{LINE_LIMIT};
 
 use crate::line_buffer::LineBuffer;
 use crate::session::Session;
-use hc_base::{Failed, NoMemory, Sink, Steps};
+use hc_base::{Counter, Failed, NoMemory, Sink};
 use memchr::memchr;
 use std::sync::ledger::Ledger;
 
@@ -34,8 +34,8 @@ fn answer_line<K: Sink, E: Ledger, L: Ledger>(
     session: &mut Session,
     line: &[u8],
     sink: &mut K,
-    evals: &mut Steps<E>,
-    bytes: &mut Steps<L>,
+    evals: &mut Counter<E>,
+    bytes: &mut Counter<L>,
 ) -> Result<(), Failed>
     ensures ok { OnOk result (AnswersLine session.old session.new line.now
         (K.written sink.old) (K.written sink.new) (work evals.old bytes.old) (work evals.new bytes.new)) }
@@ -56,8 +56,8 @@ pub(crate) fn answer_lines<K: Sink, E: Ledger, L: Ledger>(
     line: &mut LineBuffer,
     piece: &[u8],
     sink: &mut K,
-    evals: &mut Steps<E>,
-    bytes: &mut Steps<L>,
+    evals: &mut Counter<E>,
+    bytes: &mut Counter<L>,
 ) -> Result<(), Failed>
     requires going { session.old.ended ≡ false }
     requires unended { rest_of line.old ≡ line.old }

@@ -1,4 +1,5 @@
-ghost use Rattle.std.specs.Prelude.{◌≡◌, ◌+◌, ◌<◌, ◌≤◌, ◌-◌, ◌^◌, None, Some, true, IfOk, IfSome, OnOk};
+ghost use Rattle.std.specs.Prelude.{◌≡◌, ◌+◌, ◌<◌, ◌≤◌, ◌-◌, ◌^◌, None, Some, true, IfOk};
+ghost use Rattle.std.specs.Prelude.{IfSome, OnOk};
 ghost use Rattle.hc_base.specs.Paths.{begins_with_slash};
 ghost use Rattle.hc_json.specs.Command.{command_of};
 ghost use Rattle.hc_json.specs.CommandView.{question_view, request_view};
@@ -6,7 +7,8 @@ ghost use Rattle.hc_kept.specs.Site.{is_current_site};
 ghost use Rattle.hc_session.specs.Changes.{changed_by, done_of};
 ghost use Rattle.hc_session.specs.Session.{Counts, EditTurn, Gave, IsTurn, StepTurn, ask_turn};
 ghost use Rattle.hc_session.specs.Session.{ask_bytes, check_turn, command_bytes, command_evals, end_turn};
-ghost use Rattle.hc_session.specs.Session.{evaluated_turn, is_kept, kept_turn, main_turn, new_bytes, new_turn, present, reads_nothing};
+ghost use Rattle.hc_session.specs.Session.{evaluated_turn, is_kept, kept_turn, main_turn, new_bytes, new_turn, present};
+ghost use Rattle.hc_session.specs.Session.{reads_nothing};
 ghost use Rattle.hc_session.specs.Session.{site_bytes, start, stats_turn};
 ghost use Rattle.hc_session.specs.Sound.{IsAnswerOf, IsSite};
 
@@ -16,7 +18,7 @@ use crate::limits::KEPT_ANSWERS;
 use crate::replies::{answered, checked, no_command, refused, refusing, replied};
 use crate::stepped::Stepped;
 use hc_base::codes::PATH_FORM;
-use hc_base::{Fault, NoMemory, Steps, Text};
+use hc_base::{Counter, Fault, NoMemory, Text};
 use hc_cache::Cache;
 use hc_json::{Asked, Command, Done, Reply, command_in, parse};
 use hc_kept::Site;
@@ -108,8 +110,8 @@ impl Session {
     pub fn step<E: Ledger, L: Ledger>(
         &mut self,
         line: &[u8],
-        evals: &mut Steps<E>,
-        bytes: &mut Steps<L>,
+        evals: &mut Counter<E>,
+        bytes: &mut Counter<L>,
     ) -> Result<Stepped, NoMemory>
         ensures turned { StepTurn result self.old line.now self.new }
         ensures evals { Counts result (command_evals (command_of line.now)) self.old self.new evals.old evals.new }
@@ -198,7 +200,7 @@ impl Session {
         Ok(done)
     }
 
-    fn check<L: Ledger>(&mut self, bytes: &mut Steps<L>) -> Result<Stepped, NoMemory>
+    fn check<L: Ledger>(&mut self, bytes: &mut Counter<L>) -> Result<Stepped, NoMemory>
         ensures turned { Gave result (IsTurn (check_turn self.old)) self.old self.new }
         ensures bytes { OnOk result (bytes.new ≤ bytes.old + site_bytes self.old) }
     {
@@ -211,8 +213,8 @@ impl Session {
     fn ask<E: Ledger, L: Ledger>(
         &mut self,
         asked: &Asked<'_>,
-        evals: &mut Steps<E>,
-        bytes: &mut Steps<L>,
+        evals: &mut Counter<E>,
+        bytes: &mut Counter<L>,
     ) -> Result<Stepped, NoMemory>
         requires { begins_with_slash asked.now.target.now ≡ true }
         ensures turned { Gave result (IsTurn (ask_turn self.old (question_view asked.now) (present self.old)))
@@ -249,8 +251,8 @@ impl Session {
         &mut self,
         request: Request,
         trail: bool,
-        evals: &mut Steps<E>,
-        bytes: &mut Steps<L>,
+        evals: &mut Counter<E>,
+        bytes: &mut Counter<L>,
     ) -> Result<Stepped, NoMemory>
         requires slash { begins_with_slash request.target ≡ true }
         requires asks { self.old.asks < 2 ^ 64 - 1 }
@@ -269,7 +271,7 @@ impl Session {
     }
 
     // What the main file is read as: what was read of it while that stands, or else read anew.
-    fn take_site<L: Ledger>(&mut self, bytes: &mut Steps<L>) -> Result<Site, NoMemory>
+    fn take_site<L: Ledger>(&mut self, bytes: &mut Counter<L>) -> Result<Site, NoMemory>
         ensures same { self.new ≡ self.old }
         ensures site { IfOk result (IsSite self.old.world self.old.main) }
         ensures built { IfOk result (λ site. site.built ≡ present self.old) }

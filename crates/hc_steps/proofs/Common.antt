@@ -1,5 +1,9 @@
 -- The names that the proofs of this crate cite, passed on from one place. Declares nothing.
-pub use Rattle.std.proofs.Common.{◌≡◌, ℕ, ◌+◌, ◌<◌, ◌≤◌, length, drop, get_or, subst, List, [], ◌∷◌, ◌++◌, refl, sym, ap, ◌∙◌, Result, Ok, Err, nat_lt, Bool, true, false, take, cond, Option, Some, None, arith, append_assoc, append-nil, length-append, zero, suc, if◌then◌else◌, Contains, slice_index_or, ◌⊎◌, inl, inr, rules, of_calls}
+pub use Rattle.std.proofs.Common.{◌≡◌, ℕ, ◌+◌, ◌<◌, ◌≤◌, length, drop, get_or, subst, List, []}
+pub use Rattle.std.proofs.Common.{◌∷◌, ◌++◌, refl, sym, ap, ◌∙◌, Result, Ok, Err, nat_lt, Bool, true}
+pub use Rattle.std.proofs.Common.{false, take, cond, Option, Some, None, arith, append_assoc, append-nil, length-append}
+pub use Rattle.std.proofs.Common.{zero, suc, if◌then◌else◌, Contains, slice_index_or, ◌⊎◌, inl, inr, rules}
+pub use Rattle.std.proofs.Common.{of_calls}
 pub use Rattle.std.specs.BTreeSet.{insert_key}
 pub use Rattle.std.specs.List.{fold}
 pub use Rattle.hc_model.specs.declared.event.Event.{Event}

@@ -1,5 +1,7 @@
 -- Each read that was told is among those that are kept.
-use Rattle.hc_steps.proofs.Common.{◌≡◌, ℕ, zero, suc, ◌<◌, List, [], ◌∷◌, length, arith, refl, ap, sym, subst, Contains, slice_index_or, ◌⊎◌, inl, inr, fold, insert_key, Read, each_once, path_of, rank_of, read_cmp}
+use Rattle.hc_steps.proofs.Common.{◌≡◌, ℕ, zero, suc, ◌<◌, List, [], ◌∷◌, length, arith, refl, ap}
+use Rattle.hc_steps.proofs.Common.{sym, subst, Contains, slice_index_or, ◌⊎◌, inl, inr, fold, insert_key, Read}
+use Rattle.hc_steps.proofs.Common.{each_once, path_of, rank_of, read_cmp}
 use mathlib.Core.Logic.{⊎_elim}
 use Rattle.std.proofs.lemmas.Map.Lookups.{CmpEqualImpliesEq, exact_bytes, exact_unsigned}
 use Rattle.std.specs.Cmp.Lexicographic.{slice_cmp}
@@ -17,7 +19,8 @@ later x y xs i = (suc i.0, omega (arith, i.1), i.2)
 nothing : {X A : Type 0} (y : X) → Contains [] y → A
 nothing y i = absurd (omega (arith, i.1))
 
-at_place : {X : Type 0} (x y : X) (xs : List X) (k : ℕ) → k < length (x ∷ xs) → slice_index_or (x ∷ xs) k y ≡ y → (x ≡ y) ⊎ Contains xs y
+at_place : {X : Type 0} (x y : X) (xs : List X) (k : ℕ) → k < length (x ∷ xs) → slice_index_or (x ∷ xs) k y
+    ≡ y → (x ≡ y) ⊎ Contains xs y
 at_place x y xs zero l e = inl e
 at_place x y xs (suc k) l e = inr (k, omega (arith, l), e)
 
@@ -37,11 +40,13 @@ module _ {X : Type 0} (order : X → X → Ordering) (exact : CmpEqualImpliesEq 
   has x [] = here x []
   has x (z ∷ zs) = has_by x z zs (order x z) refl (has x zs)
 
-  keeps_by : (x y z : X) (zs : List X) (o : Ordering) → (z ≡ y) ⊎ Contains zs y → Contains (z ∷ zs) y → (Contains zs y → Contains (insert_key order zs x) y)
+  keeps_by : (x y z : X) (zs : List X) (o : Ordering) → (z ≡ y) ⊎ Contains zs y → Contains (z ∷ zs) y
+      → (Contains zs y → Contains (insert_key order zs x) y)
       → Contains (match_ordering o (x ∷ z ∷ zs) (z ∷ zs) (z ∷ insert_key order zs x)) y
   keeps_by x y z zs Less i there h = later x y (z ∷ zs) there
   keeps_by x y z zs Equal i there h = there
-  keeps_by x y z zs Greater (inl e) there h = subst (Contains (z ∷ insert_key order zs x)) e (here z (insert_key order zs x))
+  keeps_by x y z zs Greater (inl e) there h =
+      subst (Contains (z ∷ insert_key order zs x)) e (here z (insert_key order zs x))
   keeps_by x y z zs Greater (inr i) there h = later z y (insert_key order zs x) (h i)
 
   keeps : (x y : X) (xs : List X) → Contains xs y → Contains (insert_key order xs x) y

@@ -1,5 +1,6 @@
 -- What a step in code answers and tells.
-use Rattle.std.specs.Prelude.{◌≡◌, ℕ, ◌+◌, nat_lt, List, [], ◌∷◌, ◌++◌, length, take, Bool, true, if◌then◌else◌, Option, Some, None, Result, Ok, Err}
+use Rattle.std.specs.Prelude.{◌≡◌, ℕ, ◌+◌, nat_lt, List, [], ◌∷◌, ◌++◌, length, take, Bool, true}
+use Rattle.std.specs.Prelude.{if◌then◌else◌, Option, Some, None, Result, Ok, Err}
 use Rattle.std.specs.List.{fold}
 use Rattle.hc_base.specs.declared.fault.Fault.{Fault}
 use Rattle.hc_base.specs.declared.fault.Fault.TheVariants.{NoMemory, Refused}
@@ -28,7 +29,10 @@ first_of (Some cap) events = take cap events
 -- An event is counted, and kept where there is room.
 abbrev pub with_event : Logged → Event → Logged
 with_event log event =
-    record log { kept = if has_room log.cap log.kept then log.kept ++ event ∷ [] else log.kept; count = log.count + 1 }
+    record log {
+      kept = if has_room log.cap log.kept then log.kept ++ event ∷ [] else log.kept;
+      count = log.count + 1;
+    }
 
 abbrev pub with_events : Logged → List Event → Logged
 with_events log events = fold with_event log events

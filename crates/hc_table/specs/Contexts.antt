@@ -1,30 +1,34 @@
--- Where a directive may stand: sums of bits.
-use Rattle.std.specs.Prelude.{ℕ, ◌+◌, ◌-◌}
-pub use Rattle.hc_table.specs.declared.context.TheConstants.{NONE as no_contexts, MAIN_SERVER as main_server, VIRTUAL_HOST as virtual_host}
-pub use Rattle.hc_table.specs.declared.context.TheConstants.{DIRECTORY as directory, DIRECTORY_MATCH as directory_match, FILES as files}
-pub use Rattle.hc_table.specs.declared.context.TheConstants.{LOCATION as location, IF_SECTION as if_section, HTACCESS as htaccess}
+-- Where a directive may stand.
+use Rattle.std.specs.Prelude.{Bool, true, false, not, ◌||◌}
+use Rattle.hc_table.specs.declared.context.Context.{Context}
+use Rattle.hc_table.specs.declared.context.Context.TheVariants as place
+use Rattle.hc_table.specs.declared.context.Contexts.{Contexts}
+use Rattle.hc_table.specs.declared.context.Contexts.TheVariants as contexts
 
-abbrev pub servers : ℕ
-servers = main_server + virtual_host
+abbrev pub is_server : Context → Bool
+is_server place.MainServer = true
+is_server place.VirtualHost = true
+is_server context = false
 
-abbrev pub directories : ℕ
-directories = directory + htaccess
+-- For one directory: in its section, or in a file inside it.
+abbrev pub is_directory : Context → Bool
+is_directory place.Directory = true
+is_directory place.Htaccess = true
+is_directory context = false
 
-abbrev pub servers_and_directories : ℕ
-servers_and_directories = servers + directories
-
--- Where <Files> may stand.
-abbrev pub around_files : ℕ
-around_files = servers_and_directories + directory_match
-
-abbrev pub all_but_servers : ℕ
-all_but_servers = directories + directory_match + files + location + if_section
-
-abbrev pub everywhere : ℕ
-everywhere = servers + all_but_servers
-
-abbrev pub all_but_if : ℕ
-all_but_if = everywhere - if_section
-
-abbrev pub all_but_htaccess : ℕ
-all_but_htaccess = everywhere - htaccess
+abbrev pub contain : Contexts → Context → Bool
+contain contexts.MainServer place.MainServer = true
+contain contexts.VirtualHost place.VirtualHost = true
+contain contexts.Servers context = is_server context
+contain contexts.Directory place.Directory = true
+contain contexts.Directories context = is_directory context
+contain contexts.ServersAndDirectories context = is_server context || is_directory context
+contain contexts.AroundFiles place.DirectoryMatch = true
+contain contexts.AroundFiles context = is_server context || is_directory context
+contain contexts.AllButServers context = not (is_server context)
+contain contexts.AllButIf place.IfSection = false
+contain contexts.AllButIf context = true
+contain contexts.AllButHtaccess place.Htaccess = false
+contain contexts.AllButHtaccess context = true
+contain contexts.Everywhere context = true
+contain few context = false

@@ -1,6 +1,6 @@
-pub mod Classes
 pub mod Contexts
 pub mod Directives
 pub mod Flags
+pub mod Options
 pub mod Table
 pub mod Variables

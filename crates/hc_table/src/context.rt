@@ -1,53 +1,85 @@
-//! Where a directive may stand, as the manual's "Context" says it: a sum of bits, one for each kind of
-//! place. The numbers are our own choice.
+ghost use Rattle.std.specs.Prelude.{◌≡◌};
+ghost use Rattle.hc_table.specs.Contexts.{contain, is_directory, is_server};
 
-/// Nowhere: a flag or a variable is no directive.
-pub const NONE: u16 = 0;
+/// A place in which a directive stands (the manual's "Context").
+#[derive(Clone, Copy, PartialEq, Eq)]
+pub enum Context {
+    /// Outside all sections of the main server.
+    MainServer,
+    /// In `<VirtualHost>`.
+    VirtualHost,
+    /// In `<Directory>`, but not in `<Directory ~>`.
+    Directory,
+    /// In `<DirectoryMatch>` and `<Directory ~>`.
+    DirectoryMatch,
+    /// In `<Files>` and `<FilesMatch>`.
+    Files,
+    /// In `<Location>` and `<LocationMatch>`.
+    Location,
+    /// In `<If>`, `<ElseIf>` and `<Else>`.
+    IfSection,
+    /// In an `.htaccess` file.
+    Htaccess,
+}
 
-/// Outside all sections of the main server.
-pub const MAIN_SERVER: u16 = 1;
+impl Context {
+    fn is_server(self) -> bool
+        ensures { result ≡ is_server self }
+    {
+        matches!(self, Context::MainServer | Context::VirtualHost)
+    }
 
-/// In `<VirtualHost>`.
-pub const VIRTUAL_HOST: u16 = 2;
+    fn is_directory(self) -> bool
+        ensures { result ≡ is_directory self }
+    {
+        matches!(self, Context::Directory | Context::Htaccess)
+    }
+}
 
-/// In `<Directory>`, but not in `<Directory ~>`.
-pub const DIRECTORY: u16 = 4;
+/// The places in which a directive may stand.
+#[derive(Clone, Copy, PartialEq, Eq)]
+pub enum Contexts {
+    MainServer,
+    VirtualHost,
+    /// In the main server and in virtual hosts, outside other sections.
+    Servers,
+    Directory,
+    /// For one directory: in its section, or in a file inside it.
+    Directories,
+    /// For a server or for one directory.
+    ServersAndDirectories,
+    /// Where `<Files>` may stand.
+    AroundFiles,
+    /// In any section but a virtual host, and in `.htaccess`.
+    AllButServers,
+    /// Anywhere but in `<If>` and its like.
+    AllButIf,
+    /// Anywhere but in `.htaccess`.
+    AllButHtaccess,
+    Everywhere,
+}
 
-/// In `<DirectoryMatch>` and `<Directory ~>`.
-pub const DIRECTORY_MATCH: u16 = 8;
-
-/// In `<Files>` and `<FilesMatch>`.
-pub const FILES: u16 = 16;
-
-/// In `<Location>` and `<LocationMatch>`.
-pub const LOCATION: u16 = 32;
-
-/// In `<If>`, `<ElseIf>` and `<Else>`.
-pub const IF_SECTION: u16 = 64;
-
-/// In an `.htaccess` file.
-pub const HTACCESS: u16 = 128;
-
-/// In the main server and in virtual hosts, outside other sections.
-pub const SERVERS: u16 = MAIN_SERVER + VIRTUAL_HOST;
-
-/// For one directory: in its section, or in a file inside it.
-pub const DIRECTORIES: u16 = DIRECTORY + HTACCESS;
-
-/// For a server or for one directory.
-pub const SERVERS_AND_DIRECTORIES: u16 = SERVERS + DIRECTORIES;
-
-/// Where `<Files>` may stand.
-pub const AROUND_FILES: u16 = SERVERS_AND_DIRECTORIES + DIRECTORY_MATCH;
-
-/// In any section but a virtual host, and in `.htaccess`.
-pub const ALL_BUT_SERVERS: u16 = DIRECTORIES + DIRECTORY_MATCH + FILES + LOCATION + IF_SECTION;
-
-/// Anywhere.
-pub const EVERYWHERE: u16 = SERVERS + ALL_BUT_SERVERS;
-
-/// Anywhere but in `<If>` and its like.
-pub const ALL_BUT_IF: u16 = EVERYWHERE - IF_SECTION;
-
-/// Anywhere but in `.htaccess`.
-pub const ALL_BUT_HTACCESS: u16 = EVERYWHERE - HTACCESS;
+impl Contexts {
+    /// This context is one of them.
+    pub fn contain(self, context: Context) -> bool
+        ensures { result ≡ contain self context }
+    {
+        match self {
+            Contexts::MainServer => matches!(context, Context::MainServer),
+            Contexts::VirtualHost => matches!(context, Context::VirtualHost),
+            Contexts::Servers => context.is_server(),
+            Contexts::Directory => matches!(context, Context::Directory),
+            Contexts::Directories => context.is_directory(),
+            Contexts::ServersAndDirectories => context.is_server() || context.is_directory(),
+            Contexts::AroundFiles => {
+                context.is_server()
+                    || context.is_directory()
+                    || matches!(context, Context::DirectoryMatch)
+            }
+            Contexts::AllButServers => !context.is_server(),
+            Contexts::AllButIf => !matches!(context, Context::IfSection),
+            Contexts::AllButHtaccess => !matches!(context, Context::Htaccess),
+            Contexts::Everywhere => true,
+        }
+    }
+}

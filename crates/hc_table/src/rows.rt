@@ -1,223 +1,272 @@
 ghost use Rattle.std.specs.Prelude.{◌≡◌, map};
-ghost use Rattle.hc_table.specs.Directives.{directive_rows};
+ghost use Rattle.hc_table.specs.Directives.{directive_rows, meaning_of};
 ghost use Rattle.hc_table.specs.Flags.{flag_rows};
-ghost use Rattle.hc_table.specs.Table.{row_of};
-ghost use Rattle.hc_table.specs.Variables.{variable_rows};
+ghost use Rattle.hc_table.specs.Options.{class_rows, option_rows};
+ghost use Rattle.hc_table.specs.Table.{find_in, row_of};
+ghost use Rattle.hc_table.specs.Variables.{front_rows, variable_rows};
 
-use crate::table::{Row, RowKind, Table, Wording};
-use crate::{class, context, flag, meaning, variable};
+use crate::context::Contexts;
+use crate::directive::{Class, Directive, Meaning, SectionName as Section, Wording};
+use crate::flag::FlagName;
+use crate::option_name::{OptionName, OptionWord};
+use crate::table::{DirectiveKind, Row, find_in};
+use crate::variable::{Front, Variable};
 
-// Rows: a meaning of a module, contexts, a class and a wording, and each name that has them.
+// Rows: what a name stands for, and each name that does.
 macro_rules! rows {
-    ($module:ident: $($meaning:ident, $contexts:ident, $class:ident, $wording:ident => $($name:literal)+;)*) => {
-        [$($(Row {
+    ($($kind:expr => $($name:literal)+;)*) => {
+        &[$($(Row { name: $name, kind: $kind },)+)*]
+    };
+}
+
+// The same of directives and sections: a meaning, contexts, a class and a wording.
+macro_rules! directive_rows {
+    ($($of:ident $meaning:ident, $contexts:ident, $class:expr, $wording:ident => $($name:literal)+;)*) => {
+        &[$($(Row {
             name: $name,
-            kind: RowKind {
-                meaning: $module::$meaning,
-                contexts: context::$contexts,
-                class: class::$class,
+            kind: DirectiveKind {
+                meaning: Meaning::$of($of::$meaning),
+                contexts: Contexts::$contexts,
+                class: $class,
                 wording: Wording::$wording,
             },
         },)+)*]
     };
 }
 
-// Rows with neither contexts nor a class nor words.
-macro_rules! plain_rows {
-    ($module:ident: $($meaning:ident => $($name:literal)+;)*) => {
-        rows! { $module: $($meaning, NONE, NONE, Configuration => $($name)+;)* }
-    };
-}
-
-macro_rules! directive_rows {
-    () => {
-        rows! {
-            meaning:
-            SERVER_ROOT, MAIN_SERVER, NONE, Configuration => "ServerRoot";
-            DOCUMENT_ROOT, SERVERS, NONE, Configuration => "DocumentRoot";
-            SERVER_NAME, SERVERS, NONE, Configuration => "ServerName";
-            SERVER_ALIAS, VIRTUAL_HOST, NONE, Configuration => "ServerAlias";
-            DEFINE, ALL_BUT_HTACCESS, NONE, Configuration => "Define";
-            INCLUDE, ALL_BUT_HTACCESS, NONE, Configuration => "Include";
-            INCLUDE_OPTIONAL, ALL_BUT_HTACCESS, NONE, Configuration => "IncludeOptional";
-            ALIAS, SERVERS, NONE, Configuration => "Alias";
-            SCRIPT_ALIAS, SERVERS, NONE, Configuration => "ScriptAlias";
-            ALIAS_MATCH, SERVERS, NONE, Configuration => "AliasMatch";
-            REDIRECT, SERVERS_AND_DIRECTORIES, FILE_INFO, Configuration => "Redirect";
-            REDIRECT_MATCH, SERVERS_AND_DIRECTORIES, FILE_INFO, Configuration => "RedirectMatch";
-            REDIRECT_PERMANENT, SERVERS_AND_DIRECTORIES, FILE_INFO, Configuration => "RedirectPermanent";
-            REDIRECT_TEMP, SERVERS_AND_DIRECTORIES, FILE_INFO, Configuration => "RedirectTemp";
-            OPTIONS, EVERYWHERE, OPTIONS, Configuration => "Options";
-            ALLOW_OVERRIDE, DIRECTORY, NONE, Configuration => "AllowOverride";
-            REQUIRE, ALL_BUT_SERVERS, AUTH_CONFIG, Configuration => "Require";
-            AUTH_MERGING, ALL_BUT_SERVERS, AUTH_CONFIG, Configuration => "AuthMerging";
-            REWRITE_ENGINE, SERVERS_AND_DIRECTORIES, FILE_INFO, Configuration => "RewriteEngine";
-            REWRITE_BASE, DIRECTORIES, FILE_INFO, Configuration => "RewriteBase";
-            REWRITE_COND, SERVERS_AND_DIRECTORIES, FILE_INFO, Rewriting => "RewriteCond";
-            REWRITE_RULE, SERVERS_AND_DIRECTORIES, FILE_INFO, Rewriting => "RewriteRule";
-            REWRITE_OPTIONS, SERVERS_AND_DIRECTORIES, FILE_INFO, Configuration => "RewriteOptions";
-            LIMIT_INTERNAL_RECURSION, SERVERS, NONE, Configuration => "LimitInternalRecursion";
-            REWRITE_MAP, SERVERS, NONE, Configuration => "RewriteMap";
-            USE_CANONICAL_NAME, ALL_BUT_HTACCESS, NONE, Configuration => "UseCanonicalName";
-            USER_DIR, SERVERS, NONE, Configuration => "UserDir";
-            ACCESS_FILE_NAME, SERVERS, NONE, Configuration => "AccessFileName";
-            LOAD_MODULE, SERVERS, NONE, Configuration => "LoadModule";
-
-            VIRTUAL_HOST, MAIN_SERVER, NONE, Configuration => "VirtualHost";
-            DIRECTORY, SERVERS, NONE, Configuration => "Directory";
-            DIRECTORY_MATCH, SERVERS, NONE, Configuration => "DirectoryMatch";
-            LOCATION, SERVERS, NONE, Configuration => "Location";
-            LOCATION_MATCH, SERVERS, NONE, Configuration => "LocationMatch";
-            FILES, AROUND_FILES, NONE, Configuration => "Files";
-            FILES_MATCH, AROUND_FILES, NONE, Configuration => "FilesMatch";
-            IF, ALL_BUT_IF, NONE, Configuration => "If";
-            ELSE_IF, ALL_BUT_IF, NONE, Configuration => "ElseIf";
-            ELSE, ALL_BUT_IF, NONE, Configuration => "Else";
-            REQUIRE_ALL, ALL_BUT_SERVERS, AUTH_CONFIG, Configuration => "RequireAll";
-            REQUIRE_ANY, ALL_BUT_SERVERS, AUTH_CONFIG, Configuration => "RequireAny";
-            REQUIRE_NONE, ALL_BUT_SERVERS, AUTH_CONFIG, Configuration => "RequireNone";
-            IF_DEFINE, EVERYWHERE, NONE, Configuration => "IfDefine";
-            IF_MODULE, EVERYWHERE, NONE, Configuration => "IfModule";
-
-            INERT, SERVERS, NONE, Configuration =>
-                "Listen" "User" "Group" "ServerAdmin" "ServerTokens" "DefaultRuntimeDir"
-                "RequestReadTimeout";
-            INERT, SERVERS, NONE, Configuration =>
-                "Timeout" "KeepAlive" "MaxKeepAliveRequests" "KeepAliveTimeout" "PidFile"
-                "Mutex";
-            INERT, SERVERS, NONE, Configuration =>
-                "ErrorLog" "CustomLog" "LogFormat" "TypesConfig" "MIMEMagicFile" "TraceEnable";
-            INERT, SERVERS, NONE, Configuration =>
-                "StartServers" "MinSpareServers" "MaxSpareServers" "MinSpareThreads"
-                "MaxSpareThreads";
-            INERT, SERVERS, NONE, Configuration =>
-                "ThreadsPerChild" "ThreadLimit" "ServerLimit" "MaxRequestWorkers"
-                "MaxConnectionsPerChild";
-            INERT, SERVERS, NONE, Configuration =>
-                "ExtendedStatus" "Protocols" "SSLEngine" "SSLCertificateFile"
-                "SSLCertificateKeyFile";
-            INERT, SERVERS, NONE, Configuration =>
-                "SSLCertificateChainFile" "SSLCACertificateFile" "SSLProtocol"
-                "SSLHonorCipherOrder";
-            INERT, SERVERS, NONE, Configuration =>
-                "SSLSessionCache" "SSLSessionCacheTimeout" "SSLSessionTickets"
-                "SSLPassPhraseDialog";
-            INERT, SERVERS, NONE, Configuration =>
-                "SSLRandomSeed" "SSLCryptoDevice" "SSLUseStapling" "SSLStaplingCache";
-            INERT, EVERYWHERE, FILE_INFO, Configuration =>
-                "AddType" "AddHandler" "AddCharset" "AddLanguage" "AddEncoding"
-                "AddDefaultCharset";
-            INERT, EVERYWHERE, FILE_INFO, Configuration =>
-                "AddOutputFilter" "AddOutputFilterByType" "SetHandler" "SetOutputFilter"
-                "SetInputFilter";
-            INERT, EVERYWHERE, FILE_INFO, Configuration =>
-                "ForceType" "RemoveHandler" "RemoveType" "ErrorDocument" "Header"
-                "RequestHeader";
-            INERT, EVERYWHERE, FILE_INFO, Configuration =>
-                "SetEnv" "UnsetEnv" "PassEnv" "SetEnvIf" "SetEnvIfNoCase" "BrowserMatch"
-                "BrowserMatchNoCase";
-            INERT, EVERYWHERE, FILE_INFO, Configuration =>
-                "FileETag" "DefaultLanguage" "LanguagePriority" "ForceLanguagePriority";
-            INERT, EVERYWHERE, FILE_INFO, Configuration => "EnableSendfile" "EnableMMAP" "AcceptPathInfo";
-            INERT, EVERYWHERE, INDEXES, Configuration =>
-                "DirectoryIndex" "DirectorySlash" "IndexOptions" "IndexIgnore" "AddIcon"
-                "AddIconByType";
-            INERT, EVERYWHERE, INDEXES, Configuration =>
-                "AddIconByEncoding" "DefaultIcon" "AddAlt" "AddDescription" "HeaderName"
-                "ReadmeName";
-            INERT, EVERYWHERE, INDEXES, Configuration =>
-                "IndexOrderDefault" "IndexStyleSheet" "ExpiresActive" "ExpiresByType"
-                "ExpiresDefault";
-            INERT, EVERYWHERE, OPTIONS, Configuration => "SSLOptions" "php_value" "php_flag";
-            INERT, EVERYWHERE, AUTH_CONFIG, Configuration => "SSLCipherSuite";
-            INERT, EVERYWHERE, NONE, Configuration => "ServerSignature";
-            INERT, ALL_BUT_HTACCESS, NONE, Configuration => "HostnameLookups" "LogLevel";
-        }
-    };
-}
-
-macro_rules! flag_rows {
-    () => {
-        plain_rows! {
-            flag:
-            LAST => "L" "last";
-            END => "END";
-            NEXT => "N" "next";
-            CHAIN => "C" "chain";
-            SKIP => "S" "skip";
-            FORBIDDEN => "F" "forbidden";
-            GONE => "G" "gone";
-            REDIRECT => "R" "redirect";
-            APPEND_QUERY => "QSA" "qsappend";
-            DISCARD_QUERY => "QSD" "qsdiscard";
-            NO_CASE => "NC" "nocase";
-            NO_ESCAPE => "NE" "noescape";
-            PASS_THROUGH => "PT" "passthrough";
-            DISCARD_PATH => "DPI" "discardpath";
-            ENVIRONMENT => "E" "env";
-            TYPE => "T" "type";
-            HANDLER => "H" "handler";
-            COOKIE => "CO" "cookie";
-            NO_SUBREQUEST => "NS" "nosubreq";
-            UNSUPPORTED_FLAG =>
-                "P" "proxy" "B" "BNP" "BCTLS" "BNE" "QSL"
-                "UnsafeAllow3F" "UnsafePrefixStat";
-        }
-    };
-}
-
-macro_rules! variable_rows {
-    () => {
-        plain_rows! {
-            variable:
-            HTTP_HOST => "HTTP_HOST";
-            HTTP_USER_AGENT => "HTTP_USER_AGENT";
-            HTTP_REFERER => "HTTP_REFERER";
-            HTTP_COOKIE => "HTTP_COOKIE";
-            HTTP_ACCEPT => "HTTP_ACCEPT";
-            HEADER => "HTTP:";
-            ENVIRONMENT => "ENV:";
-            REQUEST_METHOD => "REQUEST_METHOD";
-            REQUEST_SCHEME => "REQUEST_SCHEME";
-            REQUEST_URI => "REQUEST_URI";
-            REQUEST_FILENAME => "REQUEST_FILENAME";
-            SCRIPT_FILENAME => "SCRIPT_FILENAME";
-            PATH_INFO => "PATH_INFO";
-            QUERY_STRING => "QUERY_STRING";
-            REMOTE_ADDR => "REMOTE_ADDR";
-            SERVER_ADDR => "SERVER_ADDR";
-            SERVER_PORT => "SERVER_PORT";
-            SERVER_NAME => "SERVER_NAME";
-            DOCUMENT_ROOT => "DOCUMENT_ROOT";
-            HTTPS => "HTTPS";
-            THE_REQUEST => "THE_REQUEST";
-        }
-    };
-}
-
-/// The directives and the containers.
 #[tactic(auto, unfolding(crate::specs::Directives::directive_rows))]
-pub fn directives() -> Table
-    ensures { map row_of result.rows.now ≡ directive_rows }
+fn directive_rows() -> &'static [Row<DirectiveKind>]
+    ensures { map row_of result.now ≡ directive_rows }
 {
-    static ROWS: &[Row] = &directive_rows!();
-    Table { rows: ROWS }
+    static ROWS: &[Row<DirectiveKind>] = directive_rows! {
+        Directive ServerRoot, MainServer, None, Configuration => "ServerRoot";
+        Directive DocumentRoot, Servers, None, Configuration => "DocumentRoot";
+        Directive ServerName, Servers, None, Configuration => "ServerName";
+        Directive ServerAlias, VirtualHost, None, Configuration => "ServerAlias";
+        Directive Define, AllButHtaccess, None, Configuration => "Define";
+        Directive Include, AllButHtaccess, None, Configuration => "Include";
+        Directive IncludeOptional, AllButHtaccess, None, Configuration => "IncludeOptional";
+        Directive Alias, Servers, None, Configuration => "Alias";
+        Directive ScriptAlias, Servers, None, Configuration => "ScriptAlias";
+        Directive AliasMatch, Servers, None, Configuration => "AliasMatch";
+        Directive Redirect, ServersAndDirectories, Some(Class::FileInfo), Configuration => "Redirect";
+        Directive RedirectMatch, ServersAndDirectories, Some(Class::FileInfo), Configuration => "RedirectMatch";
+        Directive RedirectPermanent, ServersAndDirectories, Some(Class::FileInfo), Configuration => "RedirectPermanent";
+        Directive RedirectTemp, ServersAndDirectories, Some(Class::FileInfo), Configuration => "RedirectTemp";
+        Directive Options, Everywhere, Some(Class::Options), Configuration => "Options";
+        Directive AllowOverride, Directory, None, Configuration => "AllowOverride";
+        Directive Require, AllButServers, Some(Class::AuthConfig), Configuration => "Require";
+        Directive AuthMerging, AllButServers, Some(Class::AuthConfig), Configuration => "AuthMerging";
+        Directive RewriteEngine, ServersAndDirectories, Some(Class::FileInfo), Configuration => "RewriteEngine";
+        Directive RewriteBase, Directories, Some(Class::FileInfo), Configuration => "RewriteBase";
+        Directive RewriteCond, ServersAndDirectories, Some(Class::FileInfo), Rewriting => "RewriteCond";
+        Directive RewriteRule, ServersAndDirectories, Some(Class::FileInfo), Rewriting => "RewriteRule";
+        Directive RewriteOptions, ServersAndDirectories, Some(Class::FileInfo), Configuration => "RewriteOptions";
+        Directive LimitInternalRecursion, Servers, None, Configuration => "LimitInternalRecursion";
+        Directive RewriteMap, Servers, None, Configuration => "RewriteMap";
+        Directive UseCanonicalName, AllButHtaccess, None, Configuration => "UseCanonicalName";
+        Directive UserDir, Servers, None, Configuration => "UserDir";
+        Directive AccessFileName, Servers, None, Configuration => "AccessFileName";
+        Directive LoadModule, Servers, None, Configuration => "LoadModule";
+
+        Section VirtualHost, MainServer, None, Configuration => "VirtualHost";
+        Section Directory, Servers, None, Configuration => "Directory";
+        Section DirectoryMatch, Servers, None, Configuration => "DirectoryMatch";
+        Section Location, Servers, None, Configuration => "Location";
+        Section LocationMatch, Servers, None, Configuration => "LocationMatch";
+        Section Files, AroundFiles, None, Configuration => "Files";
+        Section FilesMatch, AroundFiles, None, Configuration => "FilesMatch";
+        Section If, AllButIf, None, Configuration => "If";
+        Section ElseIf, AllButIf, None, Configuration => "ElseIf";
+        Section Else, AllButIf, None, Configuration => "Else";
+        Section RequireAll, AllButServers, Some(Class::AuthConfig), Configuration => "RequireAll";
+        Section RequireAny, AllButServers, Some(Class::AuthConfig), Configuration => "RequireAny";
+        Section RequireNone, AllButServers, Some(Class::AuthConfig), Configuration => "RequireNone";
+        Section IfDefine, Everywhere, None, Configuration => "IfDefine";
+        Section IfModule, Everywhere, None, Configuration => "IfModule";
+
+        Directive Inert, Servers, None, Configuration =>
+            "Listen" "User" "Group" "ServerAdmin" "ServerTokens" "DefaultRuntimeDir"
+            "RequestReadTimeout" "Timeout" "KeepAlive" "MaxKeepAliveRequests" "KeepAliveTimeout"
+            "PidFile" "Mutex" "ErrorLog" "CustomLog" "LogFormat" "TypesConfig" "MIMEMagicFile"
+            "TraceEnable" "StartServers" "MinSpareServers" "MaxSpareServers" "MinSpareThreads"
+            "MaxSpareThreads" "ThreadsPerChild" "ThreadLimit" "ServerLimit" "MaxRequestWorkers"
+            "MaxConnectionsPerChild" "ExtendedStatus" "Protocols" "SSLEngine"
+            "SSLCertificateFile" "SSLCertificateKeyFile" "SSLCertificateChainFile"
+            "SSLCACertificateFile" "SSLProtocol" "SSLHonorCipherOrder" "SSLSessionCache"
+            "SSLSessionCacheTimeout" "SSLSessionTickets" "SSLPassPhraseDialog" "SSLRandomSeed"
+            "SSLCryptoDevice" "SSLUseStapling" "SSLStaplingCache";
+        Directive Inert, Everywhere, Some(Class::FileInfo), Configuration =>
+            "AddType" "AddHandler" "AddCharset" "AddLanguage" "AddEncoding" "AddDefaultCharset"
+            "AddOutputFilter" "AddOutputFilterByType" "SetHandler" "SetOutputFilter"
+            "SetInputFilter" "ForceType" "RemoveHandler" "RemoveType" "ErrorDocument" "Header"
+            "RequestHeader" "SetEnv" "UnsetEnv" "PassEnv" "SetEnvIf" "SetEnvIfNoCase"
+            "BrowserMatch" "BrowserMatchNoCase" "FileETag" "DefaultLanguage" "LanguagePriority"
+            "ForceLanguagePriority" "EnableSendfile" "EnableMMAP" "AcceptPathInfo";
+        Directive Inert, Everywhere, Some(Class::Indexes), Configuration =>
+            "DirectoryIndex" "DirectorySlash" "IndexOptions" "IndexIgnore" "AddIcon"
+            "AddIconByType" "AddIconByEncoding" "DefaultIcon" "AddAlt" "AddDescription"
+            "HeaderName" "ReadmeName" "IndexOrderDefault" "IndexStyleSheet" "ExpiresActive"
+            "ExpiresByType" "ExpiresDefault";
+        Directive Inert, Everywhere, Some(Class::Options), Configuration =>
+            "SSLOptions" "php_value" "php_flag";
+        Directive Inert, Everywhere, Some(Class::AuthConfig), Configuration => "SSLCipherSuite";
+        Directive Inert, Everywhere, None, Configuration => "ServerSignature";
+        Directive Inert, AllButHtaccess, None, Configuration => "HostnameLookups" "LogLevel";
+    };
+    ROWS
 }
 
-/// The flags of a `RewriteRule`.
+/// What the directive or the container of this name is.
+pub fn directive_named(name: &[u8]) -> Option<DirectiveKind>
+    ensures { result ≡ find_in directive_rows name.now }
+{
+    find_in(directive_rows(), name)
+}
+
+/// What this name stands for.
+pub fn meaning_of(name: &[u8]) -> Option<Meaning>
+    ensures { result ≡ meaning_of name.now }
+{
+    match directive_named(name) {
+        Some(kind) => Some(kind.meaning),
+        None => None,
+    }
+}
+
 #[tactic(auto, unfolding(crate::specs::Flags::flag_rows))]
-pub fn rule_flags() -> Table
-    ensures { map row_of result.rows.now ≡ flag_rows }
+fn flag_rows() -> &'static [Row<FlagName>]
+    ensures { map row_of result.now ≡ flag_rows }
 {
-    static ROWS: &[Row] = &flag_rows!();
-    Table { rows: ROWS }
+    static ROWS: &[Row<FlagName>] = rows! {
+        FlagName::Last => "L" "last";
+        FlagName::End => "END";
+        FlagName::Next => "N" "next";
+        FlagName::Chain => "C" "chain";
+        FlagName::Skip => "S" "skip";
+        FlagName::Forbidden => "F" "forbidden";
+        FlagName::Gone => "G" "gone";
+        FlagName::Redirect => "R" "redirect";
+        FlagName::AppendQuery => "QSA" "qsappend";
+        FlagName::DiscardQuery => "QSD" "qsdiscard";
+        FlagName::NoCase => "NC" "nocase";
+        FlagName::NoEscape => "NE" "noescape";
+        FlagName::PassThrough => "PT" "passthrough";
+        FlagName::DiscardPath => "DPI" "discardpath";
+        FlagName::Environment => "E" "env";
+        FlagName::Type => "T" "type";
+        FlagName::Handler => "H" "handler";
+        FlagName::Cookie => "CO" "cookie";
+        FlagName::NoSubrequest => "NS" "nosubreq";
+        FlagName::Unsupported =>
+            "P" "proxy" "B" "BNP" "BCTLS" "BNE" "QSL"
+            "UnsafeAllow3F" "UnsafePrefixStat";
+    };
+    ROWS
 }
 
-/// The variables.
-#[tactic(auto, unfolding(crate::specs::Variables::variable_rows))]
-pub fn variables() -> Table
-    ensures { map row_of result.rows.now ≡ variable_rows }
+/// The flag of a `RewriteRule` of this name.
+pub fn flag_named(name: &[u8]) -> Option<FlagName>
+    ensures { result ≡ find_in flag_rows name.now }
 {
-    static ROWS: &[Row] = &variable_rows!();
-    Table { rows: ROWS }
+    find_in(flag_rows(), name)
+}
+
+#[tactic(auto, unfolding(crate::specs::Variables::variable_rows))]
+fn variable_rows() -> &'static [Row<Variable>]
+    ensures { map row_of result.now ≡ variable_rows }
+{
+    static ROWS: &[Row<Variable>] = rows! {
+        Variable::HttpHost => "HTTP_HOST";
+        Variable::HttpUserAgent => "HTTP_USER_AGENT";
+        Variable::HttpReferer => "HTTP_REFERER";
+        Variable::HttpCookie => "HTTP_COOKIE";
+        Variable::HttpAccept => "HTTP_ACCEPT";
+        Variable::RequestMethod => "REQUEST_METHOD";
+        Variable::RequestScheme => "REQUEST_SCHEME";
+        Variable::RequestUri => "REQUEST_URI";
+        Variable::RequestFilename => "REQUEST_FILENAME";
+        Variable::ScriptFilename => "SCRIPT_FILENAME";
+        Variable::PathInfo => "PATH_INFO";
+        Variable::QueryString => "QUERY_STRING";
+        Variable::RemoteAddr => "REMOTE_ADDR";
+        Variable::ServerAddr => "SERVER_ADDR";
+        Variable::ServerPort => "SERVER_PORT";
+        Variable::ServerName => "SERVER_NAME";
+        Variable::DocumentRoot => "DOCUMENT_ROOT";
+        Variable::Https => "HTTPS";
+        Variable::TheRequest => "THE_REQUEST";
+    };
+    ROWS
+}
+
+/// The variable of this name.
+pub fn variable_named(name: &[u8]) -> Option<Variable>
+    ensures { result ≡ find_in variable_rows name.now }
+{
+    find_in(variable_rows(), name)
+}
+
+#[tactic(auto, unfolding(crate::specs::Variables::front_rows))]
+fn front_rows() -> &'static [Row<Front>]
+    ensures { map row_of result.now ≡ front_rows }
+{
+    static ROWS: &[Row<Front>] = rows! {
+        Front::Header => "HTTP:";
+        Front::Environment => "ENV:";
+    };
+    ROWS
+}
+
+/// What this front, which ends in a colon, says of the name behind it.
+pub fn front_named(name: &[u8]) -> Option<Front>
+    ensures { result ≡ find_in front_rows name.now }
+{
+    find_in(front_rows(), name)
+}
+
+#[tactic(auto, unfolding(crate::specs::Options::option_rows))]
+fn option_rows() -> &'static [Row<OptionWord>]
+    ensures { map row_of result.now ≡ option_rows }
+{
+    static ROWS: &[Row<OptionWord>] = rows! {
+        OptionWord::Nothing => "None";
+        OptionWord::All => "All";
+        OptionWord::One(OptionName::Indexes) => "Indexes";
+        OptionWord::One(OptionName::Includes) => "Includes";
+        OptionWord::One(OptionName::IncludesNoExec) => "IncludesNOEXEC";
+        OptionWord::One(OptionName::FollowSymLinks) => "FollowSymLinks";
+        OptionWord::One(OptionName::SymLinksIfOwnerMatch) => "SymLinksIfOwnerMatch";
+        OptionWord::One(OptionName::ExecCgi) => "ExecCGI";
+        OptionWord::One(OptionName::MultiViews) => "MultiViews";
+    };
+    ROWS
+}
+
+/// The word of Options of this name.
+pub fn option_named(name: &[u8]) -> Option<OptionWord>
+    ensures { result ≡ find_in option_rows name.now }
+{
+    find_in(option_rows(), name)
+}
+
+#[tactic(auto, unfolding(crate::specs::Options::class_rows))]
+fn class_rows() -> &'static [Row<Class>]
+    ensures { map row_of result.now ≡ class_rows }
+{
+    static ROWS: &[Row<Class>] = rows! {
+        Class::AuthConfig => "AuthConfig";
+        Class::FileInfo => "FileInfo";
+        Class::Indexes => "Indexes";
+        Class::Limit => "Limit";
+        Class::Options => "Options";
+    };
+    ROWS
+}
+
+/// The class of AllowOverride of this name.
+pub fn class_named(name: &[u8]) -> Option<Class>
+    ensures { result ≡ find_in class_rows name.now }
+{
+    find_in(class_rows(), name)
 }

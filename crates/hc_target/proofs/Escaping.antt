@@ -1,5 +1,9 @@
 -- Escaped paths hold no other escapes, and are decoded to what they were.
-use Rattle.hc_target.proofs.Common.{◌≡◌, ℕ, ◌+◌, ◌*◌, ◌/◌, ◌%◌, ◌<◌, Bool, true, false, eqb, not, List, [], ◌∷◌, ◌++◌, refl, ap, ◌∙◌, subst, arith, AllByRecursion, both_ways, cond_both, ne_eqb, percent, question, begins_with_digits, begins_with_slash_digits, escaped, escaped_byte, escapes_slash, has_bad_escape, is_kept, some_percent}
+use Rattle.hc_target.proofs.Common.{◌≡◌, ℕ, ◌+◌, ◌*◌, ◌/◌, ◌%◌, ◌<◌, Bool, true, false, eqb}
+use Rattle.hc_target.proofs.Common.{not, List, [], ◌∷◌, ◌++◌, refl, ap, ◌∙◌, subst, arith}
+use Rattle.hc_target.proofs.Common.{AllByRecursion, both_ways, cond_both, ne_eqb, percent, question, begins_with_digits}
+use Rattle.hc_target.proofs.Common.{begins_with_slash_digits, escaped, escaped_byte, escapes_slash, has_bad_escape}
+use Rattle.hc_target.proofs.Common.{is_kept, some_percent}
 use Rattle.std.specs.Char.{digit_char, digit_value, is_ascii_hexdigit}
 use Rattle.std.proofs.lemmas.Bool.Decides.{nat_tests}
 use Rattle.percent_encoding.specs.Percent.{percent_decode}
@@ -40,7 +44,8 @@ record Escapes (byte : ℕ) : Type 0 where
 
 -- What holds of a byte as it stands, or of its escape.
 of_either : (P : List ℕ → Type 0) (byte : ℕ) → (is_kept byte ≡ true → P (byte ∷ []))
-    → (Escapes byte → P (percent ∷ high_digit byte ∷ low_digit byte ∷ [])) → byte < 256 → P (escaped_byte byte)
+    → (Escapes byte → P (percent ∷ high_digit byte ∷ low_digit byte ∷ [])) → byte < 256
+    → P (escaped_byte byte)
 of_either P byte kept escapes small =
     let high = is_digit (byte / 16) (omega arith) in
     let low = is_digit (byte % 16) (omega arith) in
@@ -52,7 +57,8 @@ AreBytes bytes = AllByRecursion (λ b. b < 256) bytes
 
 -- A kind of text that no escape begins stands behind no `%`.
 none_behind : (kind : List ℕ → Bool)
-    → ((byte : ℕ) (rest : List ℕ) → Escapes byte → kind (high_digit byte ∷ low_digit byte ∷ rest) ≡ false)
+    → ((byte : ℕ) (rest : List ℕ) → Escapes byte → kind (high_digit byte ∷ low_digit byte ∷ rest)
+    ≡ false)
     → (path : List ℕ) → AreBytes path → some_percent kind (escaped path) ≡ false
 none_behind kind none [] h = refl
 none_behind kind none (b ∷ bs) h =
@@ -63,7 +69,8 @@ none_behind kind none (b ∷ bs) h =
 
 pub no_bad_escape : (path : List ℕ) → AreBytes path → has_bad_escape (escaped path) ≡ false
 no_bad_escape =
-    none_behind (λ rest. not (begins_with_digits rest)) (λ byte rest e. rw (e.high.hexadecimal, e.low.hexadecimal) refl)
+    none_behind (λ rest. not (begins_with_digits rest))
+    (λ byte rest e. rw (e.high.hexadecimal, e.low.hexadecimal) refl)
 
 no_slash_digits : (byte : ℕ) (rest : List ℕ) → Escapes byte
     → begins_with_slash_digits (high_digit byte ∷ low_digit byte ∷ rest) ≡ false
@@ -74,7 +81,8 @@ no_slash_digits byte rest e =
 pub no_escaped_slash : (path : List ℕ) → AreBytes path → escapes_slash (escaped path) ≡ false
 no_escaped_slash = none_behind begins_with_slash_digits no_slash_digits
 
-value_back : (byte : ℕ) → Escapes byte → 16 * digit_value (high_digit byte) + digit_value (low_digit byte) ≡ byte
+value_back : (byte : ℕ) → Escapes byte → 16 * digit_value (high_digit byte) + digit_value (low_digit byte)
+    ≡ byte
 value_back byte e = rw (e.high.value_is, e.low.value_is) (omega arith)
 
 pub decoded_back : (path : List ℕ) → AreBytes path → percent_decode (escaped path) ≡ path
@@ -89,7 +97,8 @@ decoded_back (b ∷ bs) h =
     h.0
 
 -- No `?` stands in what is escaped.
-pub no_question_in : (path : List ℕ) → AreBytes path → AllByRecursion (λ b. eqb b question ≡ false) (escaped path)
+pub no_question_in : (path : List ℕ) → AreBytes path
+    → AllByRecursion (λ b. eqb b question ≡ false) (escaped path)
 no_question_in [] h = tt
 no_question_in (b ∷ bs) h =
     of_either (λ front. AllByRecursion (λ b. eqb b question ≡ false) (front ++ escaped bs)) b

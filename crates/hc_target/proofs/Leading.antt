@@ -1,5 +1,6 @@
 -- Where segments lead, one after another.
-use Rattle.hc_target.proofs.Common.{◌≡◌, ℕ, ◌+◌, ◌<◌, ◌≤◌, List, ◌∷◌, length, get_or, drop, Some, sym, ap, ◌∙◌, drop_all, drop_more, Reached, step, led_by}
+use Rattle.hc_target.proofs.Common.{◌≡◌, ℕ, ◌+◌, ◌<◌, ◌≤◌, List, ◌∷◌, length, get_or, drop}
+use Rattle.hc_target.proofs.Common.{Some, sym, ap, ◌∙◌, drop_all, drop_more, Reached, step, led_by}
 
 pub led_step : (at : Reached) (segments : List (List ℕ)) (k : ℕ) (segment : List ℕ)
     → (k < length segments) × (segment ≡ get_or segments k segment)

@@ -1,5 +1,10 @@
 -- Normal paths, by their segments.
-use Rattle.hc_target.proofs.Common.{◌≡◌, ℕ, ◌<◌, Bool, true, false, eqb, not, ◌&&◌, ◌||◌, cond, List, [], ◌∷◌, ◌++◌, length, Some, sym, refl, ap, ◌∙◌, subst, append-nil, append_assoc, arith, flat_map, join_with_byte, onto_first, list_any, slice_split, and_parts, both_ways, eqb-true, not-true, or_parts, slash, has_double_slash, is_clean, is_dots, is_slash, Reached, below, normal_path, path_to, root, step, led_by}
+use Rattle.hc_target.proofs.Common.{◌≡◌, ℕ, ◌<◌, Bool, true, false, eqb, not, ◌&&◌, ◌||◌, cond}
+use Rattle.hc_target.proofs.Common.{List, [], ◌∷◌, ◌++◌, length, Some, sym, refl, ap, ◌∙◌, subst}
+use Rattle.hc_target.proofs.Common.{append-nil, append_assoc, arith, flat_map, join_with_byte, onto_first, list_any}
+use Rattle.hc_target.proofs.Common.{slice_split, and_parts, both_ways, eqb-true, not-true, or_parts, slash}
+use Rattle.hc_target.proofs.Common.{has_double_slash, is_clean, is_dots, is_slash, Reached, below, normal_path, path_to}
+use Rattle.hc_target.proofs.Common.{root, step, led_by}
 use Rattle.std.specs.Option.{option_map}
 use Rattle.std.proofs.lemmas.List.Splits.{join_with_byte-slice_split, length-slice_split}
 
@@ -23,7 +28,8 @@ gap_step false false b (s ∷ []) some = refl
 gap_step true false b (s ∷ t ∷ ss) some = refl
 gap_step false false b (s ∷ t ∷ ss) some = refl
 
-gap_behind : (b : ℕ) (bs : List ℕ) → has_double_slash (b ∷ bs) ≡ has_gap (not (is_slash b)) (slice_split is_slash bs)
+gap_behind : (b : ℕ) (bs : List ℕ) → has_double_slash (b ∷ bs) ≡ has_gap (not (is_slash b))
+    (slice_split is_slash bs)
 gap_behind b [] = refl
 gap_behind b (c ∷ bs) =
     ap (λ t. (is_slash b && is_slash c) || t) (gap_behind c bs)
@@ -60,11 +66,13 @@ led_kept at ([] ∷ t ∷ ss) some gap dots = absurd (both_ways true gap refl)
 led_kept at ((b ∷ bs) ∷ t ∷ ss) some gap dots =
     let parts = or_parts (is_dots (b ∷ bs)) (list_any is_dots (t ∷ ss)) dots in
     ap (λ r. option_map path_to (led_by r (t ∷ ss))) (step_name at b bs parts.0)
-    ∙ led_kept (record { names = at.names ++ (b ∷ bs) ∷ []; open_end = false }) (t ∷ ss) (omega arith) gap parts.1
+    ∙ led_kept (record { names = at.names ++ (b ∷ bs) ∷ []; open_end = false }) (t ∷ ss) (omega arith) gap
+    parts.1
     ∙ ap (λ names. Some (flat_map below names)) (append_assoc at.names ((b ∷ bs) ∷ []) (t ∷ ss))
 
 kept_below : (path : List ℕ) → has_double_slash (slash ∷ path) ≡ false
-    → list_any is_dots (slice_split is_slash (slash ∷ path)) ≡ false → normal_path (slash ∷ path) ≡ Some (slash ∷ path)
+    → list_any is_dots (slice_split is_slash (slash ∷ path)) ≡ false → normal_path (slash ∷ path)
+    ≡ Some (slash ∷ path)
 kept_below path gap dots =
     led_kept root (slice_split is_slash path) (omega (arith, length-slice_split is_slash path))
     (sym (gap_split path) ∙ gap) dots ∙ ap Some (split_below path)

@@ -1,5 +1,10 @@
 -- Each path that is found is normal.
-use Rattle.hc_target.proofs.Common.{◌≡◌, ℕ, zero, suc, ◌<◌, Bool, true, false, cond, List, [], ◌∷◌, ◌++◌, length, take, Option, Some, None, IfSome, sym, refl, ap, ◌∙◌, subst, arith, length-append, AllByRecursion, flat_map, list_all, list_any, onto_first, slice_split, and_parts, cond_both, slash, has_double_slash, is_dots, is_slash, escapes_slash, has_bad_escape, Reached, above, below, is_normal, is_parent, is_plain, is_still, normal_path, path_to, root, step, led_by}
+use Rattle.hc_target.proofs.Common.{◌≡◌, ℕ, zero, suc, ◌<◌, Bool, true, false, cond, List, [], ◌∷◌}
+use Rattle.hc_target.proofs.Common.{◌++◌, length, take, Option, Some, None, IfSome, sym, refl, ap, ◌∙◌, subst}
+use Rattle.hc_target.proofs.Common.{arith, length-append, AllByRecursion, flat_map, list_all, list_any, onto_first}
+use Rattle.hc_target.proofs.Common.{slice_split, and_parts, cond_both, slash, has_double_slash, is_dots, is_slash}
+use Rattle.hc_target.proofs.Common.{escapes_slash, has_bad_escape, Reached, above, below, is_normal, is_parent}
+use Rattle.hc_target.proofs.Common.{is_plain, is_still, normal_path, path_to, root, step, led_by}
 use Rattle.std.specs.Option.{option_map}
 use Rattle.std.proofs.lemmas.List.Folds.{list_all-append}
 use Rattle.percent_encoding.specs.Percent.{percent_decode}
@@ -58,7 +63,8 @@ names_take zero names h = tt
 names_take (suc count) [] h = tt
 names_take (suc count) (x ∷ xs) h = (h.0, names_take count xs h.1)
 
-open_place : (names : List (List ℕ)) → AllByRecursion IsName names → IsPlace (record { names = names; open_end = true })
+open_place : (names : List (List ℕ)) → AllByRecursion IsName names
+    → IsPlace (record { names = names; open_end = true })
 open_place names h = record { names_are = h; some = omega (arith, length-append names ([] ∷ [])) }
 
 above_place : (names : List (List ℕ)) → AllByRecursion IsName names → IfSome (above names) IsPlace
@@ -130,7 +136,8 @@ row_normal [] some h = absurd (omega arith)
 row_normal (s ∷ ss) some h =
     let path = s ++ flat_map below ss in
     let split = split_row s ss h.pieces in
-    let double : has_double_slash (slash ∷ path) ≡ false = gap_split path ∙ ap (has_gap false) split ∙ h.no_gap in
+    let double : has_double_slash (slash ∷ path) ≡ false = gap_split path ∙ ap (has_gap false) split
+    ∙ h.no_gap in
     let dots : list_any is_dots (slice_split is_slash path) ≡ false = ap (list_any is_dots) split ∙ h.no_dots in
     rw (double, dots, plain_row (s ∷ ss) h.pieces) refl
 
@@ -151,5 +158,6 @@ sent_normal path query =
     (λ _. cond_both (escapes_slash path) Miss404 _ HasNormalPath (λ _. tt)
     (λ _. decoded_normal (percent_decode path) query))
 
-pub answer_normal : (path query : List ℕ) (answer : TargetRead) → answer ≡ read_sent path query → HasNormalPath answer
+pub answer_normal : (path query : List ℕ) (answer : TargetRead) → answer ≡ read_sent path query
+    → HasNormalPath answer
 answer_normal path query answer e = subst HasNormalPath (sym e) (sent_normal path query)

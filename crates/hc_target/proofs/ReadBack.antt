@@ -1,5 +1,7 @@
 -- A normal path that is escaped is read back.
-use Rattle.hc_target.proofs.Common.{◌≡◌, ℕ, ◌<◌, true, List, [], ◌∷◌, ◌++◌, ap, ◌∙◌, arith, after_first, before_first, list_all, and_parts, question, is_clean, escaped, is_normal, is_plain, is_question}
+use Rattle.hc_target.proofs.Common.{◌≡◌, ℕ, ◌<◌, true, List, [], ◌∷◌, ◌++◌, ap, ◌∙◌, arith}
+use Rattle.hc_target.proofs.Common.{after_first, before_first, list_all, and_parts, question, is_clean, escaped}
+use Rattle.hc_target.proofs.Common.{is_normal, is_plain, is_question}
 use Rattle.std.proofs.lemmas.Bool.Decides.{nat_tests}
 use Rattle.hc_target.specs.declared.target.TargetRead.TheVariants.{Path}
 use Rattle.hc_target.specs.Targets.{IsReadBack, found, read, read_sent}

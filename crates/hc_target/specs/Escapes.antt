@@ -1,5 +1,6 @@
 -- Escapes of bytes in a path: `%` and two hexadecimal digits (RFC 3986, section 2.1).
-use Rattle.std.specs.Prelude.{ℕ, ◌/◌, ◌%◌, ◌==◌, List, [], ◌∷◌, Bool, false, not, ◌&&◌, ◌||◌, if◌then◌else◌, codes}
+use Rattle.std.specs.Prelude.{ℕ, ◌/◌, ◌%◌, ◌==◌, List, [], ◌∷◌, Bool, false, not, ◌&&◌}
+use Rattle.std.specs.Prelude.{◌||◌, if◌then◌else◌, codes}
 use Rattle.std.specs.Char.{digit_char, digit_value, is_ascii_alphanumeric, is_ascii_hexdigit}
 use Rattle.std.specs.List.{flat_map, list_any}
 use Rattle.hc_base.specs.Bytes.{percent, slash}

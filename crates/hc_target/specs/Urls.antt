@@ -1,5 +1,6 @@
 -- URLs with a scheme, and the statuses that lead to them.
--- Apache manual, mod_rewrite, RewriteRule; mod_alias, Redirect. Schemes are compared without case (RFC 3986, section 3.1).
+-- Apache manual, mod_rewrite, RewriteRule; mod_alias, Redirect. Schemes are compared without case (RFC 3986, section
+-- 3.1).
 use Rattle.std.specs.Prelude.{ℕ, List, length, take, Bool, ◌||◌, ◌&&◌, nat_le, nat_lt, codes}
 use Rattle.std.specs.Str.{str_eq_ignore_ascii_case}
 

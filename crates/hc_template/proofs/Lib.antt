@@ -3,5 +3,4 @@ pub mod UpTo
 pub mod Unclosed
 pub mod Runs
 pub mod LookingUp
-pub mod SmallRows
 pub mod Cutting

@@ -1,7 +1,9 @@
 -- A text as it is read sign by sign.
-use Rattle.std.proofs.Common.{◌≡◌, ℕ, zero, suc, ◌-◌, ◌<◌, Bool, false, List, [], ◌∷◌, drop, get_or, length, length-drop, refl, ap, sym, ◌∙◌, arith}
+use Rattle.std.proofs.Common.{◌≡◌, ℕ, zero, suc, ◌-◌, ◌<◌, Bool, false, List, [], ◌∷◌, drop}
+use Rattle.std.proofs.Common.{get_or, length, length-drop, refl, ap, sym, ◌∙◌, arith}
 use Rattle.hc_template.specs.Fronts.{Begins, IsCut, cut, cut_of, part_of}
-use Rattle.hc_template.specs.Reading.{inner_behind, lookup_sign, no_lookup, read_behind, sign_at, sign_inside, template, with_inner, with_part}
+use Rattle.hc_template.specs.Reading.{inner_behind, lookup_sign, no_lookup, read_behind, sign_at, sign_inside, template}
+use Rattle.hc_template.specs.Reading.{with_inner, with_part}
 use Rattle.hc_template.specs.declared.front.Front.{Front}
 use Rattle.hc_template.specs.declared.front.Front.TheVariants as front
 use Rattle.hc_template.specs.declared.front.Sign.{Sign}
@@ -25,13 +27,15 @@ begins signs (b ∷ bs) rest sign some is found =
       shorter = omega (arith, length-drop count bs);
     })
 
-passed_inside : (ends : ℕ → Bool) (signs : Signs) (count : ℕ) (bs : List ℕ) → inner_behind ends signs count bs ≡ inner_behind ends signs 0 (drop count bs)
+passed_inside : (ends : ℕ → Bool) (signs : Signs) (count : ℕ) (bs : List ℕ) → inner_behind ends signs count bs
+    ≡ inner_behind ends signs 0 (drop count bs)
 passed_inside ends signs zero bs = refl
 passed_inside ends signs (suc count) [] = refl
 passed_inside ends signs (suc count) (b ∷ bs) = passed_inside ends signs count bs
 
 -- Inside a look-up a sign is its part and what follows it.
-cut_inside : (names : Names) (found : Front) (behind : List ℕ) → cut_of no_lookup names found behind ≡ record { part = part_of names found; behind = behind }
+cut_inside : (names : Names) (found : Front) (behind : List ℕ) → cut_of no_lookup names found behind
+    ≡ record { part = part_of names found; behind = behind }
 cut_inside names (front.Byte b) behind = refl
 cut_inside names (front.Group number) behind = refl
 cut_inside names (front.Condition number) behind = refl
@@ -39,9 +43,11 @@ cut_inside names (front.Name name) behind = refl
 cut_inside names front.Braced behind = refl
 
 -- The same of a key or a fallback.
-pub begins_inside : (ends : ℕ → Bool) (signs : Signs) (text rest : List ℕ) (sign : Sign) → 0 < length text → rest ≡ drop 1 text → ends (get_or text 0 0) ≡ false
+pub begins_inside : (ends : ℕ → Bool) (signs : Signs) (text rest : List ℕ) (sign : Sign) → 0 < length text
+    → rest ≡ drop 1 text → ends (get_or text 0 0) ≡ false
     → IsCut signs sign (cut (sign_inside signs (get_or text 0 0) rest) rest) no_lookup
-    → (inner_behind ends signs 0 text ≡ with_inner (part_of signs.names sign.front) (inner_behind ends sign.signs 0 sign.behind.now)) × (length sign.behind.now < length text)
+    → (inner_behind ends signs 0 text ≡ with_inner (part_of signs.names sign.front)
+    (inner_behind ends sign.signs 0 sign.behind.now)) × (length sign.behind.now < length text)
 begins_inside ends signs [] rest sign some is plain found = absurd (omega arith)
 begins_inside ends signs (b ∷ bs) rest sign some is plain found =
     let inside = sign_inside signs b bs in

@@ -1,5 +1,6 @@
 -- What was read of a template, before what is left of its text.
-use Rattle.std.specs.Prelude.{◌≡◌, ℕ, ◌-◌, ◌==◌, ◌<◌, Bool, List, [], ◌∷◌, ◌++◌, length, drop, if◌then◌else◌}
+use Rattle.std.specs.Prelude.{◌≡◌, ℕ, ◌-◌, ◌==◌, ◌<◌, Bool, List, [], ◌∷◌, ◌++◌, length}
+use Rattle.std.specs.Prelude.{drop, if◌then◌else◌}
 use Rattle.std.specs.Prelude.{Option, Some, None, option_map, Result, Ok, Err}
 use Rattle.std.specs.Borrow.{Bor}
 use Rattle.hc_base.specs.Bytes.{brace_open}
@@ -11,7 +12,8 @@ use Rattle.hc_base.specs.declared.fault.Fault.TheVariants.{NoMemory, Refused}
 use Rattle.hc_model.specs.declared.template.Piece.{Piece}
 use Rattle.hc_model.specs.declared.template.Piece.TheVariants.{CondGroup, Group, Lookup}
 use Rattle.hc_template.specs.Pieces.{with_byte}
-use Rattle.hc_template.specs.Reading.{Asked, Inner, Part, Sign, byte, ends_fallback, ends_key, inner_behind, name_part, piece, refused, template, unsupported, with_part}
+use Rattle.hc_template.specs.Reading.{Asked, Inner, Part, Sign, byte, ends_fallback, ends_key, inner_behind, name_part}
+use Rattle.hc_template.specs.Reading.{piece, refused, template, unsupported, with_part}
 use Rattle.hc_template.specs.declared.front.Front.{Front}
 use Rattle.hc_template.specs.declared.front.Front.TheVariants as front
 use Rattle.hc_template.specs.declared.front.Sign as code_front
@@ -32,7 +34,13 @@ up_to end (b ∷ bs) = if b == end then Some [] else option_map (λ front. b ∷
 
 abbrev pub without_names : Signs → Signs
 without_names signs =
-    record { groups = signs.groups; conditions = signs.conditions; names = NoName; lookups = signs.lookups; escapes = signs.escapes }
+    record {
+      groups = signs.groups;
+      conditions = signs.conditions;
+      names = NoName;
+      lookups = signs.lookups;
+      escapes = signs.escapes;
+    }
 
 -- ---- the sign at a place
 

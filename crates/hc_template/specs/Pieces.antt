@@ -10,4 +10,5 @@ with_byte b (Bytes bytes ∷ pieces) = Bytes (b ∷ bytes) ∷ pieces
 with_byte b (Group number ∷ pieces) = Bytes (b ∷ []) ∷ Group number ∷ pieces
 with_byte b (CondGroup number ∷ pieces) = Bytes (b ∷ []) ∷ CondGroup number ∷ pieces
 with_byte b (Var var ∷ pieces) = Bytes (b ∷ []) ∷ Var var ∷ pieces
-with_byte b (Lookup' map key keys fallback fallbacks ∷ pieces) = Bytes (b ∷ []) ∷ Lookup' map key keys fallback fallbacks ∷ pieces
+with_byte b (Lookup' map key keys fallback fallbacks ∷ pieces) =
+    Bytes (b ∷ []) ∷ Lookup' map key keys fallback fallbacks ∷ pieces

@@ -1,7 +1,8 @@
 -- Texts with parts that are filled in where they are used.
 -- Apache manual, mod_rewrite, "Test String", "Substitution" and RewriteMap; mod_alias, RedirectMatch; "Expressions in
 -- Apache HTTP Server". What is kept of other signs is our own choice.
-use Rattle.std.specs.Prelude.{ℕ, zero, suc, ◌+◌, ◌-◌, ◌==◌, ◌&&◌, ◌||◌, List, [], ◌∷◌, length, drop, if◌then◌else◌}
+use Rattle.std.specs.Prelude.{ℕ, zero, suc, ◌+◌, ◌-◌, ◌==◌, ◌&&◌, ◌||◌, List, [], ◌∷◌}
+use Rattle.std.specs.Prelude.{length, drop, if◌then◌else◌}
 use Rattle.std.specs.Prelude.{Bool, Option, Some, None, option_map, Result, Ok, Err}
 use Rattle.std.specs.Char.{is_ascii_digit}
 use Rattle.hc_base.specs.Bytes.{backslash, bar, brace_close, brace_open, digit_zero, dollar, percent}
@@ -101,7 +102,8 @@ with_inner (refused broken) more = None
 with_inner (piece p) more = option_map {T = Inner} (λ inner. record inner { pieces = p ∷ inner.pieces }) more
 with_inner (byte b) more = option_map {T = Inner} (λ inner. record inner { pieces = with_byte b inner.pieces }) more
 
--- It ends before the first of these bytes that is no part of a longer sign; there is none where a sign is refused or no such byte
+-- It ends before the first of these bytes that is no part of a longer sign; there is none where a sign is refused or no
+-- such byte
 -- stands. The first so many bytes belong to a sign before.
 abbrev pub inner_behind : (ℕ → Bool) → Signs → ℕ → List ℕ → Option Inner
 inner_behind ends signs passed [] = None
@@ -172,7 +174,8 @@ with_part (byte b) (Ok pieces) = Ok (with_byte b pieces)
 abbrev pub read_behind : Signs → ℕ → List ℕ → Result (List Piece) AtByte
 read_behind signs passed [] = Ok []
 read_behind signs (suc passed) (b ∷ bs) = read_behind signs passed bs
-read_behind signs zero (b ∷ bs) = with_part (sign_at signs b bs).part (read_behind signs ((sign_at signs b bs).length - 1) bs)
+read_behind signs zero (b ∷ bs) =
+    with_part (sign_at signs b bs).part (read_behind signs ((sign_at signs b bs).length - 1) bs)
 
 abbrev pub template : Signs → List ℕ → Result (List Piece) AtByte
 template signs text = read_behind signs 0 text

@@ -1,8 +1,10 @@
 -- The variables that a text may name, and their values.
 -- Apache manual, mod_rewrite, RewriteCond; "Expressions in Apache HTTP Server". Which of them an expression may name is
 -- our own choice.
-use Rattle.std.specs.Prelude.{ℕ, ◌+◌, ◌==◌, List, [], ◌∷◌, ◌++◌, take, drop, Option, Some, None, option_map, unwrap_or, codes, decimal, if◌then◌else◌}
-use Rattle.std.specs.List.{find, list_any, position}
+use Rattle.std.specs.Prelude.{ℕ, ◌+◌, ◌==◌, List, [], ◌∷◌, ◌++◌, take, drop, Bool, true, false}
+use Rattle.std.specs.Prelude.{Option, Some, None}
+use Rattle.std.specs.Prelude.{option_map, unwrap_or, codes, decimal, if◌then◌else◌}
+use Rattle.std.specs.List.{find, position}
 use Rattle.std.specs.Str.{str_eq_ignore_ascii_case}
 use Rattle.hc_addr.specs.Numbers.{is_colon}
 use Rattle.hc_addr.specs.Printed.{printed}
@@ -16,43 +18,50 @@ use Rattle.hc_model.specs.declared.request.View.{View}
 use Rattle.hc_model.specs.declared.template.Var.{Var}
 use Rattle.hc_model.specs.declared.template.Var.TheVariants as var
 use Rattle.hc_table.specs.Table.{find_in}
-use Rattle.hc_table.specs.Variables.{variable_rows}
+use Rattle.hc_table.specs.Variables.{front_rows, variable_rows}
+use Rattle.hc_table.specs.declared.variable.Front.{Front}
+use Rattle.hc_table.specs.declared.variable.Front.TheVariants as front
+use Rattle.hc_table.specs.declared.variable.Variable.{Variable}
+use Rattle.hc_table.specs.declared.variable.Variable.TheVariants as variable
 use Rattle.hc_template.specs.declared.signs.Names.{Names}
 use Rattle.hc_template.specs.declared.signs.Names.TheVariants.{Expression, NoName, Rewriting}
-use Rattle.hc_table.specs.declared.table.RowKind.{RowKind}
-use Rattle.hc_table.specs.declared.variable.TheConstants.{ENVIRONMENT, HEADER, HTTPS, HTTP_HOST, HTTP_REFERER, HTTP_USER_AGENT, QUERY_STRING, REMOTE_ADDR}
-use Rattle.hc_table.specs.declared.variable.TheConstants.{REQUEST_FILENAME, REQUEST_METHOD, REQUEST_SCHEME, REQUEST_URI, SERVER_NAME, SERVER_PORT}
 
 -- ---- names
 
 -- Those that an expression may name.
-abbrev pub in_expressions : List ℕ
-in_expressions =
-    REQUEST_URI ∷ REQUEST_FILENAME ∷ QUERY_STRING ∷ REQUEST_METHOD ∷ REQUEST_SCHEME ∷ HTTPS ∷
-    HTTP_HOST ∷ HTTP_USER_AGENT ∷ HTTP_REFERER ∷ REMOTE_ADDR ∷ SERVER_NAME ∷ SERVER_PORT ∷ []
+abbrev pub in_expressions : Variable → Bool
+in_expressions variable.RequestUri = true
+in_expressions variable.RequestFilename = true
+in_expressions variable.QueryString = true
+in_expressions variable.RequestMethod = true
+in_expressions variable.RequestScheme = true
+in_expressions variable.Https = true
+in_expressions variable.HttpHost = true
+in_expressions variable.HttpUserAgent = true
+in_expressions variable.HttpReferer = true
+in_expressions variable.RemoteAddr = true
+in_expressions variable.ServerName = true
+in_expressions variable.ServerPort = true
+in_expressions other = false
 
-abbrev pub among : List ℕ → ℕ → Option Var
-among numbers number = if list_any (λ other. number == other) numbers then Some (var.Named number) else None
+abbrev pub if_in_expressions : Option Variable → Option Var
+if_in_expressions None = None
+if_in_expressions (Some found) = if in_expressions found then Some (var.Named found) else None
 
 -- By the table of variables, without case.
 abbrev pub variable_named : List ℕ → Option Var
-variable_named name = elim (find_in variable_rows name) [ None ↦ None | Some kind ↦ among in_expressions kind.meaning ]
+variable_named name = if_in_expressions (find_in variable_rows name)
 
--- What the front of a name stands for: a header, whose name follows, or a variable that rules set.
-abbrev pub behind_front : Option RowKind → List ℕ → Option Var
+-- What a front says: a header, whose name follows, or a variable that rules set.
+abbrev pub behind_front : Option Front → List ℕ → Option Var
 behind_front None rest = None
-behind_front (Some kind) rest =
-    if kind.meaning == HEADER then Some (var.Header rest)
-    else (if kind.meaning == ENVIRONMENT then Some (var.Env rest) else None)
-
-abbrev pub listed : Option RowKind → Option Var
-listed None = None
-listed (Some kind) = Some (var.Named kind.meaning)
+behind_front (Some front.Header) rest = Some (var.Header rest)
+behind_front (Some front.Environment) rest = Some (var.Env rest)
 
 -- A name with a colon begins with a front.
 abbrev pub rewriting_named : Option ℕ → List ℕ → Option Var
-rewriting_named None name = listed (find_in variable_rows name)
-rewriting_named (Some at) name = behind_front (find_in variable_rows (take (at + 1) name)) (drop (at + 1) name)
+rewriting_named None name = option_map var.Named (find_in variable_rows name)
+rewriting_named (Some at) name = behind_front (find_in front_rows (take (at + 1) name)) (drop (at + 1) name)
 
 -- All of the table, and headers and variables by their names.
 abbrev pub rewriting_variable : List ℕ → Option Var
@@ -79,7 +88,8 @@ port_part scheme port = if port == default_port scheme then [] else colon ∷ de
 
 abbrev pub origin : Caller → List ℕ
 origin caller =
-    scheme_name caller.request.scheme ++ codes "://" ++ caller.name ++ port_part caller.request.scheme caller.request.port
+    scheme_name caller.request.scheme ++ codes "://" ++ caller.name ++ port_part caller.request.scheme
+    caller.request.port
 
 -- ---- values
 
@@ -90,7 +100,8 @@ on_off Https = codes "on"
 -- The first header of this name, without case; empty where there is none.
 abbrev pub header_value : List Header → List ℕ → List ℕ
 header_value headers name =
-    unwrap_or (option_map (λ header. header.value) (find (λ header. str_eq_ignore_ascii_case header.name name) headers)) []
+    unwrap_or
+    (option_map (λ header. header.value) (find (λ header. str_eq_ignore_ascii_case header.name name) headers)) []
 
 abbrev pub host_with_port : Request → List ℕ
 host_with_port request = request.host ++ port_part request.scheme request.port
@@ -105,29 +116,24 @@ pub record Seen : Type 0 where
 abbrev pub seen_by : View → Seen
 seen_by view = record { caller = view.caller; path = view.path; query = view.query; name = view.name }
 
--- The table of values. A number that is not in it has none.
-abbrev pub values_of : Seen → List (ℕ × List ℕ)
-values_of seen =
-    (REQUEST_URI, seen.path) ∷
-    (REQUEST_FILENAME, seen.name) ∷
-    (QUERY_STRING, seen.query) ∷
-    (REQUEST_METHOD, seen.caller.request.method) ∷
-    (REQUEST_SCHEME, scheme_name seen.caller.request.scheme) ∷
-    (HTTPS, on_off seen.caller.request.scheme) ∷
-    (HTTP_HOST, host_with_port seen.caller.request) ∷
-    (HTTP_USER_AGENT, header_value seen.caller.request.headers (codes "User-Agent")) ∷
-    (HTTP_REFERER, header_value seen.caller.request.headers (codes "Referer")) ∷
-    (REMOTE_ADDR, printed seen.caller.request.client) ∷
-    (SERVER_NAME, seen.caller.name) ∷
-    (SERVER_PORT, decimal seen.caller.request.port) ∷
-    []
-
-abbrev pub value_among : List (ℕ × List ℕ) → ℕ → List ℕ
-value_among [] number = []
-value_among (row ∷ rows) number = if row.0 == number then row.1 else value_among rows number
+-- What an expression may not name has no value there.
+abbrev pub value_of : Seen → Variable → List ℕ
+value_of seen variable.RequestUri = seen.path
+value_of seen variable.RequestFilename = seen.name
+value_of seen variable.QueryString = seen.query
+value_of seen variable.RequestMethod = seen.caller.request.method
+value_of seen variable.RequestScheme = scheme_name seen.caller.request.scheme
+value_of seen variable.Https = on_off seen.caller.request.scheme
+value_of seen variable.HttpHost = host_with_port seen.caller.request
+value_of seen variable.HttpUserAgent = header_value seen.caller.request.headers (codes "User-Agent")
+value_of seen variable.HttpReferer = header_value seen.caller.request.headers (codes "Referer")
+value_of seen variable.RemoteAddr = printed seen.caller.request.client
+value_of seen variable.ServerName = seen.caller.name
+value_of seen variable.ServerPort = decimal seen.caller.request.port
+value_of seen other = []
 
 -- In an expression.
 abbrev pub variable_value : View → Var → List ℕ
 variable_value view (var.Header name) = header_value view.caller.request.headers name
 variable_value view (var.Env name) = []
-variable_value view (var.Named number) = value_among (values_of (seen_by view)) number
+variable_value view (var.Named named) = value_of (seen_by view) named

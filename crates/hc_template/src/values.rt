@@ -2,18 +2,14 @@ ghost use Rattle.std.specs.Prelude.{◌≡◌, ◌++◌, OnOk, decimal};
 ghost use Rattle.hc_addr.specs.Printed.{printed};
 ghost use Rattle.hc_template.specs.SeenView.{seen_of};
 ghost use Rattle.hc_template.specs.ViewFilling.{filling_of};
-ghost use Rattle.hc_template.specs.Variables.{header_value, host_with_port, on_off, seen_by};
-ghost use Rattle.hc_template.specs.Variables.{value_among, values_of};
+ghost use Rattle.hc_template.specs.Variables.{header_value, host_with_port, on_off, seen_by, value_of};
 
 use crate::filling::Fills;
 use crate::server::{push_port, scheme_name};
 use hc_addr::{Addr, print_addr};
 use hc_base::NoMemory;
 use hc_model::{Caller, Header, Request, Scheme, Var, View};
-use hc_table::variable::{
-    HTTP_HOST, HTTP_REFERER, HTTP_USER_AGENT, HTTPS, QUERY_STRING, REMOTE_ADDR, REQUEST_FILENAME,
-    REQUEST_METHOD, REQUEST_SCHEME, REQUEST_URI, SERVER_NAME, SERVER_PORT,
-};
+use hc_table::Variable;
 
 /// What variables have their values by: a request at a server, the URL path, the query and the file
 /// name.
@@ -26,27 +22,27 @@ pub struct Values<'v> {
 }
 
 impl<'v> Values<'v> {
-    /// Adds the value of a variable of the table, by its number; nothing for one that an expression may not
-    /// name. `NoMemory` where memory is refused.
-    pub fn push_value(&self, out: &mut Vec<u8>, number: u8) -> Result<(), NoMemory>
+    /// Adds the value of a variable; nothing for one that an expression may not name. `NoMemory` where memory is
+    /// refused.
+    pub fn push_value(&self, out: &mut Vec<u8>, variable: Variable) -> Result<(), NoMemory>
         ensures { OnOk result (
-            out.new.items ≡ out.old.items ++ value_among (values_of (seen_of self.now)) number) }
+            out.new.items ≡ out.old.items ++ value_of (seen_of self.now) variable) }
     {
         let request = &self.caller.request;
         let headers = request.headers.as_slice();
-        match u16::from(number) {
-            REQUEST_URI => out.extend_from_slice(self.path),
-            REQUEST_FILENAME => out.extend_from_slice(self.name),
-            QUERY_STRING => out.extend_from_slice(self.query),
-            REQUEST_METHOD => out.extend_from_slice(request.method.as_bytes()),
-            REQUEST_SCHEME => out.extend_from_slice(scheme_name(request.scheme)),
-            HTTPS => out.extend_from_slice(on_off(request.scheme)),
-            HTTP_HOST => push_host(out, request),
-            HTTP_USER_AGENT => out.extend_from_slice(header_value(headers, b"User-Agent")),
-            HTTP_REFERER => out.extend_from_slice(header_value(headers, b"Referer")),
-            REMOTE_ADDR => push_address(out, request.client),
-            SERVER_NAME => out.extend_from_slice(self.caller.name.as_bytes()),
-            SERVER_PORT => push_number(out, request.port),
+        match variable {
+            Variable::RequestUri => out.extend_from_slice(self.path),
+            Variable::RequestFilename => out.extend_from_slice(self.name),
+            Variable::QueryString => out.extend_from_slice(self.query),
+            Variable::RequestMethod => out.extend_from_slice(request.method.as_bytes()),
+            Variable::RequestScheme => out.extend_from_slice(scheme_name(request.scheme)),
+            Variable::Https => out.extend_from_slice(on_off(request.scheme)),
+            Variable::HttpHost => push_host(out, request),
+            Variable::HttpUserAgent => out.extend_from_slice(header_value(headers, b"User-Agent")),
+            Variable::HttpReferer => out.extend_from_slice(header_value(headers, b"Referer")),
+            Variable::RemoteAddr => push_address(out, request.client),
+            Variable::ServerName => out.extend_from_slice(self.caller.name.as_bytes()),
+            Variable::ServerPort => push_number(out, request.port),
             _ => Ok(()),
         }
     }
@@ -92,7 +88,7 @@ impl<'v> Fills for ViewFilling<'v> {
                 ))
             }
             Var::Env(_) => Ok(()),
-            Var::Named(number) => self.values().push_value(out, *number),
+            Var::Named(variable) => self.values().push_value(out, *variable),
         }
     }
 }

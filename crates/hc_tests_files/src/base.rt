@@ -5,8 +5,8 @@ use hc_base::bytes::{begins_with, ends_with};
 use hc_base::codes::{CONTROL_BYTE, NO_SUCH_PLACE, UNSUPPORTED_DIRECTIVE, name_of_code};
 use hc_base::paths::{begins_with_slash, ends_with_slash, is_dots};
 use hc_base::{
-    AtByte, CowStr, Failed, Fault, List, NoMemory, Place, Refusal, Sink, Source, StdSink,
-    StdSource, Steps, Text, VecSink, VecSource,
+    AtByte, Counter, CowStr, Failed, Fault, List, NoMemory, Place, Refusal, Sink, Source, StdSink,
+    StdSource, Text, VecSink, VecSource,
 };
 use std::alloc::Global;
 use std::marker::Brand;
@@ -103,7 +103,7 @@ fn ends_of_texts_and_paths(rt: HostRuntime) {
     assert!(rt; is_dots(b".") && is_dots(b"..") && !is_dots(b"...") && !is_dots(b".a"));
 }
 
-fn tick_twice<L: Ledger>(steps: &mut Steps<L>)
+fn tick_twice<L: Ledger>(steps: &mut Counter<L>)
     ensures { steps.new ≡ steps.old + 2 }
 {
     steps.tick();
@@ -115,7 +115,7 @@ fn count_two<L: Ledger>(blank: Blank)
     requires parts { blank.parts ≡ L.parts }
     requires whole { 0 < blank.parts }
 {
-    tick_twice(&mut Steps::<L>::new(blank));
+    tick_twice(&mut Counter::<L>::new(blank));
 }
 
 #[test]

@@ -4,7 +4,7 @@
 ghost use Rattle.std.specs.Prelude.{◌≡◌, ◌<◌};
 
 use crate::world::{put, put_at};
-use hc_base::{NoMemory, Refusal, Steps, Text};
+use hc_base::{Counter, NoMemory, Refusal, Text};
 use hc_flat::{EntryView, Flat};
 use hc_include::flatten;
 use hc_model::{EntryForm, Read};
@@ -130,7 +130,7 @@ fn flat_counted<L: Ledger>(blank: Blank, alloc: Global, world: &World) -> Result
     requires parts { blank.parts ≡ L.parts }
     requires whole { 0 < blank.parts }
 {
-    let mut bytes = Steps::<L>::new(blank);
+    let mut bytes = Counter::<L>::new(blank);
     flatten(alloc, world, MAIN.as_bytes(), &mut bytes)
 }
 

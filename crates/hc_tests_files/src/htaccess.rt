@@ -4,7 +4,7 @@ ghost use Rattle.std.specs.Prelude.{◌≡◌, ◌<◌};
 
 use crate::flat::{flat_of, show};
 use crate::show::text_of;
-use hc_base::{List, NoMemory, Place, Steps, Text};
+use hc_base::{Counter, List, NoMemory, Place, Text};
 use hc_flat::Flat;
 use hc_include::flatten_override;
 use hc_model::{Body, Config, Inherit, Merging, Rules, Server};
@@ -92,7 +92,7 @@ fn counted<L: Ledger>(blank: Blank, alloc: Global, asked: Asked) -> Result<Flat,
     requires parts { blank.parts ≡ L.parts }
     requires whole { 0 < blank.parts }
 {
-    let mut bytes = Steps::<L>::new(blank);
+    let mut bytes = Counter::<L>::new(blank);
     flatten_override(alloc, asked.text, PATH.as_bytes(), asked.config, &mut bytes)
 }
 
@@ -118,11 +118,11 @@ fn server(alloc: Global) -> Server {
         root: None,
         recursion: None,
         addresses: List::new(alloc),
-        aliases: List::new(alloc),
+        names: List::new(alloc),
         redirects: List::new(alloc),
-        maps: List::new(alloc),
+        aliases: List::new(alloc),
         sections: List::new(alloc),
-        maps_by_name: List::new(alloc),
+        rewrite_maps: List::new(alloc),
         body: body(alloc),
     }
 }

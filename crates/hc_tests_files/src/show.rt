@@ -2,7 +2,7 @@
 
 ghost use Rattle.std.specs.Prelude.{◌≡◌, ◌<◌};
 
-use hc_base::{AtLine, Fault, NoMemory, Steps};
+use hc_base::{AtLine, Counter, Fault, NoMemory};
 use hc_lines::{FileKind, Line, LineFault, logical_lines};
 use std::alloc::Global;
 use std::fmt::Write as _;
@@ -26,7 +26,7 @@ fn count_lines<'t, L: Ledger>(
     requires parts { blank.parts ≡ L.parts }
     requires whole { 0 < blank.parts }
 {
-    let mut bytes = Steps::<L>::new(blank);
+    let mut bytes = Counter::<L>::new(blank);
     logical_lines(alloc, source.text, source.file, &mut bytes)
 }
 

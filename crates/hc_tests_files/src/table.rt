@@ -1,54 +1,28 @@
-use hc_base::NoMemory;
-use hc_table::class::{AUTH_CONFIG, FILE_INFO, INDEXES, NONE, OPTIONS};
 use hc_table::{
-    Row, RowKind, Table, Wording, context, directives, find_in, flag, meaning, rule_flags,
-    variable, variables,
+    Class, Context, Contexts, Directive, FlagName, Front, Meaning, OptionName, OptionWord, Row,
+    SectionName, Variable, Wording, class_named, directive_named, find_in, flag_named, front_named,
+    option_named, variable_named,
 };
-use std::alloc::Global;
 use std::process::Abort;
-
-// The name stands for this, also in small and in capital letters.
-fn check_name(
-    rt: &impl Abort,
-    alloc: Global,
-    rows: &[Row],
-    name: &str,
-    wanted: RowKind,
-) -> Result<(), NoMemory> {
-    let small = name.to_ascii_lowercase(alloc)?;
-    let capital = name.to_ascii_uppercase(alloc)?;
-    for spelled in [name, small.as_str(), capital.as_str()] {
-        let found = find_in(rows, spelled.as_bytes());
-        assert!(rt; found == Some(wanted), "{spelled}");
-    }
-    Ok(())
-}
-
-// None of these names, with a comma between them, stands in the table.
-fn check_absent(rt: &impl Abort, table: Table, names: &str) {
-    for name in names.split(',') {
-        assert!(rt; table.find(name.as_bytes()) == None, "{name}");
-    }
-}
 
 // Contexts by letters: the main server, a virtual host, a directory, a directory by a pattern, files,
 // a location, `If` and an .htaccess file.
-fn contexts_of(letters: &str) -> u16 {
-    let mut contexts = context::NONE;
-    for letter in letters.bytes() {
-        contexts |= match letter {
-            b's' => context::MAIN_SERVER,
-            b'v' => context::VIRTUAL_HOST,
-            b'd' => context::DIRECTORY,
-            b'm' => context::DIRECTORY_MATCH,
-            b'f' => context::FILES,
-            b'l' => context::LOCATION,
-            b'i' => context::IF_SECTION,
-            b'h' => context::HTACCESS,
-            _ => u16::MAX,
-        };
+static CONTEXTS: &[(u8, Context)] = &[
+    (b's', Context::MainServer),
+    (b'v', Context::VirtualHost),
+    (b'd', Context::Directory),
+    (b'm', Context::DirectoryMatch),
+    (b'f', Context::Files),
+    (b'l', Context::Location),
+    (b'i', Context::IfSection),
+    (b'h', Context::Htaccess),
+];
+
+fn check_contexts(rt: &impl Abort, name: &str, contexts: Contexts, letters: &str) {
+    for &(letter, context) in CONTEXTS {
+        let wanted = letters.bytes().any(|byte| byte == letter);
+        assert!(rt; contexts.contain(context) == wanted, "{name}");
     }
-    contexts
 }
 
 // The words of two directives keep their backslashes.
@@ -59,136 +33,162 @@ fn wording_of(name: &str) -> Wording {
     }
 }
 
+fn check_directive(rt: &impl Abort, name: &str, meaning: Meaning, letters: &str, class: &str) {
+    let Some(kind) = directive_named(name.as_bytes()) else {
+        panic!(rt; "{name}");
+    };
+    assert!(rt;
+        kind.meaning == meaning && kind.wording == wording_of(name),
+        "{name}"
+    );
+    assert!(rt; kind.class == class_named(class.as_bytes()), "{name}");
+    check_contexts(rt, name, kind.contexts, letters);
+}
+
 // A name, what it means, where it may stand, and its class of overrides.
-static DIRECTIVES: &[(&str, u16, &str, u8)] = &[
-    ("ServerRoot", meaning::SERVER_ROOT, "s", NONE),
-    ("DocumentRoot", meaning::DOCUMENT_ROOT, "sv", NONE),
-    ("ServerAlias", meaning::SERVER_ALIAS, "v", NONE),
-    ("Define", meaning::DEFINE, "svdmfli", NONE),
-    ("Include", meaning::INCLUDE, "svdmfli", NONE),
-    ("Alias", meaning::ALIAS, "sv", NONE),
-    ("RedirectMatch", meaning::REDIRECT_MATCH, "svdh", FILE_INFO),
-    ("Options", meaning::OPTIONS, "svdmflih", OPTIONS),
-    ("AllowOverride", meaning::ALLOW_OVERRIDE, "d", NONE),
-    ("Require", meaning::REQUIRE, "dmflih", AUTH_CONFIG),
-    ("RewriteBase", meaning::REWRITE_BASE, "dh", FILE_INFO),
-    ("RewriteRule", meaning::REWRITE_RULE, "svdh", FILE_INFO),
-    ("RewriteMap", meaning::REWRITE_MAP, "sv", NONE),
-    ("VirtualHost", meaning::VIRTUAL_HOST, "s", NONE),
-    ("Directory", meaning::DIRECTORY, "sv", NONE),
-    ("LocationMatch", meaning::LOCATION_MATCH, "sv", NONE),
-    ("Files", meaning::FILES, "svdmh", NONE),
-    ("ElseIf", meaning::ELSE_IF, "svdmflh", NONE),
-    ("RequireNone", meaning::REQUIRE_NONE, "dmflih", AUTH_CONFIG),
-    ("IfModule", meaning::IF_MODULE, "svdmflih", NONE),
-    ("Listen", meaning::INERT, "sv", NONE),
-    ("SSLEngine", meaning::INERT, "sv", NONE),
-    ("ErrorDocument", meaning::INERT, "svdmflih", FILE_INFO),
-    ("DirectoryIndex", meaning::INERT, "svdmflih", INDEXES),
-    ("php_value", meaning::INERT, "svdmflih", OPTIONS),
-    ("SSLCipherSuite", meaning::INERT, "svdmflih", AUTH_CONFIG),
-    ("ServerSignature", meaning::INERT, "svdmflih", NONE),
-    ("LogLevel", meaning::INERT, "svdmfli", NONE),
+static DIRECTIVES: &[(&str, Directive, &str, &str)] = &[
+    ("ServerRoot", Directive::ServerRoot, "s", ""),
+    ("documentroot", Directive::DocumentRoot, "sv", ""),
+    ("SERVERALIAS", Directive::ServerAlias, "v", ""),
+    ("Define", Directive::Define, "svdmfli", ""),
+    ("Include", Directive::Include, "svdmfli", ""),
+    ("Alias", Directive::Alias, "sv", ""),
+    ("Redirect", Directive::Redirect, "svdh", "FileInfo"),
+    ("Options", Directive::Options, "svdmflih", "Options"),
+    ("AllowOverride", Directive::AllowOverride, "d", ""),
+    ("Require", Directive::Require, "dmflih", "AuthConfig"),
+    ("RewriteBase", Directive::RewriteBase, "dh", "FileInfo"),
+    ("RewriteRule", Directive::RewriteRule, "svdh", "FileInfo"),
+    ("RewriteMap", Directive::RewriteMap, "sv", ""),
+    ("Listen", Directive::Inert, "sv", ""),
+    ("SSLEngine", Directive::Inert, "sv", ""),
+    ("ErrorDocument", Directive::Inert, "svdmflih", "FileInfo"),
+    ("DirectoryIndex", Directive::Inert, "svdmflih", "Indexes"),
+    ("php_value", Directive::Inert, "svdmflih", "Options"),
+    ("SSLCipherSuite", Directive::Inert, "svdmflih", "AuthConfig"),
+    ("ServerSignature", Directive::Inert, "svdmflih", ""),
+    ("LogLevel", Directive::Inert, "svdmfli", ""),
+];
+
+static SECTIONS: &[(&str, SectionName, &str, &str)] = &[
+    ("VirtualHost", SectionName::VirtualHost, "s", ""),
+    ("Directory", SectionName::Directory, "sv", ""),
+    ("LocationMatch", SectionName::LocationMatch, "sv", ""),
+    ("Files", SectionName::Files, "svdmh", ""),
+    ("eLSEiF", SectionName::ElseIf, "svdmflh", ""),
+    (
+        "RequireAny",
+        SectionName::RequireAny,
+        "dmflih",
+        "AuthConfig",
+    ),
+    ("IfModule", SectionName::IfModule, "svdmflih", ""),
 ];
 
 #[test]
-fn directives_are_found(rt: HostRuntime) -> Result<(), NoMemory> {
-    let table = directives();
-    for &(name, meaning, letters, class) in DIRECTIVES {
-        let contexts = contexts_of(letters);
-        let wanted = RowKind {
-            meaning,
-            contexts,
-            class,
-            wording: wording_of(name),
-        };
-        assert!(rt; table.find(name.as_bytes()) == Some(wanted), "{name}");
-        check_name(&rt, rt.alloc(), table.rows, name, wanted)?;
+fn directives_are_found(rt: HostRuntime) {
+    for &(name, directive, letters, class) in DIRECTIVES {
+        check_directive(&rt, name, Meaning::Directive(directive), letters, class);
+    }
+    for &(name, section, letters, class) in SECTIONS {
+        check_directive(&rt, name, Meaning::Section(section), letters, class);
     }
     // The last one's first letter is a long s.
-    let absent = ",Alia,Aliases, Alias,<Directory,Limit,Proxy,ſetEnv";
-    check_absent(&rt, table, absent);
-    Ok(())
-}
-
-#[test]
-fn containers_come_behind_the_directives(rt: HostRuntime) {
-    static ROWS: &[(u16, bool)] = &[
-        (meaning::SERVER_ROOT, false),
-        (meaning::INERT, false),
-        (meaning::VIRTUAL_HOST, true),
-        (meaning::IF_MODULE, true),
-    ];
-    for &(meaning, wanted) in ROWS {
-        assert!(rt; meaning::is_container(meaning) == wanted, "{meaning}");
-    }
-}
-
-// What a flag or a variable stands for, which has neither contexts nor a class.
-fn plain(meaning: u16) -> RowKind {
-    RowKind {
-        meaning,
-        contexts: context::NONE,
-        class: NONE,
-        wording: Wording::Configuration,
+    for name in ",Alia,Aliases, Alias,<Directory,Limit,Proxy,ſetEnv".split(',') {
+        assert!(rt; directive_named(name.as_bytes()).is_none(), "{name}");
     }
 }
 
 #[test]
-fn flags_of_rules_are_found(rt: HostRuntime) -> Result<(), NoMemory> {
-    let table = rule_flags();
-    static ROWS: &[(&str, u16)] = &[
-        ("L", flag::LAST),
-        ("last", flag::LAST),
-        ("END", flag::END),
-        ("chain", flag::CHAIN),
-        ("R", flag::REDIRECT),
-        ("qsappend", flag::APPEND_QUERY),
-        ("NC", flag::NO_CASE),
-        ("env", flag::ENVIRONMENT),
-        ("CO", flag::COOKIE),
-        ("nosubreq", flag::NO_SUBREQUEST),
-        ("P", flag::UNSUPPORTED_FLAG),
-        ("UnsafePrefixStat", flag::UNSUPPORTED_FLAG),
+fn flags_of_rules_are_found(rt: HostRuntime) {
+    static ROWS: &[(&str, Option<FlagName>)] = &[
+        ("L", Some(FlagName::Last)),
+        ("last", Some(FlagName::Last)),
+        ("END", Some(FlagName::End)),
+        ("Chain", Some(FlagName::Chain)),
+        ("r", Some(FlagName::Redirect)),
+        ("qsappend", Some(FlagName::AppendQuery)),
+        ("NC", Some(FlagName::NoCase)),
+        ("env", Some(FlagName::Environment)),
+        ("CO", Some(FlagName::Cookie)),
+        ("nosubreq", Some(FlagName::NoSubrequest)),
+        ("P", Some(FlagName::Unsupported)),
+        ("unsafeprefixstat", Some(FlagName::Unsupported)),
+        ("", None),
+        ("X", None),
+        ("la", None),
+        ("lasts", None),
+        ("R=301", None),
+        ("Alias", None),
     ];
-    for &(name, meaning) in ROWS {
-        check_name(&rt, rt.alloc(), table.rows, name, plain(meaning))?;
+    for &(name, wanted) in ROWS {
+        assert!(rt; flag_named(name.as_bytes()) == wanted, "{name}");
     }
-    check_absent(&rt, table, ",X,la,lasts,R=301,Alias");
-    Ok(())
 }
 
 #[test]
-fn variables_are_found(rt: HostRuntime) -> Result<(), NoMemory> {
-    let table = variables();
-    static ROWS: &[(&str, u16)] = &[
-        ("HTTP_HOST", variable::HTTP_HOST),
-        ("HTTP:", variable::HEADER),
-        ("ENV:", variable::ENVIRONMENT),
-        ("REQUEST_URI", variable::REQUEST_URI),
-        ("QUERY_STRING", variable::QUERY_STRING),
-        ("SERVER_PORT", variable::SERVER_PORT),
-        ("HTTPS", variable::HTTPS),
-        ("THE_REQUEST", variable::THE_REQUEST),
+fn variables_are_found(rt: HostRuntime) {
+    static ROWS: &[(&str, Option<Variable>)] = &[
+        ("HTTP_HOST", Some(Variable::HttpHost)),
+        ("REQUEST_URI", Some(Variable::RequestUri)),
+        ("Query_String", Some(Variable::QueryString)),
+        ("SERVER_PORT", Some(Variable::ServerPort)),
+        ("https", Some(Variable::Https)),
+        ("THE_REQUEST", Some(Variable::TheRequest)),
+        ("", None),
+        ("HTTP:", None),
+        ("ENV:", None),
+        ("TIME_YEAR", None),
+        ("%{HTTPS}", None),
     ];
-    for &(name, meaning) in ROWS {
-        check_name(&rt, rt.alloc(), table.rows, name, plain(meaning))?;
+    for &(name, wanted) in ROWS {
+        assert!(rt; variable_named(name.as_bytes()) == wanted, "{name}");
     }
-    let absent = ",HTTP,HTTP:Host,ENV:x,TIME_YEAR,%{HTTPS}";
-    check_absent(&rt, table, absent);
-    Ok(())
+    static FRONTS: &[(&str, Option<Front>)] = &[
+        ("http:", Some(Front::Header)),
+        ("ENV:", Some(Front::Environment)),
+        ("HTTP", None),
+        ("HTTP:Host", None),
+        ("ENV:x", None),
+        ("HTTPS", None),
+    ];
+    for &(name, wanted) in FRONTS {
+        assert!(rt; front_named(name.as_bytes()) == wanted, "{name}");
+    }
 }
 
-fn row(name: &'static str, meaning: u16) -> Row {
-    let kind = plain(meaning);
+#[test]
+fn options_and_classes_are_found(rt: HostRuntime) {
+    static OPTIONS: &[(&str, Option<OptionWord>)] = &[
+        ("None", Some(OptionWord::Nothing)),
+        ("all", Some(OptionWord::All)),
+        ("Indexes", Some(OptionWord::One(OptionName::Indexes))),
+        ("EXECCGI", Some(OptionWord::One(OptionName::ExecCgi))),
+        ("+Indexes", None),
+        ("Include", None),
+    ];
+    for &(name, wanted) in OPTIONS {
+        assert!(rt; option_named(name.as_bytes()) == wanted, "{name}");
+    }
+    static CLASSES: &[(&str, Option<Class>)] = &[
+        ("authconfig", Some(Class::AuthConfig)),
+        ("Options", Some(Class::Options)),
+        ("Options=Indexes", None),
+        ("All", None),
+        ("None", None),
+    ];
+    for &(name, wanted) in CLASSES {
+        assert!(rt; class_named(name.as_bytes()) == wanted, "{name}");
+    }
+}
+
+fn row(name: &'static str, kind: u8) -> Row<u8> {
     Row { name, kind }
 }
 
 #[test]
-fn the_first_row_with_a_name_counts(rt: HostRuntime) -> Result<(), NoMemory> {
+fn the_first_row_with_a_name_counts(rt: HostRuntime) {
     let rows = [row("Map", 1), row("mAP", 2), row("Mapped", 3)];
-    check_name(&rt, rt.alloc(), &rows, "Map", plain(1))?;
-    check_name(&rt, rt.alloc(), &rows, "Mapped", plain(3))?;
+    assert!(rt; find_in(&rows, b"mAP") == Some(1) && find_in(&rows, b"MAPPED") == Some(3));
     assert!(rt; find_in(&rows, b"Ma") == None && find_in(&rows, b"Maps") == None);
-    Ok(())
 }

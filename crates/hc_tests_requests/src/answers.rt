@@ -7,7 +7,7 @@ ghost use Rattle.hc_base.specs.Paths.{begins_with_slash};
 use crate::configs::{config_of, world_of};
 use hc_addr::Addr;
 use hc_base::paths::begins_with_slash;
-use hc_base::{List, NoMemory, Place, Steps, Text};
+use hc_base::{Counter, List, NoMemory, Place, Text};
 use hc_htaccess::PlainOverrides;
 use hc_model::{Config, Header, Request, Scheme};
 use hc_serve::{Answer, WholeRun, evaluate, whole_run};
@@ -70,8 +70,8 @@ fn answered<E: Ledger, B: Ledger>(
     requires bytes_parts { for_bytes.parts ≡ B.parts }
     requires bytes_whole { 0 < for_bytes.parts }
 {
-    let mut evals = Steps::<E>::new(for_evals);
-    let mut bytes = Steps::<B>::new(for_bytes);
+    let mut evals = Counter::<E>::new(for_evals);
+    let mut bytes = Counter::<B>::new(for_bytes);
     let mut over = PlainOverrides::new(alloc, config, world, &mut bytes);
     let answer = evaluate(alloc, config, world, &mut over, request, &mut evals)?.clone()?;
     let whole = whole_run(alloc, config, world, &mut over, request, &mut evals)?.clone()?;

@@ -2,7 +2,7 @@
 
 ghost use Rattle.std.specs.Prelude.{◌≡◌, ◌<◌};
 
-use hc_base::{Fault, Steps};
+use hc_base::{Counter, Fault};
 use hc_config::{BuildFault, build};
 use hc_include::flatten;
 use hc_model::Config;
@@ -46,7 +46,7 @@ fn config_counted<L: Ledger>(
     requires parts { blank.parts ≡ L.parts }
     requires whole { 0 < blank.parts }
 {
-    let mut bytes = Steps::<L>::new(blank);
+    let mut bytes = Counter::<L>::new(blank);
     let flat = flatten(alloc, world, MAIN_FILE.as_bytes(), &mut bytes)?;
     build(alloc, &flat)
 }

@@ -3,7 +3,7 @@
 
 ghost use Rattle.std.specs.Prelude.{◌≡◌, ◌<◌};
 
-use hc_base::{NoMemory, Steps, Text};
+use hc_base::{Counter, NoMemory, Text};
 use hc_generate::summary;
 use std::alloc::Global;
 use std::marker::Brand;
@@ -41,8 +41,8 @@ fn summed<E: Ledger, B: Ledger>(
     requires bytes_parts { for_bytes.parts ≡ B.parts }
     requires bytes_whole { 0 < for_bytes.parts }
 {
-    let mut evals = Steps::<E>::new(for_evals);
-    let mut bytes = Steps::<B>::new(for_bytes);
+    let mut evals = Counter::<E>::new(for_evals);
+    let mut bytes = Counter::<B>::new(for_bytes);
     summary(alloc, seed, &mut evals, &mut bytes)
 }
 

@@ -2,7 +2,7 @@
 
 ghost use Rattle.std.specs.Prelude.{◌≡◌, ◌-◌, ◌<◌, ◌≤◌, ◌^◌};
 
-use hc_base::{NoMemory, Sink, Source, Steps, VecSink, VecSource};
+use hc_base::{Counter, NoMemory, Sink, Source, VecSink, VecSource};
 use hc_session::{Status, serve_session};
 use std::alloc::Global;
 use std::marker::Brand;
@@ -35,8 +35,8 @@ fn served<S: Source, K: Sink, E: Ledger, B: Ledger>(
     requires bytes_parts { for_bytes.parts ≡ B.parts }
     requires bytes_whole { 0 < for_bytes.parts }
 {
-    let mut evals = Steps::<E>::new(for_evals);
-    let mut bytes = Steps::<B>::new(for_bytes);
+    let mut evals = Counter::<E>::new(for_evals);
+    let mut bytes = Counter::<B>::new(for_bytes);
     serve_session(alloc, source, sink, &mut evals, &mut bytes)
 }
 

@@ -1,8 +1,8 @@
 //! Sets of texts as they are written: each form once, and which pattern is refused first.
 
 use hc_base::{AtByte, Boxed, Fault, List, NoMemory, Text};
-use hc_model::SetForm;
 use hc_regset::compile_set;
+use hc_scope::SetForm;
 use std::alloc::Global;
 use std::process::Abort;
 

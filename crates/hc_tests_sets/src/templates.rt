@@ -3,6 +3,7 @@
 use hc_addr::Addr;
 use hc_base::{AtByte, Fault, List, NoMemory, Text};
 use hc_model::{Caller, Header, Piece, Request, Scheme, Template, Var, View};
+use hc_table::Variable;
 use hc_template::{Names, Signs, ViewFilling, expand, push_port, read_template, variable_named};
 use std::alloc::Global;
 
@@ -44,9 +45,22 @@ fn push_named(out: &mut Vec<u8>, sign: u8, name: &Text) -> Result<(), NoMemory> 
     out.extend_from_slice(name.as_bytes())
 }
 
+fn shown_variable(variable: Variable) -> &'static str {
+    match variable {
+        Variable::HttpHost => "host",
+        Variable::Https => "https",
+        Variable::RequestUri => "uri",
+        Variable::TheRequest => "line",
+        _ => "other",
+    }
+}
+
 fn push_variable(out: &mut Vec<u8>, var: &Var) -> Result<(), NoMemory> {
     match var {
-        Var::Named(number) => push_number(out, b'@', *number),
+        Var::Named(variable) => {
+            out.push(b'@')?;
+            out.extend_from_slice(shown_variable(*variable).as_bytes())
+        }
         Var::Header(name) => push_named(out, b'H', name),
         Var::Env(name) => push_named(out, b'E', name),
     }
@@ -127,19 +141,19 @@ fn templates_are_read_into_pieces(rt: HostRuntime) -> Result<(), NoMemory> {
         ("$10", ALL, "$1|0|"),
         ("%1%", ALL, "%1|%|"),
         ("\\$1\\\\x\\", ALL, "$1\\x\\|"),
-        ("%{HTTPS}", ALL, "@19|"),
-        ("a%{request_uri}b", ALL, "a|@9|b|"),
+        ("%{HTTPS}", ALL, "@https|"),
+        ("a%{request_uri}b", ALL, "a|@uri|b|"),
         ("%{HTTPS", ALL, "%{HTTPS|"),
         ("%{}", ALL, "refused 19 0"),
         ("%{NO}%{HTTPS}", ALL, "refused 19 0"),
-        ("%{THE_REQUEST}", ALL, "@20|"),
+        ("%{THE_REQUEST}", ALL, "@line|"),
         ("%{THE_REQUEST}", NAMES, "refused 19 0"),
         ("%{ENV:a b}%{env:}%{http:X-Y}", ALL, "Ea b|E|HX-Y|"),
         ("%{ENV:x}", NAMES, "refused 19 0"),
         ("%{HTTP_HOST:}", ALL, "refused 19 0"),
         ("%{HTTP:a:b}", ALL, "Ha:b|"),
         ("/x/${m:$1|none}", ALL, "/x/|<m:$1|;none|>|"),
-        ("${low:%{HTTP_HOST}}y", ALL, "<low:@0|;>|y|"),
+        ("${low:%{HTTP_HOST}}y", ALL, "<low:@host|;>|y|"),
         ("${a-_9:a\\}b|c\\|d|e}", ALL, "<a-_9:a}b|;c|d|e|>|"),
         ("${m:}${m:|}", ALL, "<m:;>|<m:;>|"),
         ("${m:%{HTTP:a|b}|%2}", ALL, "<m:Ha|b|;%2|>|"),
@@ -155,9 +169,9 @@ fn templates_are_read_into_pieces(rt: HostRuntime) -> Result<(), NoMemory> {
         ("${m!:a}", ALL, "refused 19 0"),
         ("a${m:b}", GROUPS, "a${m:b}|"),
         ("%{%{HTTPS}", ALL, "refused 19 0"),
-        ("%{HTTPS}}$1", ALL, "@19|}|$1|"),
+        ("%{HTTPS}}$1", ALL, "@https|}|$1|"),
         ("$1%1%{NO}\\$2", GROUPS, "$1|%1%{NO}\\|$2|"),
-        ("$1%1%{HTTPS}\\$2", NAMES, "$1%1|@19|\\$2|"),
+        ("$1%1%{HTTPS}\\$2", NAMES, "$1%1|@https|\\$2|"),
     ];
     for &(text, signs, wanted) in ROWS {
         let read = read_as(rt.alloc(), text, signs)?;
@@ -166,21 +180,21 @@ fn templates_are_read_into_pieces(rt: HostRuntime) -> Result<(), NoMemory> {
     Ok(())
 }
 
-fn named(name: &str) -> Option<u8> {
+fn named(name: &str) -> Option<Variable> {
     match variable_named(name.as_bytes()) {
-        Some(Var::Named(number)) => Some(number),
+        Some(Var::Named(variable)) => Some(variable),
         _ => None,
     }
 }
 
 #[test]
 fn names_of_variables(rt: HostRuntime) -> Result<(), NoMemory> {
-    static ROWS: &[(&str, Option<u8>)] = &[
-        ("HTTP_HOST", Some(0)),
-        ("http_user_agent", Some(1)),
-        ("Request_Uri", Some(9)),
-        ("SERVER_PORT", Some(16)),
-        ("HTTPS", Some(19)),
+    static ROWS: &[(&str, Option<Variable>)] = &[
+        ("HTTP_HOST", Some(Variable::HttpHost)),
+        ("http_user_agent", Some(Variable::HttpUserAgent)),
+        ("Request_Uri", Some(Variable::RequestUri)),
+        ("SERVER_PORT", Some(Variable::ServerPort)),
+        ("HTTPS", Some(Variable::Https)),
         ("HTTP_COOKIE", None),
         ("THE_REQUEST", None),
         ("HTTP:", None),

@@ -42,7 +42,7 @@ is_name name (Some own) = str_eq_ignore_ascii_case own name
 
 -- By its ServerName, or by an alias.
 abbrev pub has_name : List ℕ → Server → Bool
-has_name name host = is_name name host.name || list_any (λ alias. fits alias name) host.aliases
+has_name name host = is_name name host.name || list_any (λ alias. fits alias name) host.names
 
 -- ---- the choice
 

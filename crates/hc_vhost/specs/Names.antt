@@ -1,7 +1,8 @@
 -- Which names a ServerAlias stands for.
 -- Apache manual, core, ServerAlias. Names are compared without case; `*` stands for any bytes, and `?`
 -- for one.
-use Rattle.std.specs.Prelude.{ℕ, List, [], ◌∷◌, Bool, true, false, ◌==◌, ◌&&◌, ◌||◌, if◌then◌else◌}
+use Rattle.std.specs.Prelude.{ℕ, List, [], ◌∷◌, Bool, true, false, ◌==◌, ◌&&◌, ◌||◌}
+use Rattle.std.specs.Prelude.{if◌then◌else◌}
 use Rattle.std.specs.Char.{to_ascii_lowercase}
 use Rattle.hc_base.specs.Bytes.{question, star}
 

@@ -9,7 +9,8 @@ use Rattle.hc_vhost.specs.declared.name.Step.TheVariants.{Byte, Stops}
 -- What is left is taken exactly where all is, and where it takes some end exactly then too, so does all.
 pub record LeadsTo (alias name behind rest : List ℕ) : Type 0 where
   pub same : fits alias name ≡ fits behind rest
-  pub ends : (e : Bool) → fits behind rest ≡ e → any_bytes (fits behind) rest ≡ e → any_bytes (fits alias) name ≡ e
+  pub ends : (e : Bool) → fits behind rest ≡ e → any_bytes (fits behind) rest ≡ e
+      → any_bytes (fits alias) name ≡ e
   pub shorter : length behind ≤ length alias
   pub fewer : length rest ≤ length name
 

@@ -110,7 +110,7 @@ fn is_address(server: Option<Addr>, address: Option<u32>) -> bool
 fn has_name(host: &Server, name: &[u8]) -> bool
     ensures { result ≡ has_name name.now host.now }
 {
-    is_name(&host.name, name) || has_alias(host.aliases.as_slice(), name)
+    is_name(&host.name, name) || has_alias(host.names.as_slice(), name)
 }
 
 fn is_name(own: &Option<Text>, name: &[u8]) -> bool

@@ -1,5 +1,6 @@
 -- How ways are put behind each other.
-use Rattle.hc_ways.proofs.Common.{◌≡◌, ℕ, Bool, true, false, List, [], ◌∷◌, if◌then◌else◌, refl, ap, ◌∙◌, flat_map, Way, Ways, stop, behind, either, stop_where, preferred}
+use Rattle.hc_ways.proofs.Common.{◌≡◌, ℕ, Bool, true, false, List, [], ◌∷◌, if◌then◌else◌, refl, ap}
+use Rattle.hc_ways.proofs.Common.{◌∙◌, flat_map, Way, Ways, stop, behind, either, stop_where, preferred}
 use Rattle.std.proofs.lemmas.List.Concat.{flat_map-append}
 use Rattle.std.proofs.Common.{append-nil}
 use Rattle.hc_ways.proofs.Lists.{flat_map-flat_map}
@@ -28,6 +29,8 @@ behind-either a b c = same_ways _ _ (λ at held. flat_map-append _ (a at held) (
 abbrev pub turn_or_next : {K : Type 0} → Bool → Ways K → Ways K → Ways K
 turn_or_next greedy turn next = if greedy then either turn next else either next turn
 
-pub behind-preferred : {K : Type 0} (greedy : Bool) (turn next : Ways K) → behind (preferred greedy turn) next ≡ turn_or_next greedy (behind turn next) next
+pub behind-preferred : {K : Type 0} (greedy : Bool) (turn next : Ways K) → behind (preferred greedy turn) next
+    ≡ turn_or_next greedy (behind turn next) next
 behind-preferred true turn next = behind-either turn stop next ∙ ap (either (behind turn next)) (behind-stop next)
-behind-preferred false turn next = behind-either stop turn next ∙ ap (λ first. either first (behind turn next)) (behind-stop next)
+behind-preferred false turn next = behind-either stop turn next ∙ ap (λ first. either first (behind turn next))
+    (behind-stop next)

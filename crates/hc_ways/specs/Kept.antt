@@ -1,5 +1,6 @@
 -- What is kept of the groups on a way: the last turn of each, or all turns.
-use Rattle.std.specs.Prelude.{ℕ, ◌==◌, List, [], ◌∷◌, ◌++◌, Option, Some, None, if◌then◌else◌, length, zero, suc, ◌+◌}
+use Rattle.std.specs.Prelude.{ℕ, ◌==◌, List, [], ◌∷◌, ◌++◌, Option, Some, None, if◌then◌else◌}
+use Rattle.std.specs.Prelude.{length, zero, suc, ◌+◌}
 use Rattle.std.specs.List.{fold}
 use Rattle.std.specs.Option.{option_or, option_map}
 use Rattle.hc_base.specs.declared.place.Span.{Span}
@@ -57,7 +58,8 @@ match_at text pattern from = option_map (held_by from) (first_of (last_ways text
 -- The match at the least of so many places, from one on, that has one.
 abbrev pub match_among : List ℕ → Pattern → ℕ → ℕ → Option Held
 match_among text pattern zero from = None
-match_among text pattern (suc count) from = option_or (match_at text pattern from) (match_among text pattern count (from + 1))
+match_among text pattern (suc count) from =
+    option_or (match_at text pattern from) (match_among text pattern count (from + 1))
 
 -- The match: the first way at the least place that has one.
 abbrev pub first_match : List ℕ → Pattern → Option Held

@@ -9,7 +9,8 @@ pub record IsItsTurns (text : List ℕ) (body : Pattern) (greedy : Bool) : Type 
   -- more turns at least than at most
   pub fewer : (least most : ℕ) → most < least → last_ways text (repeat body least (Some most) greedy) ≡ none
   -- a turn that has to be
-  pub counted : (least most : ℕ) → least ≤ most → last_ways text (repeat body (suc least) (Some (suc most)) greedy)
+  pub counted : (least most : ℕ) → least ≤ most
+      → last_ways text (repeat body (suc least) (Some (suc most)) greedy)
       ≡ behind (last_ways text body) (last_ways text (repeat body least (Some most) greedy))
   pub uncounted : (least : ℕ) → last_ways text (repeat body (suc least) None greedy)
       ≡ behind (last_ways text body) (last_ways text (repeat body least None greedy))
@@ -26,9 +27,11 @@ pub record IsItsTurns (text : List ℕ) (body : Pattern) (greedy : Bool) : Type 
 -- bytes that are left on.
 abbrev pub IsEnough : List ℕ → Pattern → Bool → Type 0
 IsEnough text body greedy = (bytes at : ℕ) (held : Held) → length text - at ≤ bytes
-    → any_turns greedy (last_ways text body) bytes at held ≡ any_turns greedy (last_ways text body) (length text) at held
+    → any_turns greedy (last_ways text body) bytes at held ≡ any_turns greedy (last_ways text body) (length text) at
+    held
 
 -- The ways with all their turns are the ways of a match, in their order, once all but the last turn
 -- of each group are dropped.
 abbrev pub AreTheirLastTurns : List ℕ → Pattern → Type 0
-AreTheirLastTurns text pattern = (at : ℕ) → map last_of_turns (all_ways text pattern at []) ≡ last_ways text pattern at nothing_held
+AreTheirLastTurns text pattern = (at : ℕ) → map last_of_turns (all_ways text pattern at [])
+    ≡ last_ways text pattern at nothing_held

@@ -1,5 +1,6 @@
 -- What a pattern matches, as the ordered list of its ways (PCRE, "pcrematching").
-use Rattle.std.specs.Prelude.{ℕ, zero, suc, ◌+◌, ◌-◌, ◌==◌, Bool, false, List, [], ◌∷◌, ◌++◌, length, map, filter, Option, Some, None, if◌then◌else◌, nat_lt, slice_get}
+use Rattle.std.specs.Prelude.{ℕ, zero, suc, ◌+◌, ◌-◌, ◌==◌, Bool, false, List, [], ◌∷◌, ◌++◌}
+use Rattle.std.specs.Prelude.{length, map, filter, Option, Some, None, if◌then◌else◌, nat_lt, slice_get}
 use Rattle.std.specs.List.{flat_map}
 use Rattle.hc_base.specs.declared.place.Span.{Span}
 use Rattle.hc_pattern.specs.Bits.{has_byte}
@@ -49,7 +50,8 @@ step_where text test at held = if meets test (slice_get text at) then stop (at +
 
 -- What the group spans is kept, at the end of a way that began at a place.
 abbrev pub closed : {Kept : Type 0} → Keeping Kept → ℕ → ℕ → Way Kept → Way Kept
-closed keep number from way = record { end = way.end; held = keep number (record { start = from; end = way.end }) way.held }
+closed keep number from way =
+    record { end = way.end; held = keep number (record { start = from; end = way.end }) way.held }
 
 -- Each way of the body, and what the group spans is kept.
 abbrev pub grouped : {Kept : Type 0} → Keeping Kept → ℕ → Ways Kept → Ways Kept

@@ -54,7 +54,8 @@ text_of words name = first_of name (matches_of command words)
 -- The words ask for something where the command has no fault at them, and each value its form.
 abbrev pub words_of : List (List ℕ) → Option Words
 words_of words =
-    if is_empty (fault_of command words) then words_from (text_of words (codes "cells")) (text_of words (codes "generate"))
+    if is_empty (fault_of command words) then words_from (text_of words (codes "cells"))
+    (text_of words (codes "generate"))
     else None
 
 -- A parse fails for want of memory, or at a fault of the words.

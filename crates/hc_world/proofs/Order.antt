@@ -1,5 +1,10 @@
 -- Paths in the order of their bytes.
-use Rattle.hc_world.proofs.Common.{◌≡◌, ℕ, ◌<◌, true, false, List, [], ◌∷◌, ◌++◌, length, take, nat_eq, Some, refl, sym, ap, ◌∙◌, inl, inr, ◌⊎◌, append-nil, arith, ⊎_elim, Less, Equal, Greater, starts_with, is_le, is_lt, is_some_and, nat_cmp, ordering_reverse, ordering_then, slice_cmp, slice_partial_cmp, bytes_decides, lists_agrees, false≢true, true≢false, alike_right, nat_cmp_total, nat_list_cmp_total, ranked, tied_itself, is_before, is_up_to}
+use Rattle.hc_world.proofs.Common.{◌≡◌, ℕ, ◌<◌, true, false, List, [], ◌∷◌, ◌++◌, length, take}
+use Rattle.hc_world.proofs.Common.{nat_eq, Some, refl, sym, ap, ◌∙◌, inl, inr, ◌⊎◌, append-nil, arith}
+use Rattle.hc_world.proofs.Common.{⊎_elim, Less, Equal, Greater, starts_with, is_le, is_lt, is_some_and, nat_cmp}
+use Rattle.hc_world.proofs.Common.{ordering_reverse, ordering_then, slice_cmp, slice_partial_cmp, bytes_decides}
+use Rattle.hc_world.proofs.Common.{lists_agrees, false≢true, true≢false, alike_right, nat_cmp_total}
+use Rattle.hc_world.proofs.Common.{nat_list_cmp_total, ranked, tied_itself, is_before, is_up_to}
 use Rattle.std.specs.declared.cmp.Ordering.{Ordering}
 
 abbrev order : List ℕ → List ℕ → Ordering
@@ -28,7 +33,8 @@ before_if_up_to a b c h k =
       | Greater ↦ λ _ g. absurd (false≢true g)
     ] refl h
 
-pub before_then_up_to : (a b c : List ℕ) → is_before a b ≡ true → is_up_to b c ≡ true → is_before a c ≡ true
+pub before_then_up_to : (a b c : List ℕ) → is_before a b ≡ true → is_up_to b c ≡ true
+    → is_before a c ≡ true
 before_then_up_to a b c h k =
     elim (order b c) as (λ o. order b c ≡ o → is_le o ≡ true → is_before a c ≡ true) [
       | Less ↦ λ e _. ap is_lt (nat_list_cmp_total.trans a b c (less _ h) e)
@@ -72,11 +78,13 @@ same_front (x ∷ xs) a b =
     ap (λ o. ordering_then o (order (xs ++ a) (xs ++ b))) (tied_itself nat_cmp_total x) ∙ same_front xs a b
 
 pub before_longer : (a : List ℕ) (b : ℕ) → is_before a (a ++ b ∷ []) ≡ true
-before_longer a b = ap (λ t. is_before t (a ++ b ∷ [])) (sym (append-nil a)) ∙ ap is_lt (same_front a [] (b ∷ []))
+before_longer a b = ap (λ t. is_before t (a ++ b ∷ [])) (sym (append-nil a))
+    ∙ ap is_lt (same_front a [] (b ∷ []))
 
 pub not_before_front : (front rest : List ℕ) → is_before (front ++ rest) front ≡ false
 not_before_front front rest =
-    ap (is_before (front ++ rest)) (sym (append-nil front)) ∙ ap is_lt (same_front front rest []) ∙ not_before_nil rest
+    ap (is_before (front ++ rest)) (sym (append-nil front)) ∙ ap is_lt (same_front front rest [])
+    ∙ not_before_nil rest
 
 pub before_all_below : (child more : List ℕ) → is_before (child ++ 47 ∷ more) (child ++ 48 ∷ []) ≡ true
 before_all_below child more = ap is_lt (same_front child (47 ∷ more) (48 ∷ []))
@@ -125,7 +133,8 @@ begins_so (x ∷ xs) (y ∷ ys) rest h k =
     nat_cmp y x ≡ o → is_lt (ordering_then o (order ys xs)) ≡ false
     → is_lt (ordering_then o (order ys (xs ++ rest))) ≡ true → x ∷ xs ≡ take (length (x ∷ xs)) (y ∷ ys)) [
       | Less ↦ λ _ a _. absurd (true≢false a)
-      | Equal ↦ λ e a b. ap (λ c. c ∷ xs) (sym (ranked y x Equal (sym e))) ∙ ap (λ s. y ∷ s) (begins_so xs ys rest a b)
+      | Equal ↦ λ e a b. ap (λ c. c ∷ xs) (sym (ranked y x Equal (sym e)))
+          ∙ ap (λ s. y ∷ s) (begins_so xs ys rest a b)
       | Greater ↦ λ _ _ b. absurd (false≢true b)
     ] refl h k
 

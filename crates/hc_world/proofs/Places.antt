@@ -1,15 +1,27 @@
 -- The names in a directory, found from place to place.
-use Rattle.hc_world.proofs.Common.{◌≡◌, ℕ, ◌+◌, ◌<◌, ◌≤◌, Bool, true, false, not, ◌&&◌, ◌||◌, cond, List, [], ◌∷◌, ◌++◌, length, take, drop, map, nat_eq, nat_lt, Option, Some, None, Vec, refl, sym, ap, ◌∙◌, subst, inl, inr, ◌⊎◌, append_assoc, append-nil, arith, rules, ⊎_elim, Global, Less, keys, AllByRecursion, cons_option, filter, filter_map, list_any, starts_with, keys_of, is_lt, nat_cmp, slice_cmp, bytes_decides, false≢true, cases_Bool, false_from_ne_true, drop-append-le, drop_more, length-take-le, take-append-drop, ends_with_slash, is_slash, World, as_name, name_behind_slash, name_in, Entry, entry_of, world_of, GoesOn, IsFirstFrom, front_of, is_before, is_up_to, keys_behind, keys_from, name_behind, IsNextSlash}
+use Rattle.hc_world.proofs.Common.{◌≡◌, ℕ, ◌+◌, ◌<◌, ◌≤◌, Bool, true, false, not, ◌&&◌}
+use Rattle.hc_world.proofs.Common.{◌||◌, cond, List, [], ◌∷◌, ◌++◌, length, take, drop, map, nat_eq}
+use Rattle.hc_world.proofs.Common.{nat_lt, Option, Some, None, Vec, refl, sym, ap, ◌∙◌, subst, inl, inr}
+use Rattle.hc_world.proofs.Common.{◌⊎◌, append_assoc, append-nil, arith, rules, ⊎_elim, Global, Less, keys}
+use Rattle.hc_world.proofs.Common.{AllByRecursion, cons_option, filter, filter_map, list_any, starts_with, keys_of}
+use Rattle.hc_world.proofs.Common.{is_lt, nat_cmp, slice_cmp, bytes_decides, false≢true, cases_Bool}
+use Rattle.hc_world.proofs.Common.{false_from_ne_true, drop-append-le, drop_more, length-take-le, take-append-drop}
+use Rattle.hc_world.proofs.Common.{ends_with_slash, is_slash, World, as_name, name_behind_slash, name_in, Entry}
+use Rattle.hc_world.proofs.Common.{entry_of, world_of, GoesOn, IsFirstFrom, front_of, is_before, is_up_to, keys_behind}
+use Rattle.hc_world.proofs.Common.{keys_from, name_behind, IsNextSlash}
 use Rattle.std.specs.declared.ops.Bound.TheVariants.{Included, Unbounded}
 use Rattle.std.proofs.Math.Bool.{or-true}
 use Rattle.std.specs.BTreeMap.Range.{entries_between}
 use Rattle.std.specs.List.Sorted.{IsStrictlySortedBy}
 use Rattle.hc_world.proofs.Ascending.{Ascend, Entries, keys-world_of}
-use Rattle.hc_world.proofs.Order.{before-from_not_up_to, before_all_below, before_if_up_to, before_longer, before_then_up_to, below_child, none_between, not_before_front, not_before_itself, starts_so, up_to-from_before}
+use Rattle.hc_world.proofs.Order.{before-from_not_up_to, before_all_below, before_if_up_to, before_longer}
+use Rattle.hc_world.proofs.Order.{before_then_up_to, below_child, none_between, not_before_front, not_before_itself}
+use Rattle.hc_world.proofs.Order.{starts_so, up_to-from_before}
 
 -- ---- a name in a directory is one behind its front
 
-slash_either_way : (b : ℕ) (name : Option (List ℕ)) → cond (is_slash b) name None ≡ cond (nat_eq 47 b && true) name None
+slash_either_way : (b : ℕ) (name : Option (List ℕ)) → cond (is_slash b) name None
+    ≡ cond (nat_eq 47 b && true) name None
 slash_either_way b name = grind arith
 
 behind_slash : (directory path : List ℕ)
@@ -83,11 +95,13 @@ no_name front rest =
     and_false true = refl
     and_false false = refl
 
-none_below : (front child rest : List ℕ) → length front ≤ length child → name_behind front (child ++ 47 ∷ rest) ≡ None
+none_below : (front child rest : List ℕ) → length front ≤ length child
+    → name_behind front (child ++ 47 ∷ rest) ≡ None
 none_below front child rest l =
     elim (starts_with nat_eq (child ++ 47 ∷ rest) front) as (λ b.
     cond b (as_name (drop (length front) (child ++ 47 ∷ rest))) None ≡ None) [
-      | true ↦ ap as_name (drop-append-le (length front) child (47 ∷ rest) l) ∙ no_name (drop (length front) child) rest
+      | true ↦ ap as_name (drop-append-le (length front) child (47 ∷ rest) l)
+          ∙ no_name (drop (length front) child) rest
       | false ↦ refl
     ]
 
@@ -108,10 +122,12 @@ GoesOn-child front path place slash next is =
     let from : length front ≤ slash = next.from_on in
     let long : length front ≤ length child = omega arith in
     let whole : child ++ 47 ∷ drop (slash + 1) path ≡ path =
-    ap (λ s. child ++ s) (sym (drop_more path slash 0 next.within ∙ ap (λ b. b ∷ drop (slash + 1) path) next.is_slash))
+    ap (λ s. child ++ s)
+    (sym (drop_more path slash 0 next.within ∙ ap (λ b. b ∷ drop (slash + 1) path) next.is_slash))
     ∙ take-append-drop slash path in
     subst (λ p. GoesOn front path (Some p)) (sym is)
-    (subst (λ p. GoesOn front p (Some (child ++ 48 ∷ []))) whole (skips_child front child (drop (slash + 1) path) long))
+    (subst (λ p. GoesOn front p (Some (child ++ 48 ∷ []))) whole
+    (skips_child front child (drop (slash + 1) path) long))
   where
     le : {a b : ℕ} → a < b → a ≤ b
     le l = omega arith
@@ -130,33 +146,40 @@ same_names f p q h (k ∷ ks) =
     (h k)
   where
     more : (b : Bool) → filter_map f (filter p ks) ≡ filter_map f (filter q ks)
-        → filter_map f (cond b (k ∷ filter p ks) (filter p ks)) ≡ filter_map f (cond b (k ∷ filter q ks) (filter q ks))
+        → filter_map f (cond b (k ∷ filter p ks) (filter p ks))
+        ≡ filter_map f (cond b (k ∷ filter q ks) (filter q ks))
     more true e = ap (cons_option (f k)) e
     more false e = e
 
-    nothing : (b : Bool) (xs : List (List ℕ)) → f k ≡ None → filter_map f (cond b (k ∷ xs) xs) ≡ filter_map f xs
+    nothing : (b : Bool) (xs : List (List ℕ)) → f k ≡ None → filter_map f (cond b (k ∷ xs) xs)
+        ≡ filter_map f xs
     nothing true xs n = ap (λ o. cons_option o (filter_map f xs)) n
     nothing false xs n = refl
 
-fewer : (p q : List ℕ → Bool) → ((key : List ℕ) → q key ≡ true → p key ≡ true) → (ks : List (List ℕ))
+fewer : (p q : List ℕ → Bool) → ((key : List ℕ) → q key ≡ true → p key ≡ true)
+    → (ks : List (List ℕ))
     → length (filter q ks) ≤ length (filter p ks)
 fewer p q h [] = omega arith
 fewer p q h (k ∷ ks) =
     let rest = fewer p q h ks in
-    elim (q k) as (λ b. q k ≡ b → length (cond b (k ∷ filter q ks) (filter q ks)) ≤ length (filter p (k ∷ ks))) [
+    elim (q k) as (λ b. q k ≡ b → length (cond b (k ∷ filter q ks) (filter q ks))
+    ≤ length (filter p (k ∷ ks))) [
       | true ↦ λ e.
           let kept : length (filter p (k ∷ ks)) ≡ length (k ∷ filter p ks) =
           ap (λ b. length (cond b (k ∷ filter p ks) (filter p ks))) (h k e) in
           omega arith
-      | false ↦ λ _. elim (p k) as (λ b. length (filter q ks) ≤ length (cond b (k ∷ filter p ks) (filter p ks))) [
-        | true ↦ omega arith
-        | false ↦ rest
-      ]
+      | false ↦ λ _. elim (p k) as (λ b. length (filter q ks)
+          ≤ length (cond b (k ∷ filter p ks) (filter p ks))) [
+            | true ↦ omega arith
+            | false ↦ rest
+          ]
     ] refl
 
-filter_all : (p : List ℕ → Bool) → ((key : List ℕ) → p key ≡ true) → (ks : List (List ℕ)) → filter p ks ≡ ks
+filter_all : (p : List ℕ → Bool) → ((key : List ℕ) → p key ≡ true) → (ks : List (List ℕ))
+    → filter p ks ≡ ks
 filter_all p h [] = refl
-filter_all p h (k ∷ ks) = ap (λ b. cond b (k ∷ filter p ks) (filter p ks)) (h k) ∙ ap (λ xs. k ∷ xs) (filter_all p h ks)
+filter_all p h (k ∷ ks) = ap (λ b. cond b (k ∷ filter p ks) (filter p ks)) (h k)
+    ∙ ap (λ xs. k ∷ xs) (filter_all p h ks)
 
 filter_none : (ks : List (List ℕ)) → filter (λ _. false) ks ≡ []
 filter_none [] = refl
@@ -211,7 +234,8 @@ pub names_end : (front place path : List ℕ) (names whole : List (List ℕ)) (w
 names_end front place path names whole world so_far first on =
     ap (λ more. names ++ more) (sym (append-nil (filter_map f (path ∷ [])))
     ∙ ap (λ more. filter_map f (path ∷ []) ++ more)
-    (sym (same_names f (is_before path) (λ _. false) none (keys world) ∙ ap (filter_map f) (filter_none (keys world))))
+    (sym (same_names f (is_before path) (λ _. false) none (keys world)
+    ∙ ap (filter_map f) (filter_none (keys world))))
     ∙ sym (filter_map-cons f path (keys_behind path world)) ∙ ap (filter_map f) (sym first))
     ∙ so_far
   where
@@ -224,7 +248,8 @@ names_end front place path names whole world so_far first on =
 pub names-behind : (directory front : List ℕ) (ks : List (List ℕ)) → front ≡ front_of directory
     → filter_map (name_behind front) ks ≡ filter_map (name_in directory) ks
 names-behind directory front ks is =
-    ap (λ s. filter_map (name_behind s) ks) is ∙ (λ i. filter_map (λ path. sym (name_in-behind directory path) i) ks)
+    ap (λ s. filter_map (name_behind s) ks) is
+    ∙ (λ i. filter_map (λ path. sym (name_in-behind directory path) i) ks)
 
 pub fewer_left : (front place path next : List ℕ) (world : World)
     → IsFirstFrom place path world → GoesOn front path (Some next)
@@ -251,7 +276,8 @@ paths-entries_from place [] = refl
 paths-entries_from place (e ∷ es) =
     let from = filter (is_up_to place.items) (paths es) in
     elim (is_up_to place.items e.0.items) as (λ b.
-    cond b (e.0.items ∷ from) from ≡ paths (cond (b && true) (e ∷ entries_from place es) (entries_from place es))) [
+    cond b (e.0.items ∷ from) from
+    ≡ paths (cond (b && true) (e ∷ entries_from place es) (entries_from place es))) [
       | true ↦ ap (λ ps. e.0.items ∷ ps) (paths-entries_from place es)
       | false ↦ paths-entries_from place es
     ]
@@ -267,7 +293,8 @@ all_behind place key (e ∷ es) h all =
     let rest = all_behind place key es h all.1 in
     ap (λ b. cond b (e.0.items ∷ filter (is_up_to place) (paths es)) (filter (is_up_to place) (paths es))) from
     ∙ ap (λ ps. e.0.items ∷ ps) rest
-    ∙ sym (ap (λ b. cond b (e.0.items ∷ filter (is_before key) (paths es)) (filter (is_before key) (paths es))) behind)
+    ∙ sym (ap (λ b. cond b (e.0.items ∷ filter (is_before key) (paths es)) (filter (is_before key) (paths es)))
+    behind)
 
 -- The paths behind the first.
 abbrev IsFirstAmong : List ℕ → Entries → List ℕ → Type 0
@@ -287,10 +314,12 @@ first_from place path rest (e ∷ es) s h =
     let from = filter (is_up_to place) (paths es) in
     elim (is_up_to place key) as (λ b.
     is_up_to place key ≡ b → cond b (key ∷ from) from ≡ path ∷ rest
-    → (is_up_to place path ≡ true) × (cond b (key ∷ from) from ≡ path ∷ filter (is_before path) (key ∷ paths es))) [
+    → (is_up_to place path ≡ true)
+    × (cond b (key ∷ from) from ≡ path ∷ filter (is_before path) (key ∷ paths es))) [
       | true ↦ λ u k.
           let same : key ≡ path = cc in
-          subst (λ p. (is_up_to place p ≡ true) × (key ∷ from ≡ p ∷ filter (is_before p) (key ∷ paths es))) same (
+          subst (λ p. (is_up_to place p ≡ true) × (key ∷ from ≡ p ∷ filter (is_before p) (key ∷ paths es)))
+          same (
             u,
             ap (λ ps. key ∷ ps) (all_behind place key es u s.0
                 ∙ sym (skip (is_before key key) key (filter (is_before key) (paths es)) (not_before_itself key))),

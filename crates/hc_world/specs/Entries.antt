@@ -6,8 +6,8 @@ use Rattle.std.specs.List.{list_any}
 use Rattle.hc_base.specs.declared.codes.TheConstants.{UNDER_FILE}
 use Rattle.hc_model.specs.Node.{Node, dir, file, text, is_file}
 use Rattle.hc_model.specs.World.{World, with_dirs}
-use Rattle.hc_world.specs.declared.entries.Entry.{Entry}
-use Rattle.hc_world.specs.declared.entries.Entry.TheVariants as entry
+use Rattle.hc_world.specs.declared.nodes.Entry.{Entry}
+use Rattle.hc_world.specs.declared.nodes.Entry.TheVariants as entry
 
 abbrev pub node_of : Entry → Node
 node_of entry.Dir = dir

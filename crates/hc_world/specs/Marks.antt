@@ -1,5 +1,6 @@
 -- What the code's functions tell of the marks that an edit leaves.
-use Rattle.std.specs.Prelude.{◌≡◌, ◌≢◌, ◌⊎◌, ℕ, ◌+◌, ◌<◌, ⊤, true, length, if◌then◌else◌, Option, Some, None, Result, Ok, Err, IsSome}
+use Rattle.std.specs.Prelude.{◌≡◌, ◌≢◌, ◌⊎◌, ℕ, ◌+◌, ◌<◌, ⊤, true, length}
+use Rattle.std.specs.Prelude.{if◌then◌else◌, Option, Some, None, Result, Ok, Err, IsSome}
 use Rattle.std.specs.FinMap.{get}
 use Rattle.hc_base.specs.declared.fault.Fault.{Fault}
 use Rattle.hc_model.specs.Node.{Node, dir, is_dir}

@@ -1,5 +1,6 @@
 -- The names in a directory, found from place to place among the paths of a world.
-use Rattle.std.specs.Prelude.{◌≡◌, ℕ, Bool, true, List, [], ◌∷◌, ◌++◌, length, drop, if◌then◌else◌, nat_eq, Option, Some, None}
+use Rattle.std.specs.Prelude.{◌≡◌, ℕ, Bool, true, List, [], ◌∷◌, ◌++◌, length, drop}
+use Rattle.std.specs.Prelude.{if◌then◌else◌, nat_eq, Option, Some, None}
 use Rattle.std.specs.FinMap.{keys}
 use Rattle.std.specs.List.{filter, starts_with}
 use Rattle.std.specs.Ordering.{is_le, is_lt, nat_cmp}
@@ -42,4 +43,5 @@ name_behind front path = if starts_with nat_eq path front then as_name (drop (le
 abbrev pub GoesOn : List ℕ → List ℕ → Option (List ℕ) → Type 0
 GoesOn front path None = (key : List ℕ) → is_before path key ≡ true → name_behind front key ≡ None
 GoesOn front path (Some place) = (is_before path place ≡ true)
-    × ((key : List ℕ) → is_before path key ≡ true → is_before key place ≡ true → name_behind front key ≡ None)
+    × ((key : List ℕ) → is_before path key ≡ true → is_before key place ≡ true
+    → name_behind front key ≡ None)

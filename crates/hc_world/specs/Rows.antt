@@ -1,5 +1,6 @@
 -- How the rows of the code stand for the last changes of a world.
-use Rattle.std.specs.Prelude.{◌≡◌, ℕ, ◌≤◌, ◌==◌, ◌&&◌, Bool, not, List, map, if◌then◌else◌, Vec, Option, Some, None, IsSome}
+use Rattle.std.specs.Prelude.{◌≡◌, ℕ, ◌≤◌, ◌==◌, ◌&&◌, Bool, not, List, map, if◌then◌else◌}
+use Rattle.std.specs.Prelude.{Vec, Option, Some, None, IsSome}
 use Rattle.std.specs.declared.alloc.Global.{Global}
 use Rattle.std.specs.FinMap.{from_entries, get, insert, retain_keys}
 use Rattle.hc_model.specs.declared.read.Read.{Read}

@@ -1,5 +1,6 @@
 -- A path that is read from slash to slash.
-use Rattle.std.specs.Prelude.{◌≡◌, ◌≢◌, ℕ, ◌<◌, ◌≤◌, List, length, take, drop, slice_index, Contains}
+use Rattle.std.specs.Prelude.{◌≡◌, ◌≢◌, ℕ, ◌<◌, ◌≤◌, List, length, take, drop, slice_index}
+use Rattle.std.specs.Prelude.{Contains}
 use Rattle.hc_base.specs.Bytes.{slash}
 use Rattle.hc_model.specs.World.{fronts, parents}
 use Rattle.hc_model.specs.Walking.{steps}

@@ -15,6 +15,7 @@ mod entries;
 mod lines;
 mod looks;
 mod names;
+mod nodes;
 mod path;
 mod walk;
 mod world;

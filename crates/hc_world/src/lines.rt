@@ -3,12 +3,11 @@ ghost use Rattle.std.specs.List.{position};
 ghost use Rattle.hc_base.specs.Lines.{is_lf, pieces};
 ghost use Rattle.hc_model.specs.World.{IsWorld};
 ghost use Rattle.hc_world.specs.Edits.{EditsFiles, IsEdit, lines_edited};
-ghost use Rattle.hc_world.specs.Entries.{world_of};
 ghost use Rattle.hc_world.specs.Lines.{IsBehind, edited, line_len};
 ghost use Rattle.hc_world.specs.Marks.{FilesMarked};
-ghost use Rattle.hc_world.specs.Rows.{rows_of};
 
-use crate::entries::{Entry, Files, replace, text_at};
+use crate::entries::{Files, replace};
+use crate::nodes::Entry;
 use crate::path::is_path;
 use crate::world::WorldFault;
 use hc_base::codes::{BAD_RANGE, NO_SUCH_PATH, PATH_FORM};
@@ -24,18 +23,16 @@ pub(crate) fn edit_lines(
     new: &str,
     number: u64,
 ) -> Result<(), WorldFault>
-    requires { IsWorld (world_of files.old.entries.entries) }
-    ensures edit { EditsFiles result (world_of files.old.entries.entries) (world_of files.new.entries.entries)
-        (lines_edited (world_of files.old.entries.entries) path.now from to new.now) }
-    ensures kept { IsEdit path.now (world_of files.old.entries.entries) (world_of files.new.entries.entries) }
-    ensures marked { FilesMarked result number
-        (world_of files.old.entries.entries) (world_of files.new.entries.entries)
-        (rows_of files.old.changes.entries) (rows_of files.new.changes.entries) }
+    requires { IsWorld files.old.nodes }
+    ensures edit { EditsFiles result files.old.nodes files.new.nodes
+        (lines_edited files.old.nodes path.now from to new.now) }
+    ensures kept { IsEdit path.now files.old.nodes files.new.nodes }
+    ensures marked { FilesMarked result number files.old.nodes files.new.nodes files.old.rows files.new.rows }
 {
     if !is_path(path) {
         return Err(Fault::Refused(PATH_FORM));
     }
-    let Some(old) = text_at(&files.entries, path) else {
+    let Some(old) = files.nodes.text(path) else {
         return Err(Fault::Refused(NO_SUCH_PATH));
     };
     match with_lines(files.alloc, old, from, to, new)? {

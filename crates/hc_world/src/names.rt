@@ -1,46 +1,36 @@
-ghost use Rattle.std.specs.Prelude.{◌≡◌, [], ◌∷◌, ◌++◌, IfNone, IfOk, IfSome, OnOk};
+ghost use Rattle.std.specs.Prelude.{◌≡◌, [], ◌∷◌, ◌++◌, IfOk, OnOk};
 ghost use Rattle.std.specs.FinMap.{keys};
 ghost use Rattle.std.specs.List.{filter_map, list_any};
 ghost use Rattle.std.specs.Option.{option_map};
 ghost use Rattle.hc_base.specs.Paths.{is_slash};
 ghost use Rattle.hc_model.specs.World.{as_name, name_in, names_in};
-ghost use Rattle.hc_world.specs.Entries.{world_of};
-ghost use Rattle.hc_world.specs.Places.{GoesOn, IsFirstFrom, front_of, keys_from, name_behind};
+ghost use Rattle.hc_world.specs.Places.{GoesOn, front_of, name_behind};
 
-use crate::entries::{Entry, kind_at};
+use crate::nodes::Nodes;
 use crate::path::next_slash;
 use hc_base::paths::ends_with_slash;
 use hc_base::{List, NoMemory, Text};
 use hc_model::Kind;
 use std::alloc::Global;
-use std::collections::BTreeMap;
 
 /// The names in a directory, in byte order; none where there is no directory.
-pub(crate) fn names(
-    alloc: Global,
-    entries: &BTreeMap<Vec<u8>, Entry>,
-    directory: &[u8],
-) -> Result<List<Text>, NoMemory>
-    ensures { IfOk result (λ names. names ≡ names_in (world_of entries.now.entries) directory.now) }
+pub(crate) fn names(alloc: Global, nodes: &Nodes, directory: &[u8]) -> Result<List<Text>, NoMemory>
+    ensures { IfOk result (λ names. names ≡ names_in nodes.now directory.now) }
 {
-    match kind_at(entries, directory) {
-        Kind::Dir => names_below(alloc, entries, directory),
+    match nodes.kind(directory) {
+        Kind::Dir => names_below(alloc, nodes, directory),
         _ => Ok(List::new(alloc)),
     }
 }
 
-fn names_below(
-    alloc: Global,
-    entries: &BTreeMap<Vec<u8>, Entry>,
-    directory: &[u8],
-) -> Result<List<Text>, NoMemory>
+fn names_below(alloc: Global, nodes: &Nodes, directory: &[u8]) -> Result<List<Text>, NoMemory>
     ensures { IfOk result (λ names.
-        names ≡ filter_map (name_in directory.now) (keys (world_of entries.now.entries))) }
+        names ≡ filter_map (name_in directory.now) (keys nodes.now)) }
 {
     let front = front_of(alloc, directory)?;
     let mut names = List::new(alloc);
     let mut place = Vec::new(alloc);
-    while let Some(path) = first_from(entries, &place) {
+    while let Some(path) = nodes.first_from(&place) {
         push_name(alloc, &mut names, &front, path)?;
         match place_behind(alloc, &front, path)? {
             Some(next) => place = next,
@@ -58,20 +48,6 @@ fn front_of(alloc: Global, directory: &[u8]) -> Result<Vec<u8>, NoMemory>
         Ok(directory.to_vec(alloc)?)
     } else {
         with_byte(alloc, directory, b'/')
-    }
-}
-
-/// The first path that is at this place or behind it.
-pub(crate) fn first_from<'e>(
-    entries: &'e BTreeMap<Vec<u8>, Entry>,
-    place: &Vec<u8>,
-) -> Option<&'e [u8]>
-    ensures none { IfNone result (keys_from place.now.items (world_of entries.now.entries) ≡ []) }
-    ensures some { IfSome result (λ path. IsFirstFrom place.now.items path.now (world_of entries.now.entries)) }
-{
-    match entries.range(place..).next() {
-        Some((path, _)) => Some(path.as_slice()),
-        None => None,
     }
 }
 

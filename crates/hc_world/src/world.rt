@@ -5,21 +5,19 @@ ghost use Rattle.hc_model.specs.Node.{kind_of, text_of};
 ghost use Rattle.hc_model.specs.World.{IsWorld, names_in, new_world, put as put_in};
 ghost use Rattle.hc_model.specs.Walking.{walk as walk_in};
 ghost use Rattle.hc_world.specs.Edits.{Edits, EditsFiles, IsEdit, changed_at, dropped, lines_edited, listed};
-ghost use Rattle.hc_world.specs.Entries.{world_of};
 ghost use Rattle.hc_world.specs.Marks.{FilesMarked};
-ghost use Rattle.hc_world.specs.Rows.{rows_of};
 
-use crate::changes::last_change;
+use crate::changes::Rows;
 use crate::drop::drop_path;
-use crate::entries::{Entry, Files, kind_at, make_dir, put_file, text_at};
+use crate::entries::{Files, make_dir, put_file};
 use crate::lines::edit_lines;
 use crate::names::names;
+use crate::nodes::{Entry, Nodes};
 use crate::walk::follow;
 use hc_base::{Fault, List, NoMemory, Text};
 use hc_model::{Kind, Read, Texts, Walk};
 use hc_steps::Log;
 use std::alloc::Global;
-use std::collections::BTreeMap;
 use std::marker::Model;
 
 /// Why an edit was not made: its number is that of the broken rule.
@@ -48,18 +46,11 @@ impl Model for World {
 
     ghost coded = { edited_code };
 
-    ghost use Rattle.hc_world.specs.Entries.{world_of};
-    ghost use Rattle.hc_world.specs.Rows.{IsNoLater, rows_of, seen_rows};
+    ghost use Rattle.hc_world.specs.Rows.{IsNoLater, seen_rows};
 
-    ghost view = { λ w. record {
-      files = world_of w.files.entries.entries;
-      edits = w.edits;
-      changes = seen_rows (rows_of w.files.changes.entries);
-    } };
+    ghost view = { λ w. record { files = w.files.nodes; edits = w.edits; changes = seen_rows w.files.rows } };
 
-    ghost invariant = { λ w.
-        model.IsWorld (world_of w.files.entries.entries)
-        × IsNoLater w.edits (rows_of w.files.changes.entries) };
+    ghost invariant = { λ w. model.IsWorld w.files.nodes × IsNoLater w.edits w.files.rows };
 }
 
 impl World {
@@ -68,12 +59,10 @@ impl World {
         ensures new { IfOk result (λ world. world ≡ record { files = new_world; edits = 0; changes = empty }) }
         ensures valid { IfOk result (λ world. IsWorld world.files) }
     {
-        let mut entries = BTreeMap::new(alloc);
-        entries.insert(b"/".to_vec(alloc)?, Entry::Dir)?;
         let files = Files {
             alloc,
-            entries,
-            changes: BTreeMap::new(alloc),
+            nodes: Nodes::root(alloc)?,
+            rows: Rows::none(alloc),
         };
         Ok(World { files, edits: 0 })
     }
@@ -82,14 +71,14 @@ impl World {
     pub fn kind(&self, path: &[u8]) -> Kind
         ensures { result ≡ kind_of (get self.now.files path.now) }
     {
-        kind_at(&self.files.entries, path)
+        self.files.nodes.kind(path)
     }
 
     /// The text of the file at a path.
     pub fn text(&self, path: &[u8]) -> Option<&str>
         ensures { option_map (λ text. text.now) result ≡ text_of (get self.now.files path.now) }
     {
-        text_at(&self.files.entries, path)
+        self.files.nodes.text(path)
     }
 
     /// How many edits were accepted.
@@ -104,7 +93,7 @@ impl World {
     pub fn names(&self, directory: &[u8]) -> Result<List<Text>, NoMemory>
         ensures { IfOk result (λ names. names ≡ names_in self.now.files directory.now) }
     {
-        names(self.files.alloc, &self.files.entries, directory)
+        names(self.files.alloc, &self.files.nodes, directory)
     }
 
     /// Makes or replaces the file at a path, with this text, and makes its missing parents.
@@ -197,7 +186,7 @@ impl World {
     pub fn changed_at(&self, read: &Read) -> u64
         ensures { result ≡ changed_at self.now read.now }
     {
-        last_change(&self.files.changes, read)
+        self.files.rows.last_change(read)
     }
 
     /// Follows a name through the directories.
@@ -214,13 +203,11 @@ impl World {
 }
 
 fn list(files: &mut Files, path: &[u8], kind: ListKind, number: u64) -> Result<(), WorldFault>
-    requires { IsWorld (world_of files.old.entries.entries) }
-    ensures edit { EditsFiles result (world_of files.old.entries.entries) (world_of files.new.entries.entries)
-        (listed (world_of files.old.entries.entries) path.now kind) }
-    ensures kept { IsEdit path.now (world_of files.old.entries.entries) (world_of files.new.entries.entries) }
-    ensures marked { FilesMarked result number
-        (world_of files.old.entries.entries) (world_of files.new.entries.entries)
-        (rows_of files.old.changes.entries) (rows_of files.new.changes.entries) }
+    requires { IsWorld files.old.nodes }
+    ensures edit { EditsFiles result files.old.nodes files.new.nodes
+        (listed files.old.nodes path.now kind) }
+    ensures kept { IsEdit path.now files.old.nodes files.new.nodes }
+    ensures marked { FilesMarked result number files.old.nodes files.new.nodes files.old.rows files.new.rows }
 {
     match kind {
         ListKind::File => put_file(files, path, Entry::File, number),

@@ -9,10 +9,12 @@ pow-requires c =
 
 pub overflow_mul-result : goal.overflow_mul-result
 overflow_mul-result c =
-    let h = joined_below 65536 8 c.args.before.value c.args.after.value _ _ (lit< tt) c.requires.before_fits c.requires.after_fits (omega arith) in
+    let h = joined_below 65536 8 c.args.before.value c.args.after.value _ _ (lit< tt) c.requires.before_fits
+    c.requires.after_fits (omega arith) in
     rw c.pow.ensures (omega arith)
 
 pub overflow_add-result : goal.overflow_add-result
 overflow_add-result c =
-    let h = joined_below 65536 8 c.args.before.value c.args.after.value _ _ (lit< tt) c.requires.before_fits c.requires.after_fits (omega arith) in
+    let h = joined_below 65536 8 c.args.before.value c.args.after.value _ _ (lit< tt) c.requires.before_fits
+    c.requires.after_fits (omega arith) in
     rw c.pow.ensures (omega arith)

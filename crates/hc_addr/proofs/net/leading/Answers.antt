@@ -9,10 +9,12 @@ pow-requires c =
 
 pub overflow_mul-result : goal.overflow_mul-result
 overflow_mul-result c =
-    let h = joined_below 256 4 c.args.row.value 0 c.args.row.count 0 (lit< tt) c.requires.fits (lit< tt) (omega arith) in
+    let h = joined_below 256 4 c.args.row.value 0 c.args.row.count 0 (lit< tt) c.requires.fits (lit< tt)
+    (omega arith) in
     rw c.pow.ensures (omega arith)
 
 pub overflow_cast-result : goal.overflow_cast-result
 overflow_cast-result c =
-    let h = joined_below 256 4 c.args.row.value 0 c.args.row.count 0 (lit< tt) c.requires.fits (lit< tt) (omega arith) in
+    let h = joined_below 256 4 c.args.row.value 0 c.args.row.count 0 (lit< tt) c.requires.fits (lit< tt)
+    (omega arith) in
     rw c.pow.ensures (omega arith)

@@ -10,7 +10,11 @@ overflow_mul-value c =
 pub overflow_add-value : goal.overflow_add-value
 overflow_add-value c =
     let h : c.loop-byte.value < 16 ^ 3 = below_power 16 _ _ 3 (omega arith) c.loop-byte.invariant.small (omega arith) in
-    omega (arith, below_product c.loop-byte.value c.args.radix 4095 16 (omega arith) (omega arith), c.in_ok-value.ensures)
+    omega (
+      arith,
+      below_product c.loop-byte.value c.args.radix 4095 16 (omega arith) (omega arith),
+      c.in_ok-value.ensures,
+    )
 
 pub returns-clause-fits : goal.returns-clause-fits
 returns-clause-fits c = below_power 16 _ _ 4 (omega arith) c.loop-byte.invariant.small (omega arith)

@@ -6,4 +6,5 @@ pub returns : goal.returns
 returns c =
     let f = c.in_ok-front.ensures in
     let b = c.in_ok-back.ensures in
-    IfOk-weaker c.format.result _ _ (λ t e. e ∙ (rw (f, b, c.write_digits.ensures) (simp append_assoc))) c.format.ensures.ok
+    IfOk-weaker c.format.result _ _ (λ t e. e ∙ (rw (f, b, c.write_digits.ensures) (simp append_assoc)))
+    c.format.ensures.ok

@@ -5,5 +5,6 @@ use Rattle.hc_base.proofs.Texts.{ends_with-last, option_eq-now}
 
 pub returns : goal.returns
 returns c =
-    c.eq.ensures ∙ option_eq-now c.last.result _ ∙ ap (λ o. option_eq nat_eq o (Some c.args.byte)) c.last.ensures.value
+    c.eq.ensures ∙ option_eq-now c.last.result _
+    ∙ ap (λ o. option_eq nat_eq o (Some c.args.byte)) c.last.ensures.value
     ∙ sym (ends_with-last c.args.byte c.args.text.now)

@@ -9,10 +9,16 @@ loop-byte-preserved c =
     record {
       len = omega (arith, c.in_ok-push.ensures.len);
       each = rw c.in_ok-push.ensures.items
-          (each_more (IsColumnOf c.args.a.now c.args.bytes.now c.number_of_list.new.lists.keys) c.loop-byte.numbers.items c.loop-byte.byte-index c.in_ok-number_of_list.field-0 (omega arith)
-          (λ k below. let old = c.loop-byte.invariant.each k below in (old.0, met.extends _ _ old.1, old.2))
-          (met.to, met.stored, subst (λ (xs : List ℕ). IsColumn c.args.a.now (slice_index c.args.bytes.now c.loop-byte.byte-index) xs) met.same c.in_ok-column.ensures));
+          (each_more (IsColumnOf c.args.a.now c.args.bytes.now c.number_of_list.new.lists.keys)
+          c.loop-byte.numbers.items c.loop-byte.byte-index c.in_ok-number_of_list.field-0 (omega arith)
+          (λ k below. let old = c.loop-byte.invariant.each k below in (old.0, met.extends _ _ old.1, old.2)) (
+            met.to,
+            met.stored,
+            subst (λ (xs : List ℕ). IsColumn c.args.a.now (slice_index c.args.bytes.now c.loop-byte.byte-index) xs)
+                met.same c.in_ok-column.ensures,
+          ));
     }
 
 pub returns : goal.returns
-returns c = columns_made c.args.a.now c.args.bytes.now c.loop-byte.numbers.items c.loop-byte.columns.keys (omega arith) (λ k below. c.loop-byte.invariant.each k (omega arith))
+returns c = columns_made c.args.a.now c.args.bytes.now c.loop-byte.numbers.items c.loop-byte.columns.keys (omega arith)
+    (λ k below. c.loop-byte.invariant.each k (omega arith))

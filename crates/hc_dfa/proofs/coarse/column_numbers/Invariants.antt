@@ -4,5 +4,7 @@ use Rattle.hc_dfa.proofs.coarse.column_numbers.Given as goal
 abbrev pub invariant-loop-byte : goal.invariant-loop-byte
 invariant-loop-byte l = record {
   len : vec_len l.numbers ≡ l.byte-index;
-  each : (k : ℕ) → k < l.byte-index → (column : Vec ℕ Global) × (slice_get l.columns.keys (slice_index l.numbers.items k) ≡ Some column) × IsColumn l.a (slice_index l.bytes k) column.items;
+  each : (k : ℕ) → k < l.byte-index → (column : Vec ℕ Global)
+      × (slice_get l.columns.keys (slice_index l.numbers.items k) ≡ Some column)
+      × IsColumn l.a (slice_index l.bytes k) column.items;
 }

@@ -6,6 +6,8 @@ use Rattle.hc_dfa.proofs.image.add_finals.Goals.{then-is_final+in_ok-add_final, 
 pub loop-state-preserved : goal.loop-state-preserved
 loop-state-preserved c =
     elim c.if-is_final.branch [
-      | then-is_final+in_ok-add_final w ↦ finals_added _ _ _ _ _ c.loop-state.invariant (sym c.is_final.ensures ∙ w.if-is_final.true) (w.machine-is ∙ w.in_ok-add_final.ensures.ok)
-      | else-is_final w ↦ rw w.machine-is (finals_kept _ _ _ _ c.loop-state.invariant (sym c.is_final.ensures ∙ w.if-is_final.false))
+      | then-is_final+in_ok-add_final w ↦ finals_added _ _ _ _ _ c.loop-state.invariant
+          (sym c.is_final.ensures ∙ w.if-is_final.true) (w.machine-is ∙ w.in_ok-add_final.ensures.ok)
+      | else-is_final w ↦ rw w.machine-is
+          (finals_kept _ _ _ _ c.loop-state.invariant (sym c.is_final.ensures ∙ w.if-is_final.false))
     ]

@@ -13,10 +13,16 @@ bytes-preserved c =
       state = c.next_state-state.ensures.within;
       some = (let f = c.bytes.invariant.some in rw c.next_state-state.ensures.value (omega (arith, nearer)));
       walk = λ rest more. rw (c.in_ok-push.ensures.items, append_assoc)
-          (c.bytes.invariant.walk (c.first_step-byte.result ∷ rest)
-          (c.first_step-byte.type_inv, nearer, rw c.deref.ensures.value at c.first_step-byte.ensures.first, rw c.next_state-state.ensures.value at more));
+          (c.bytes.invariant.walk (c.first_step-byte.result ∷ rest) (
+            c.first_step-byte.type_inv,
+            nearer,
+            rw c.deref.ensures.value at c.first_step-byte.ensures.first,
+            rw c.next_state-state.ensures.value at more,
+          ));
     }
 
 pub returns : goal.returns
 returns c =
-    rw c.from.ensures (walk_least c.args.a.now c.start-state.ensures.table _ c.in_ok-distances.ensures c.bytes.bytes.items (rw append-nil at (c.bytes.invariant.walk [] (grind (arith, common_steps)))))
+    rw c.from.ensures
+    (walk_least c.args.a.now c.start-state.ensures.table _ c.in_ok-distances.ensures c.bytes.bytes.items
+    (rw append-nil at (c.bytes.invariant.walk [] (grind (arith, common_steps)))))

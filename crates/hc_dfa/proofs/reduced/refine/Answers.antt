@@ -4,7 +4,8 @@ use Rattle.hc_dfa.proofs.Nearest.{each_more}
 use Rattle.hc_dfa.proofs.reduced.refine.Goals as goal
 
 pub returns : goal.returns
-returns c = refines c.args.a.now c.args.bytes.now c.args.blocks.now c.loop-state.finer.items c.loop-state.signatures.keys c.requires.bytes (omega arith) (omega arith)
+returns c = refines c.args.a.now c.args.bytes.now c.args.blocks.now c.loop-state.finer.items
+    c.loop-state.signatures.keys c.requires.bytes (omega arith) (omega arith)
     (λ s below. c.loop-state.invariant.each s (omega arith))
 
 pub loop-state-preserved : goal.loop-state-preserved
@@ -14,7 +15,12 @@ loop-state-preserved c =
       len = omega (arith, c.in_ok-push.ensures.len);
       few = omega (arith, met.len);
       each = rw c.in_ok-push.ensures.items
-          (each_more (AreNumbered c.args.a.now c.args.bytes.now c.args.blocks.now c.number_of_list.new.lists.keys) c.loop-state.finer.items c.loop-state.state c.in_ok-number_of_list.field-0 (omega arith)
-          (λ s below. let old = c.loop-state.invariant.each s below in (old.0, met.extends _ _ old.1, old.2))
-          (met.to, met.stored, subst (λ (xs : List ℕ). IsSignature c.args.a.now c.args.bytes.now c.args.blocks.now c.loop-state.state xs) met.same c.in_ok-signature.ensures));
+          (each_more (AreNumbered c.args.a.now c.args.bytes.now c.args.blocks.now c.number_of_list.new.lists.keys)
+          c.loop-state.finer.items c.loop-state.state c.in_ok-number_of_list.field-0 (omega arith)
+          (λ s below. let old = c.loop-state.invariant.each s below in (old.0, met.extends _ _ old.1, old.2)) (
+            met.to,
+            met.stored,
+            subst (λ (xs : List ℕ). IsSignature c.args.a.now c.args.bytes.now c.args.blocks.now c.loop-state.state
+                xs) met.same c.in_ok-signature.ensures,
+          ));
     }

@@ -1,9 +1,12 @@
-use Rattle.hc_dfa.proofs.Common.{◌≡◌, ◌≤◌, ℕ, ◌<◌, length, slice_get, slice_index, vec_len, Some, Vec, Global, IsSignature}
+use Rattle.hc_dfa.proofs.Common.{◌≡◌, ◌≤◌, ℕ, ◌<◌, length, slice_get, slice_index, vec_len, Some, Vec}
+use Rattle.hc_dfa.proofs.Common.{Global, IsSignature}
 use Rattle.hc_dfa.proofs.reduced.refine.Given as goal
 
 abbrev pub invariant-loop-state : goal.invariant-loop-state
 invariant-loop-state l = record {
   len : vec_len l.finer ≡ l.state;
   few : length l.signatures.keys ≤ l.state;
-  each : (s : ℕ) → s < l.state → (signature : Vec ℕ Global) × (slice_get l.signatures.keys (slice_index l.finer.items s) ≡ Some signature) × IsSignature l.a l.bytes l.blocks s signature.items;
+  each : (s : ℕ) → s < l.state → (signature : Vec ℕ Global)
+      × (slice_get l.signatures.keys (slice_index l.finer.items s) ≡ Some signature)
+      × IsSignature l.a l.bytes l.blocks s signature.items;
 }

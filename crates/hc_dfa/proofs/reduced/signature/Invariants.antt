@@ -4,5 +4,6 @@ use Rattle.hc_dfa.proofs.reduced.signature.Given as goal
 abbrev pub invariant-loop-byte : goal.invariant-loop-byte
 invariant-loop-byte l = record {
   len : vec_len l.signature ≡ l.byte-index;
-  steps : (k : ℕ) → k < l.byte-index → slice_index l.signature.items k ≡ value_on l.a l.blocks l.state (slice_index l.bytes k);
+  steps : (k : ℕ) → k < l.byte-index → slice_index l.signature.items k ≡ value_on l.a l.blocks l.state
+      (slice_index l.bytes k);
 }

@@ -1,52 +1,89 @@
-use Rattle.hc_dfa.proofs.Common.{◌<◌, length, length-map, arith, ◌∙◌, Some, None, HitsAt, ReadingStep, ReadsTo}
-use Rattle.hc_dfa.proofs.Closures.{gathers_first, gathers_same, gathers_states, hits_all, hits_none, hits_nothing, hits_one, reading_hit}
+use Rattle.hc_dfa.proofs.Common.{◌<◌, length, length-map, arith, ◌∙◌, Some, None, HitsAt, ReadingStep}
+use Rattle.hc_dfa.proofs.Common.{ReadsTo}
+use Rattle.hc_dfa.proofs.Closures.{gathers_first, gathers_same, gathers_states, hits_all, hits_none, hits_nothing}
+use Rattle.hc_dfa.proofs.Closures.{hits_one, reading_hit}
 use Rattle.hc_dfa.proofs.subsets.read_from.Goals as goal
 
 pub loop-at-init : goal.loop-at-init
 loop-at-init c = record {
   places = c.requires.places;
   states = c.requires.states;
-  found = rw c.begin-at.ensures (gathers_first _ _ _ (hits_none c.args.machine.now.reading (ReadsTo c.args.state c.args.byte) _));
+  found = rw c.begin-at.ensures
+      (gathers_first _ _ _ (hits_none c.args.machine.now.reading (ReadsTo c.args.state c.args.byte) _));
 }
 
 pub reads-requires : goal.reads-requires
 reads-requires c =
-    omega (arith, c.end-at-end.ensures, c.requires.spans.ends.within c.args.state c.requires.state, length-map c.args.machine.now.reading (λ (step : ReadingStep). step.from))
+    omega (
+      arith,
+      c.end-at-end.ensures,
+      c.requires.spans.ends.within c.args.state c.requires.state,
+      length-map c.args.machine.now.reading (λ (step : ReadingStep). step.from),
+    )
 
 pub add-requires : goal.add-requires
 add-requires c =
     let m = c.args.machine.now in
-    let below : c.loop-at.at < length m.reading = omega (arith, c.end-at-end.ensures, c.requires.spans.ends.within c.args.state c.requires.state, length-map m.reading (λ (step : ReadingStep). step.from)) in
-    let hit : HitsAt m.reading (ReadsTo c.args.state c.args.byte) c.loop-at.at (Some c.in-Some.to) = rw c.in-Some.is at c.reads.ensures in
+    let below : c.loop-at.at < length m.reading =
+    omega (
+      arith,
+      c.end-at-end.ensures,
+      c.requires.spans.ends.within c.args.state c.requires.state,
+      length-map m.reading (λ (step : ReadingStep). step.from),
+    ) in
+    let hit : HitsAt m.reading (ReadsTo c.args.state c.args.byte) c.loop-at.at (Some c.in-Some.to) =
+    rw c.in-Some.is at c.reads.ensures in
     let to = reading_hit m c.args.state c.args.byte c.loop-at.at c.in-Some.to c.states.ensures.machine below hit in
     omega (arith, to.1)
 
 pub loop-at-preserved-in_default : goal.loop-at-preserved-in_default
 loop-at-preserved-in_default c =
     let m = c.args.machine.now in
-    let below : c.loop-at.at < length m.reading = omega (arith, c.end-at-end.ensures, c.requires.spans.ends.within c.args.state c.requires.state, length-map m.reading (λ (step : ReadingStep). step.from)) in
-    let none : HitsAt m.reading (ReadsTo c.args.state c.args.byte) c.loop-at.at None = rw c.in_default.is at c.reads.ensures in
+    let below : c.loop-at.at < length m.reading =
+    omega (
+      arith,
+      c.end-at-end.ensures,
+      c.requires.spans.ends.within c.args.state c.requires.state,
+      length-map m.reading (λ (step : ReadingStep). step.from),
+    ) in
+    let none : HitsAt m.reading (ReadsTo c.args.state c.args.byte) c.loop-at.at None =
+    rw c.in_default.is at c.reads.ensures in
     record {
       places = c.loop-at.invariant.places;
       states = c.loop-at.invariant.states;
-      found = hits_nothing m.reading (ReadsTo c.args.state c.args.byte) _ _ c.loop-at.at _ _ c.loop-at.invariant.found below none;
+      found = hits_nothing m.reading (ReadsTo c.args.state c.args.byte) _ _ c.loop-at.at _ _ c.loop-at.invariant.found
+          below none;
     }
 
 pub loop-at-preserved : goal.loop-at-preserved
 loop-at-preserved c =
     let m = c.args.machine.now in
-    let below : c.loop-at.at < length m.reading = omega (arith, c.end-at-end.ensures, c.requires.spans.ends.within c.args.state c.requires.state, length-map m.reading (λ (step : ReadingStep). step.from)) in
-    let hit : HitsAt m.reading (ReadsTo c.args.state c.args.byte) c.loop-at.at (Some c.in-Some.to) = rw c.in-Some.is at c.reads.ensures in
+    let below : c.loop-at.at < length m.reading =
+    omega (
+      arith,
+      c.end-at-end.ensures,
+      c.requires.spans.ends.within c.args.state c.requires.state,
+      length-map m.reading (λ (step : ReadingStep). step.from),
+    ) in
+    let hit : HitsAt m.reading (ReadsTo c.args.state c.args.byte) c.loop-at.at (Some c.in-Some.to) =
+    rw c.in-Some.is at c.reads.ensures in
     let to = reading_hit m c.args.state c.args.byte c.loop-at.at c.in-Some.to c.states.ensures.machine below hit in
     record {
       places = c.add.ensures.places ∙ c.loop-at.invariant.places;
       states = gathers_states m _ _ c.in-Some.to c.loop-at.invariant.states to.1 c.in_ok-add.ensures.set;
-      found = hits_one m.reading (ReadsTo c.args.state c.args.byte) _ _ c.loop-at.at c.in-Some.to _ _ _ c.loop-at.invariant.found below hit to.0 c.in_ok-add.ensures.set;
+      found = hits_one m.reading (ReadsTo c.args.state c.args.byte) _ _ c.loop-at.at c.in-Some.to _ _ _
+          c.loop-at.invariant.found below hit to.0 c.in_ok-add.ensures.set;
     }
 
 pub returns-clause-found : goal.returns-clause-found
 returns-clause-found c =
     let m = c.args.machine.now in
     gathers_same _ _ _ _ _ c.loop-at.invariant.found
-    (λ x leads. hits_all m.reading (ReadsTo c.args.state c.args.byte) (λ (step : ReadingStep). step.from) m.states c.args.spans.now c.requires.spans c.args.state c.loop-at.at x
-    leads.step leads.among leads.leaves (omega (arith, c.end-at-end.ensures)) (leads.leaves, leads.low, leads.high, leads.enters))
+    (λ x leads. hits_all m.reading (ReadsTo c.args.state c.args.byte) (λ (step : ReadingStep). step.from) m.states
+    c.args.spans.now c.requires.spans c.args.state c.loop-at.at x
+    leads.step leads.among leads.leaves (omega (arith, c.end-at-end.ensures)) (
+      leads.leaves,
+      leads.low,
+      leads.high,
+      leads.enters,
+    ))

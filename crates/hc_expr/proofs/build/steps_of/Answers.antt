@@ -12,5 +12,8 @@ pub tokens-preserved : goal.tokens-preserved
 tokens-preserved c =
     let front = c.pop.new.self.items in
     let output = output_of c.tokens.levels in
-    ap (output_with (map token_view front)) c.in_ok-with_token.ensures ∙ sym (last_token (map token_view front) (token_view c.in-Some.last) output)
-    ∙ ap (λ tokens. output_with tokens output) (sym (ap (map token_view) c.in-Some.ensures.items ∙ map-append token_view front (c.in-Some.last ∷ []))) ∙ c.tokens.invariant
+    ap (output_with (map token_view front)) c.in_ok-with_token.ensures
+    ∙ sym (last_token (map token_view front) (token_view c.in-Some.last) output)
+    ∙ ap (λ tokens. output_with tokens output)
+    (sym (ap (map token_view) c.in-Some.ensures.items ∙ map-append token_view front (c.in-Some.last ∷ [])))
+    ∙ c.tokens.invariant

@@ -9,5 +9,6 @@ returns-in-None c =
     let tokens = c.args.tokens.now in
     let i = c.loop-token.token-index in
     sym (c.in-None.ensures.next (map token_view (drop (i + 1) tokens)))
-    ∙ sym (ap (λ l. is_expression spot.depth spot.awaited (map token_view l)) (drop_more tokens i _ c.loop-token-test.true))
+    ∙ sym (ap (λ l. is_expression spot.depth spot.awaited (map token_view l))
+    (drop_more tokens i _ c.loop-token-test.true))
     ∙ c.loop-token.invariant.same

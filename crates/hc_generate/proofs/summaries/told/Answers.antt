@@ -11,20 +11,26 @@ use Rattle.hc_generate.proofs.summaries.told.Goals as goal
 
 -- No line is left.
 answered : (old first new : State) (lines : List (List ℕ)) (said : List Reply) (most : Work) → old ≡ first
-    → ((rest : List Reply) (end : State) (more : Work) → AnswersTaking new [] rest end more → AnswersTaking old lines (said ++ rest) end (both most more))
+    → ((rest : List Reply) (end : State) (more : Work) → AnswersTaking new [] rest end more
+    → AnswersTaking old lines (said ++ rest) end (both most more))
     → AnswersTaking first lines said new most
 answered old first new lines said most same answers =
     subst (λ s. AnswersTaking s lines said new most) same
-    (subst (AnswersTaking old lines said new) (none_last most) (subst (λ r. AnswersTaking old lines r new (both most (work 0 0))) (append-nil said) (answers [] new (work 0 0) (refl, refl, refl))))
+    (subst (AnswersTaking old lines said new) (none_last most)
+    (subst (λ r. AnswersTaking old lines r new (both most (work 0 0))) (append-nil said)
+    (answers [] new (work 0 0) (refl, refl, refl))))
 
 -- A run from the start that leaves no step.
-summed : (old new : Run) (seed x : ℕ) (k n : Work) (line : List ℕ) → (old.session ≡ start) × (old.tally ≡ nothing_said) → x ≡ seed
-    → Takes old new (Main ∷ files_behind x) [] k n → line ≡ summary_line new.session new.tally → IsSummary seed line k n
+summed : (old new : Run) (seed x : ℕ) (k n : Work) (line : List ℕ) → (old.session ≡ start)
+    × (old.tally ≡ nothing_said) → x ≡ seed
+    → Takes old new (Main ∷ files_behind x) [] k n → line ≡ summary_line new.session new.tally
+    → IsSummary seed line k n
 summed old new seed x k n line fresh same goes told = record {
   replies = goes.said;
   state = new.session;
   most = goes.most;
-  answers = subst (λ s. AnswersTaking start (script_of s) goes.said new.session goes.most) same (answered _ start _ (script_of x) goes.said goes.most fresh.0 goes.answers);
+  answers = subst (λ s. AnswersTaking start (script_of s) goes.said new.session goes.most) same
+      (answered _ start _ (script_of x) goes.said goes.most fresh.0 goes.answers);
   told = rw (← fresh.1, ← goes.counts) told;
   spent = rw (← fresh.0) goes.spent;
 }

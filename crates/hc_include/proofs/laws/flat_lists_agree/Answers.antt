@@ -7,4 +7,6 @@ pub returns : goal.returns
 unfolding flat_of
 returns c main one other agree =
     let reads = (run (main_read main) (shown_by one)).reads in
-    ap (flat_by main) (agreement (main_read main) (shown_by one) (shown_by other) (λ read is. agree read (each_is_kept reads read is)))
+    ap (flat_by main)
+    (agreement (main_read main) (shown_by one) (shown_by other)
+    (λ read is. agree read (each_is_kept reads read is)))

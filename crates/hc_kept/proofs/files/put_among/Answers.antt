@@ -12,6 +12,10 @@ returns-in-Some-clause-ok c =
     let groups = c.args.groups.now.items in
     let within : place < length groups = rw (← c.deref.ensures.value) c.in-Some.ensures.within in
     let is : old.allowed ≡ c.args.allowed =
-    ap (λ (group : Group). group.allowed) (c.index_mut.ensures.value ∙ ap (λ groups. get_or groups place old) (sym c.deref.ensures.value)) ∙ c.in-Some.ensures.is old in
-    let put : Allowed → Type 0 = λ allowed. Puts old.files c.put.new.self.files (file_of allowed (c.args.dir, c.args.kept)) in
-    on_ok_weaker c.put.result (λ puts. puts_at groups place old c.put.new.self _ within (sym c.index_mut.ensures.value) (subst put is puts)) c.put.ensures.ok
+    ap (λ (group : Group). group.allowed)
+    (c.index_mut.ensures.value ∙ ap (λ groups. get_or groups place old) (sym c.deref.ensures.value))
+    ∙ c.in-Some.ensures.is old in
+    let put : Allowed → Type 0 =
+    λ allowed. Puts old.files c.put.new.self.files (file_of allowed (c.args.dir, c.args.kept)) in
+    on_ok_weaker c.put.result (λ puts. puts_at groups place old c.put.new.self _ within (sym c.index_mut.ensures.value)
+    (subst put is puts)) c.put.ensures.ok

@@ -8,5 +8,6 @@ places-preserved c =
     record {
       unset = says.1;
       left = c.next_place-from-in-Failed.ensures.same pattern c.places-end.result c.starts-starts.ensures
-          ∙ later c.args.text.now pattern c.places-end.result c.places.from (first_match c.args.text.now pattern) c.places-test.true (says.0 nothing_held) c.places.invariant.left;
+          ∙ later c.args.text.now pattern c.places-end.result c.places.from (first_match c.args.text.now pattern)
+          c.places-test.true (says.0 nothing_held) c.places.invariant.left;
     }

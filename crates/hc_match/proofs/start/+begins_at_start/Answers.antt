@@ -7,5 +7,7 @@ returns-then-least-gt0 t c starts =
     let node = c.in-Repeat in
     let is : pattern_of c.args.pat.now ≡ repeat (pattern_of node.body.value) node.least node.field-2 node.field-3 =
     ap pattern_of node.is ∙ is_repeat node.body node.least node.field-2 node.field-3 in
-    turns_begin (pattern_of c.args.pat.now) (pattern_of node.body.value) (pattern_of c.deref-then-least-gt0.result.now) node.least node.field-2 node.field-3
-    is (ap pattern_of c.deref-then-least-gt0.ensures) c.if-least-gt0.true (c.begins_at_start-then-least-gt0.ensures starts)
+    turns_begin (pattern_of c.args.pat.now) (pattern_of node.body.value) (pattern_of c.deref-then-least-gt0.result.now)
+    node.least node.field-2 node.field-3
+    is (ap pattern_of c.deref-then-least-gt0.ensures) c.if-least-gt0.true
+    (c.begins_at_start-then-least-gt0.ensures starts)

@@ -7,5 +7,6 @@ returns-then-least-gt0 t c =
     let node = c.in-Repeat in
     let is : pattern_of c.args.pat.now ≡ repeat (pattern_of node.body.value) node.least node.field-2 node.field-3 =
     ap pattern_of node.is ∙ is_repeat node.body node.least node.field-2 node.field-3 in
-    turns_begin_in c.first_bytes-then-least-gt0.result (pattern_of c.args.pat.now) (pattern_of node.body.value) (pattern_of c.deref-then-least-gt0.result.now) node.least node.field-2 node.field-3
+    turns_begin_in c.first_bytes-then-least-gt0.result (pattern_of c.args.pat.now) (pattern_of node.body.value)
+    (pattern_of c.deref-then-least-gt0.result.now) node.least node.field-2 node.field-3
     is (ap pattern_of c.deref-then-least-gt0.ensures) c.if-least-gt0.true c.first_bytes-then-least-gt0.ensures

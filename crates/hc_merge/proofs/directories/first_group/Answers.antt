@@ -7,4 +7,8 @@ use Rattle.hc_merge.proofs.directories.first_group.Goals as goal
 -- What is to be loaded here, and what further down.
 pub with_override-requires : goal.with_override-requires
 with_override-requires g c =
-    (loaded_parts _ _ _ (subst (AreLoaded _) (wanted_here (sections_view c.args.sections) c.args.dirs.now c.loop-dir.dir-index c.dir-item.result c.loop-dir.so_far.allowed c.in_ok-so_far.so_far.allowed c.loop-dir-test.true c.dir-item.is c.in_ok-so_far.ensures.allowed) c.loop-dir.invariant.1)).0
+    (loaded_parts _ _ _
+    (subst (AreLoaded _)
+    (wanted_here (sections_view c.args.sections) c.args.dirs.now c.loop-dir.dir-index c.dir-item.result
+    c.loop-dir.so_far.allowed c.in_ok-so_far.so_far.allowed c.loop-dir-test.true c.dir-item.is
+    c.in_ok-so_far.ensures.allowed) c.loop-dir.invariant.1)).0

@@ -6,7 +6,10 @@ use Rattle.hc_merge.proofs.directories.first_group.Given as goal
 
 abbrev pub invariant-loop-dir : goal.invariant-loop-dir
 invariant-loop-dir g l =
-    (first_group (sections_view l.sections) (files_read (g.O.Overrides.reading (g.O.Overrides.fixed l.over))) nothing_allowed l.dirs
+    (first_group (sections_view l.sections) (files_read (g.O.Overrides.reading (g.O.Overrides.fixed l.over)))
+    nothing_allowed l.dirs
     ≡ candidates_of l.so_far.list
-    ++ first_group (sections_view l.sections) (files_read (g.O.Overrides.reading (g.O.Overrides.fixed l.over))) l.so_far.allowed (drop l.dir-index l.dirs))
-    × AreLoaded (g.O.Overrides.loaded l.over) (wanted (sections_view l.sections) l.so_far.allowed (drop l.dir-index l.dirs))
+    ++ first_group (sections_view l.sections) (files_read (g.O.Overrides.reading (g.O.Overrides.fixed l.over)))
+    l.so_far.allowed (drop l.dir-index l.dirs))
+    × AreLoaded (g.O.Overrides.loaded l.over)
+    (wanted (sections_view l.sections) l.so_far.allowed (drop l.dir-index l.dirs))

@@ -4,4 +4,5 @@ use Rattle.hc_merge.proofs.order.joined.Given as goal
 
 abbrev pub invariant-loop-candidate : goal.invariant-loop-candidate
 invariant-loop-candidate l =
-    candidates_of l.fn.list ++ map candidate_of l.more ≡ candidates_of l.list ++ map candidate_of (drop l.candidate-index l.more)
+    candidates_of l.fn.list ++ map candidate_of l.more ≡ candidates_of l.list ++ map candidate_of
+    (drop l.candidate-index l.more)

@@ -9,4 +9,5 @@ use Rattle.hc_merge.proofs.overriding.allowed_above.Given as goal
 abbrev pub invariant-loop-at : goal.invariant-loop-at
 invariant-loop-at l =
     allowed_behind nothing_allowed (flat_map (sections_at (sections_view l.sections)) (parents l.dir))
-    ≡ allowed_behind l.allowed (flat_map (sections_at (sections_view l.sections)) (fronts (take l.at l.dir) (drop l.at l.dir)))
+    ≡ allowed_behind l.allowed
+    (flat_map (sections_at (sections_view l.sections)) (fronts (take l.at l.dir) (drop l.at l.dir)))

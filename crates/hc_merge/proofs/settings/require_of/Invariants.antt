@@ -6,4 +6,5 @@ use Rattle.hc_merge.proofs.settings.require_of.Given as goal
 
 abbrev pub invariant-loop-candidate : goal.invariant-loop-candidate
 invariant-loop-candidate l =
-    require_of (map candidate_of l.kept) ≡ fold require_behind l.require (map candidate_of (drop l.candidate-index l.kept))
+    require_of (map candidate_of l.kept) ≡ fold require_behind l.require
+    (map candidate_of (drop l.candidate-index l.kept))

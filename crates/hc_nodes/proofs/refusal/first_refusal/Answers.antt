@@ -10,5 +10,7 @@ loop-line-preserved c =
     let openings = opening_lines c.loop-line.openings in
     let next = ahead lines i c.line-item.result c.loop-line-test.true c.line-item.is in
     rw (c.earlier-first.ensures, c.refusal_at.ensures)
-    (earlier_refusals c.loop-line.first openings (opening_lines c.pass_line.new.openings) c.line-item.result (drop (i + 1) lines) c.in_ok-pass_line.ensures
-    ∙ ap (λ l. earlier_of c.loop-line.first (first_of_all (refusals openings l))) (sym next) ∙ c.loop-line.invariant)
+    (earlier_refusals c.loop-line.first openings (opening_lines c.pass_line.new.openings) c.line-item.result
+    (drop (i + 1) lines) c.in_ok-pass_line.ensures
+    ∙ ap (λ l. earlier_of c.loop-line.first (first_of_all (refusals openings l))) (sym next)
+    ∙ c.loop-line.invariant)

@@ -17,8 +17,12 @@ returns c text bytes =
     let every = c.every_byte-every.result in
     let fragment = rw (c.anything.ensures, c.in_ok-nodes.ensures) at c.in_ok-entries.ensures in
     let look = looked _ _ every _ _ c.in_ok-entries.ensures.ready c.in_ok-start.ensures in
-    let finds = taken_finds every c.every_byte-every.ensures (λ other. part_ways Outside other (pattern_of c.args.pat.now)) _ _ _ _ fragment look text in
+    let finds =
+    taken_finds every c.every_byte-every.ensures (λ other. part_ways Outside other (pattern_of c.args.pat.now))
+    _ _ _ _ fragment look text in
     let found = finds_plain (pattern_of c.args.pat.now) text bytes in
     let reads = c.in_ok-machine.ensures text bytes in
-    let accepts = c.in_ok-made.ensures text bytes in
-    ((λ accepted. found.0 (finds.0 (reads.0 (accepts.0 accepted)))), (λ is. accepts.1 (reads.1 (finds.1 (found.1 is)))))
+    let accepts = c.in_ok-made.ensures text bytes in (
+      (λ accepted. found.0 (finds.0 (reads.0 (accepts.0 accepted)))),
+      (λ is. accepts.1 (reads.1 (finds.1 (found.1 is)))),
+    )

@@ -12,7 +12,8 @@ returns c text bytes =
     let pattern = pattern_of c.args.pat.now in
     let fragment = rw c.in_ok-nodes.ensures at c.in_ok-entries.ensures in
     let look = looked _ _ every _ _ c.in_ok-entries.ensures.ready c.in_ok-start.ensures in
-    let finds = taken_finds every c.every_byte-every.ensures (λ other. group_ways c.args.number other pattern) _ _ _ _ fragment look in
+    let finds = taken_finds every c.every_byte-every.ensures (λ other. group_ways c.args.number other pattern) _ _ _ _
+    fragment look in
     let group = group_text pattern c.args.number (accepts c.args.set.now) _ _ finds text in
     let reads = c.in_ok-machine.ensures text in
     let accepted = c.in_ok-made.ensures text bytes in

@@ -11,4 +11,5 @@ returns c =
     let exits = with_silent _ _ _ _ _ _ second _ (rw offset at c.in_ok-add_exits.ensures) in
     let finals = with_finals _ _ _ _ _ _ exits _ (rw offset at c.in_ok-add_finals.ensures) in
     let started = with_start _ _ _ _ _ _ finals _ c.in_ok-add_start.ensures.ok in
-    joined_accepts c.args.a.now c.args.b.now c.states-offset.ensures.table c.states.ensures.table _ started _ c.in_ok-made.ensures
+    joined_accepts c.args.a.now c.args.b.now c.states-offset.ensures.table c.states.ensures.table _ started _
+    c.in_ok-made.ensures

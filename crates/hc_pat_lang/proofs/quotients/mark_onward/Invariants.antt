@@ -6,5 +6,6 @@ use Rattle.hc_pat_lang.proofs.quotients.mark_onward.Given as goal
 abbrev pub invariant-loop-later : goal.invariant-loop-later
 invariant-loop-later l = record {
   marks : Marks l.a l.b l.onward;
-  settled : l.some ≡ false → (place : ℕ) → place < states l.a * states l.b → states l.a * states l.b ≤ place + l.later → Settled l.a l.b l.onward place;
+  settled : l.some ≡ false → (place : ℕ) → place < states l.a * states l.b
+      → states l.a * states l.b ≤ place + l.later → Settled l.a l.b l.onward place;
 }

@@ -8,8 +8,16 @@ returns c = record {
   small = (let w = c.run_end.ensures.within in omega arith);
   has = λ byte above below.
       let cases : (c.args.low < byte) ⊎ (byte ≡ c.args.low) = grind arith in
-      elim cases [ inl later ↦ (and_parts _ _ (sym (c.run_end.ensures.run byte later below))).0 | inr e ↦ rw e c.requires.has ];
+      elim cases [
+        | inl later ↦ (and_parts _ _ (sym (c.run_end.ensures.run byte later below))).0
+        | inr e ↦ rw e
+            c.requires.has
+      ];
   same = λ byte above below.
       let cases : (c.args.low < byte) ⊎ (byte ≡ c.args.low) = grind arith in
-      elim cases [ inl later ↦ eqb-true _ _ (and_parts _ _ (sym (c.run_end.ensures.run byte later below))).1 ∙ c.next_state-target.ensures.value | inr e ↦ rw e refl ];
+      elim cases [
+        | inl later ↦ eqb-true _ _ (and_parts _ _ (sym (c.run_end.ensures.run byte later below))).1
+            ∙ c.next_state-target.ensures.value
+        | inr e ↦ rw e refl
+      ];
 }

@@ -8,10 +8,15 @@ pub tokens-preserved : goal.tokens-preserved
 tokens-preserved c =
     let front = map placed_view c.in-Some.front.now in
     let levels = levels_view c.tokens.levels in
-    ap (levels_known front) c.in_ok-with_token.ensures ∙ sym (last_token front (placed_view c.in-Some.last.now) levels)
-    ∙ ap (λ tokens. levels_known tokens levels) (sym (ap (map placed_view) c.in-Some.ensures.cases.0 ∙ map-append placed_view c.in-Some.front.now (c.in-Some.last.now ∷ []))) ∙ c.tokens.invariant
+    ap (levels_known front) c.in_ok-with_token.ensures
+    ∙ sym (last_token front (placed_view c.in-Some.last.now) levels)
+    ∙ ap (λ tokens. levels_known tokens levels)
+    (sym (ap (map placed_view) c.in-Some.ensures.cases.0 ∙ map-append placed_view c.in-Some.front.now
+    (c.in-Some.last.now ∷ []))) ∙ c.tokens.invariant
 
 pub returns : goal.returns
 returns c =
     c.in_ok-whole.ensures
-    ∙ tree_is_known (map placed_view c.args.tokens.now) (levels_view c.tokens.levels) (sym (none_left c.tokens.rest.now (levels_view c.tokens.levels) c.in_default.ensures.cases) ∙ c.tokens.invariant)
+    ∙ tree_is_known (map placed_view c.args.tokens.now) (levels_view c.tokens.levels)
+    (sym (none_left c.tokens.rest.now (levels_view c.tokens.levels) c.in_default.ensures.cases)
+    ∙ c.tokens.invariant)

@@ -4,7 +4,8 @@ use Rattle.hc_pattern.proofs.class.bytes_of.Given as goal
 
 abbrev pub invariant-members : goal.invariant-members
 invariant-members l =
-    (b : ℕ) → (has_byte l.set b || list_any (is_in_part b) (parts_of (map placed_view l.rest))) ≡ list_any (is_in_part b) (parts_of (map placed_view l.members))
+    (b : ℕ) → (has_byte l.set b || list_any (is_in_part b) (parts_of (map placed_view l.rest)))
+    ≡ list_any (is_in_part b) (parts_of (map placed_view l.members))
 
 abbrev pub decreases-members : goal.decreases-members
 decreases-members l = length l.rest

@@ -10,11 +10,13 @@ returns-then-complement c =
     (c.of_bits.ensures (class_test c.args.nocase true parts)
     (λ b within.
     c.complement-others.ensures b within
-    ∙ ap not (c.with_cases-set.ensures b within ∙ ap (λ test. folded c.args.nocase test b) (λ i other. c.bytes_of.ensures other i))))
+    ∙ ap not (c.with_cases-set.ensures b within ∙ ap (λ test. folded c.args.nocase test b)
+    (λ i other. c.bytes_of.ensures other i))))
 
 pub returns-else-complement : goal.returns-else-complement
 returns-else-complement c =
     let parts = parts_of (map placed_view c.args.members.now) in
     rw c.if-complement.false
     (c.of_bits-else-complement.ensures (class_test c.args.nocase false parts)
-    (λ b within. c.with_cases-set.ensures b within ∙ ap (λ test. folded c.args.nocase test b) (λ i other. c.bytes_of.ensures other i)))
+    (λ b within. c.with_cases-set.ensures b within ∙ ap (λ test. folded c.args.nocase test b)
+    (λ i other. c.bytes_of.ensures other i)))

@@ -5,4 +5,5 @@ use Rattle.hc_pattern.proofs.class.read_class.Given as goal
 
 abbrev pub invariant-loop-i : goal.invariant-loop-i
 invariant-loop-i l =
-    onto (map placed_view l.members.items) l.i (class_from l.passed l.first (l.from + l.i) (drop l.i l.text)) ≡ class_from 0 true l.from l.text
+    onto (map placed_view l.members.items) l.i (class_from l.passed l.first (l.from + l.i) (drop l.i l.text))
+    ≡ class_from 0 true l.from l.text

@@ -12,6 +12,8 @@ loop-i-preserved c =
     let piece = piece_view c.piece_at-piece.result in
     let held = c.loop-i.invariant in
     let is = piece_found c.loop-i.unclosed marks i none piece c.loop-i-test.true held.1 c.piece_at-piece.ensures in (
-      no_wildcard marks i none piece c.loop-i-test.true is (sym c.is_wildcard.ensures ∙ c.if-is_wildcard.false) ∙ held.0,
-      unclosed_found c.loop-i.unclosed c.with_unclosed-unclosed.result marks i none piece c.loop-i-test.true held.1 is c.with_unclosed-unclosed.ensures,
+      no_wildcard marks i none piece c.loop-i-test.true is (sym c.is_wildcard.ensures ∙ c.if-is_wildcard.false)
+          ∙ held.0,
+      unclosed_found c.loop-i.unclosed c.with_unclosed-unclosed.result marks i none piece c.loop-i-test.true held.1 is
+          c.with_unclosed-unclosed.ensures,
     )

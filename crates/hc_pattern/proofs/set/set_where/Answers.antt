@@ -8,9 +8,12 @@ loop-number-preserved g c wanted is b =
     let now = is c.loop-number.number c.test.result c.loop-number-test.true c.test.ensures in
     let before = c.loop-number.invariant wanted is b in
     elim c.if-test.branch [
-      | then-test w ↦ ap (λ set. has_byte set b) w.set-is ∙ w.with-set.ensures b ∙ byte_added wanted _ c.loop-number.number b before (sym now ∙ w.if-test.true)
-      | else-test w ↦ ap (λ set. has_byte set b) w.set-is ∙ byte_left wanted _ c.loop-number.number b before (sym now ∙ w.if-test.false)
+      | then-test w ↦ ap (λ set. has_byte set b) w.set-is ∙ w.with-set.ensures b
+          ∙ byte_added wanted _ c.loop-number.number b before (sym now ∙ w.if-test.true)
+      | else-test w ↦ ap (λ set. has_byte set b) w.set-is ∙ byte_left wanted _ c.loop-number.number b before
+          (sym now ∙ w.if-test.false)
     ]
 
 pub returns : goal.returns
-returns g c wanted is b within = c.loop-number.invariant wanted is b ∙ all_bytes (wanted b) c.loop-number.number b within c.loop-number-test.false
+returns g c wanted is b within = c.loop-number.invariant wanted is b
+    ∙ all_bytes (wanted b) c.loop-number.number b within c.loop-number-test.false

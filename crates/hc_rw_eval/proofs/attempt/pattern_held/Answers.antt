@@ -15,4 +15,5 @@ returns-then-holds g c =
 pub returns-else-holds : goal.returns-else-holds
 unfolding pattern_held if_tested
 returns-else-holds g c =
-    ran_then _ _ _ _ _ _ _ _ (rw c.as_slice.ensures at c.in_ok-holds.ensures) (rw c.if-holds.false c.not_matched.ensures)
+    ran_then _ _ _ _ _ _ _ _ (rw c.as_slice.ensures at c.in_ok-holds.ensures)
+    (rw c.if-holds.false c.not_matched.ensures)

@@ -7,7 +7,8 @@ pub returns-in_err-tested : goal.returns-in_err-tested
 unfolding conds_tried
 returns-in_err-tested g c =
     group_faults _ _ _ _ _ _ _ c.loop-rest.invariant _ _ _ _ (sym c.is_empty.ensures ∙ c.loop-rest-test.true)
-    c.group_length.ensures.length c.split_at.ensures.front c.split_at.ensures.back _ _ c.in_err-tested.ensures c.from_residual.ensures.1
+    c.group_length.ensures.length c.split_at.ensures.front c.split_at.ensures.back _ _ c.in_err-tested.ensures
+    c.from_residual.ensures.1
 
 pub loop-rest-preserved : goal.loop-rest-preserved
 loop-rest-preserved g c =

@@ -13,18 +13,22 @@ loop-rule-preserved-in_default-looked g c =
 
 pub returns-in_err-round : goal.returns-in_err-round
 returns-in_err-round g c =
-    turn_faults _ _ _ _ _ _ _ _ _ _ _ _ c.in-Some.ensures.cases.0 c.loop-rule.invariant _ _ _ c.with_groups-before.ensures
+    turn_faults _ _ _ _ _ _ _ _ _ _ _ _ c.in-Some.ensures.cases.0 c.loop-rule.invariant _ _ _
+    c.with_groups-before.ensures
     (rw c.in-Held.is at c.in_ok-looked.ensures) _ _ c.in_err-round.ensures c.from_residual-in_err-round.ensures.1
 
 pub returns-in-Ended : goal.returns-in-Ended
 returns-in-Ended g c =
-    turn_ended _ _ _ _ _ _ _ _ _ _ _ _ c.in-Some.ensures.cases.0 c.loop-rule.invariant _ _ _ c.with_groups-before.ensures
+    turn_ended _ _ _ _ _ _ _ _ _ _ _ _ c.in-Some.ensures.cases.0 c.loop-rule.invariant _ _ _
+    c.with_groups-before.ensures
     (rw c.in-Held.is at c.in_ok-looked.ensures) _ (rw c.in-Ended.is at c.in_ok-round.ensures)
 
 pub loop-rule-preserved : goal.loop-rule-preserved
 loop-rule-preserved g c =
-    turn_further _ _ _ _ _ _ _ _ _ _ _ _ c.in-Some.ensures.cases.0 c.loop-rule.invariant _ _ _ c.with_groups-before.ensures
-    (rw c.in-Held.is at c.in_ok-looked.ensures) _ _ _ (rw c.in-Further.is at c.in_ok-round.ensures) c.beyond-rest-in-Further.ensures
+    turn_further _ _ _ _ _ _ _ _ _ _ _ _ c.in-Some.ensures.cases.0 c.loop-rule.invariant _ _ _
+    c.with_groups-before.ensures
+    (rw c.in-Held.is at c.in_ok-looked.ensures) _ _ _ (rw c.in-Further.is at c.in_ok-round.ensures)
+    c.beyond-rest-in-Further.ensures
 
 pub returns : goal.returns
 returns g c = rules_end _ _ _ _ _ _ _ _ _ c.loop-rule.invariant c.in_default.ensures.cases

@@ -5,4 +5,5 @@ use Rattle.hc_rw_eval.proofs.run.most_rounds.Given as goal
 
 abbrev pub invariant-loop-rule : goal.invariant-loop-rule
 invariant-loop-rule l =
-    fold (λ most rule. max most rule.flags.rounds) l.most (drop l.rule-index l.rules) ≡ fold (λ most rule. max most rule.flags.rounds) 1 l.rules
+    fold (λ most rule. max most rule.flags.rounds) l.most (drop l.rule-index l.rules)
+    ≡ fold (λ most rule. max most rule.flags.rounds) 1 l.rules

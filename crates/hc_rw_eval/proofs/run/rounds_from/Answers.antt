@@ -8,7 +8,8 @@ returns-in_err-finished g c =
 
 pub returns-in-Over : goal.returns-in-Over
 returns-in-Over g c =
-    round_over _ _ _ _ _ _ _ _ _ _ c.loop-earlier.invariant c.loop-earlier-test.true _ _ (rw c.in-Over.is at c.in_ok-finished.ensures)
+    round_over _ _ _ _ _ _ _ _ _ _ c.loop-earlier.invariant c.loop-earlier-test.true _ _
+    (rw c.in-Over.is at c.in_ok-finished.ensures)
 
 pub loop-earlier-preserved : goal.loop-earlier-preserved
 loop-earlier-preserved g c =

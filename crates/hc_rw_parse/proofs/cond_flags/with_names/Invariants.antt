@@ -8,6 +8,7 @@ abbrev pub invariant-loop-name : goal.invariant-loop-name
 invariant-loop-name l = record {
   can : (goal.iterator-loop-name).can_next l.name-iterator;
   finite : (goal.iterator-loop-name).is_finite l.name-iterator;
-  rest : with_names (Ok l.flags) (drop (length l.yielded) (slice_split is_comma l.names)) ≡ with_names (Ok no_cond_flags)
+  rest : with_names (Ok l.flags) (drop (length l.yielded) (slice_split is_comma l.names))
+      ≡ with_names (Ok no_cond_flags)
       (slice_split is_comma l.names);
 }

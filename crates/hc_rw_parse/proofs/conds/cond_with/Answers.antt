@@ -9,9 +9,12 @@ returns-in-Ok c =
     let second = c.args.flags in
     let make = cond_at c.args.spot (is_negated c.args.text.now) in
     let kind = rw c.nocase_of.ensures at c.kind_behind-kind.ensures in
-    let parts = read_alike _ (pair first second) (c.both-parts.ensures (λ x y. (x, y)) first second kind c.refused.ensures) in
+    let parts =
+    read_alike _ (pair first second)
+    (c.both-parts.ensures (λ x y. (x, y)) first second kind c.refused.ensures) in
     let whole = c.in-Ok.ensures (λ p z. make p.0 p.1 z) (pair first second) _ parts c.template_of.ensures in
-    rw c.is_negated.ensures (made_of_three make first second _ (Ok (make c.in-Ok.parts.0 c.in-Ok.parts.1 c.in-Ok.test)) whole)
+    rw c.is_negated.ensures
+    (made_of_three make first second _ (Ok (make c.in-Ok.parts.0 c.in-Ok.parts.1 c.in-Ok.test)) whole)
 
 pub returns-in-Err : goal.returns-in-Err
 returns-in-Err c =
@@ -19,6 +22,8 @@ returns-in-Err c =
     let second = c.args.flags in
     let make = cond_at c.args.spot (is_negated c.args.text.now) in
     let kind = rw c.nocase_of.ensures at c.kind_behind-kind.ensures in
-    let parts = read_alike _ (pair first second) (c.both-parts.ensures (λ x y. (x, y)) first second kind c.refused.ensures) in
+    let parts =
+    read_alike _ (pair first second)
+    (c.both-parts.ensures (λ x y. (x, y)) first second kind c.refused.ensures) in
     let whole = c.in-Err.ensures (λ p z. make p.0 p.1 z) (pair first second) _ parts c.template_of.ensures in
     made_of_three make first second _ (Err c.in-Err.fault) whole

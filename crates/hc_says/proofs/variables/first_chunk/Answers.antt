@@ -8,4 +8,5 @@ returns-in_default-clause-value c value = replaced_none value c.args.text.now (c
 pub returns-clause-value : goal.returns-clause-value
 returns-clause-value c value =
     rw (c.cut_before.ensures.front, c.cut_behind.ensures.back, c.as_bytes-bytes.ensures.value)
-    (replaced_chunk value c.args.text.now c.in-Some.end (rw c.as_bytes-bytes.ensures.value at (sym c.in-Some.ensures.value)))
+    (replaced_chunk value c.args.text.now c.in-Some.end
+    (rw c.as_bytes-bytes.ensures.value at (sym c.in-Some.ensures.value)))

@@ -4,4 +4,5 @@ use Rattle.hc_says.proofs.variables.split_variable.Given as goal
 
 -- none so far
 abbrev pub invariant-loop-at : goal.invariant-loop-at
-invariant-loop-at l = (value : List ℕ → Option (List ℕ)) → braced value l.text ≡ take l.at l.text ++ braced value (drop l.at l.text)
+invariant-loop-at l = (value : List ℕ → Option (List ℕ))
+    → braced value l.text ≡ take l.at l.text ++ braced value (drop l.at l.text)

@@ -5,7 +5,8 @@ use Rattle.hc_serve.proofs.answer.serve.Goals as goal
 
 pub returns-in-Ok-clause-served : goal.returns-in-Ok-clause-served
 returns-in-Ok-clause-served g c =
-    served_left _ _ _ _ _ _ _ _ (c.in_ok-log.ensures ∙ ap (log_of c.args.cap) c.as_slice.ensures) c.in-Ok.ensures.step refl refl refl
+    served_left _ _ _ _ _ _ _ _ (c.in_ok-log.ensures ∙ ap (log_of c.args.cap) c.as_slice.ensures) c.in-Ok.ensures.step
+    refl refl refl
 
 pub returns-in-Err-Refused-clause-served : goal.returns-in-Err-Refused-clause-served
 returns-in-Err-Refused-clause-served g c =

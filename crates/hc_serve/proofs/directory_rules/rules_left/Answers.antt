@@ -1,6 +1,6 @@
 use Rattle.hc_serve.proofs.Common.{ap, refl, ran_leaves, ran_off, ran_then}
 use Rattle.std.proofs.Common.{Some}
-use Rattle.hc_serve.specs.DirectoryRules.{rules_left}
+use Rattle.hc_serve.specs.Passing.{rules_left}
 use Rattle.hc_serve.proofs.directory_rules.rules_left.Goals as goal
 
 pub returns-in_err-ran : goal.returns-in_err-ran

@@ -4,7 +4,8 @@ use Rattle.hc_steps.specs.Walking.{walk}
 
 pub returns-in_err-walk : goal.returns-in_err-walk
 unfolding walked
-returns-in_err-walk c = ran_off _ _ _ _ _ _ _ _ c.from_residual.ensures.1 c.in_err-walk.ensures (ap walk c.as_bytes.ensures)
+returns-in_err-walk c = ran_off _ _ _ _ _ _ _ _ c.from_residual.ensures.1 c.in_err-walk.ensures
+    (ap walk c.as_bytes.ensures)
 
 pub returns : goal.returns
 unfolding walked

@@ -1,5 +1,6 @@
 use Rattle.hc_serve.proofs.Common.{◌∙◌, ap, refl, ran_on, ran_off}
-use Rattle.hc_serve.specs.ServerRules.{absolute_left, exists, first_component}
+use Rattle.hc_serve.specs.ServerRules.{first_component}
+use Rattle.hc_serve.specs.Passing.{absolute_left, exists}
 use Rattle.hc_serve.proofs.server_rules.absolute_left.Goals as goal
 
 pub returns-in_err-there : goal.returns-in_err-there

@@ -3,7 +3,8 @@ use Rattle.std.proofs.Common.{[]}
 use Rattle.hc_rw_eval.specs.Lists.{run_rules}
 use Rattle.hc_rw_eval.specs.declared.run.Finished.{Finished}
 use Rattle.hc_rw_expand.specs.declared.state.RwState.{RwState}
-use Rattle.hc_serve.specs.ServerRules.{context_at, finished, looks_of, maps_at, rules_at, rules_run, state_at}
+use Rattle.hc_serve.specs.ServerRules.{context_at, looks_of, maps_at, rules_at, state_at}
+use Rattle.hc_serve.specs.Passing.{finished, rules_run}
 use Rattle.hc_serve.specs.Site.{Site, site_of}
 use Rattle.hc_serve.specs.declared.stage.Pass.{Pass}
 use Rattle.hc_serve.proofs.server_rules.rules_run.Goals as goal

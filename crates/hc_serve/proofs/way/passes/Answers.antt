@@ -13,9 +13,11 @@ loop-turn-preserved g c = (
   pass_more _ _ _ _ _ _ _ _ _ _ c.loop-turn.invariant.0 c.loop-turn-test.true c.in_ok-left.ensures.step,
   c.passed.ensures.fixed ∙ c.loop-turn.invariant.1,
   λ each is. c.passed.ensures.kept each (c.loop-turn.invariant.2 each is),
-  pass_costs _ _ _ _ _ _ _ _ _ _ _ c.loop-turn-test.true c.loop-turn.invariant.3 c.in_ok-left.ensures.step c.in_ok-left.ensures.counted,
+  pass_costs _ _ _ _ _ _ _ _ _ _ _ c.loop-turn-test.true c.loop-turn.invariant.3 c.in_ok-left.ensures.step
+      c.in_ok-left.ensures.counted,
 )
 
 pub returns-in_err-left-clause-counted : goal.returns-in_err-left-clause-counted
 returns-in_err-left-clause-counted g c =
-    last_costs _ _ _ _ _ _ _ _ _ _ _ c.loop-turn-test.true c.loop-turn.invariant.3 c.from_residual.ensures.1 c.in_err-left.ensures.counted
+    last_costs _ _ _ _ _ _ _ _ _ _ _ c.loop-turn-test.true c.loop-turn.invariant.3 c.from_residual.ensures.1
+    c.in_err-left.ensures.counted

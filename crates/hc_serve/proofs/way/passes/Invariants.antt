@@ -14,4 +14,5 @@ invariant-loop-turn g l =
     × (g.O.Overrides.fixed l.over ≡ g.O.Overrides.fixed l.initial.over)
     × Kept (g.O.Overrides.loaded l.initial.over) (g.O.Overrides.loaded l.over)
     × (g.O.Overrides.counted l.over + left_to_look l.asked.world.now.files (site_of l.asked) l.most l._turn l.left
-    ≤ g.O.Overrides.counted l.initial.over + looked l.asked.world.now.files (passes l.most (site_of l.asked) l.fn.first))
+    ≤ g.O.Overrides.counted l.initial.over + looked l.asked.world.now.files
+    (passes l.most (site_of l.asked) l.fn.first))

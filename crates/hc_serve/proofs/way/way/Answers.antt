@@ -9,4 +9,5 @@ returns-in-Ok-clause-step g c = treed_on _ _ _ _ _ _ _ _ _ c.in-Ok.ensures.step 
 
 pub returns-in-Ok-clause-counted : goal.returns-in-Ok-clause-counted
 unfolding way
-returns-in-Ok-clause-counted g c = costs_behind_tree _ _ _ _ _ _ _ _ _ _ c.in-Ok.ensures.step c.passes_of.ensures.counted
+returns-in-Ok-clause-counted g c =
+    costs_behind_tree _ _ _ _ _ _ _ _ _ _ c.in-Ok.ensures.step c.passes_of.ensures.counted

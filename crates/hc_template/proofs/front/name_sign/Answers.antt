@@ -8,7 +8,8 @@ pub returns-in-Some : goal.returns-in-Some
 returns-in-Some c braced =
     let named = c.args.named.now in
     record {
-      is = named_cut c.args.signs.names _ named c.args.rest.now _ c.requires (c.in-Some.ensures.before ∙ up_to_brace named) c.in-Some.ensures.behind;
+      is = named_cut c.args.signs.names _ named c.args.rest.now _ c.requires
+          (c.in-Some.ensures.before ∙ up_to_brace named) c.in-Some.ensures.behind;
       left = same_signs c.args.signs _;
     }
 

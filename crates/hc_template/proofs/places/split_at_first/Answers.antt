@@ -8,7 +8,8 @@ returns-in_default-clause-before c = sym (endless c.args.byte c.args.text.now (c
 
 pub returns-clause-before : goal.returns-clause-before
 returns-clause-before c =
-    ap Some c.split_at.ensures.front ∙ sym (ended_by c.args.byte c.args.text.now c.in-Some.end (sym c.in-Some.ensures.value))
+    ap Some c.split_at.ensures.front
+    ∙ sym (ended_by c.args.byte c.args.text.now c.in-Some.end (sym c.in-Some.ensures.value))
 
 pub returns-clause-behind : goal.returns-clause-behind
 returns-clause-behind c =

@@ -20,7 +20,8 @@ same_values faults found rows none same =
 -- What a parse by the command finds is what its words ask for.
 found_words : (app : App) (words : List (List ℕ)) (m : ArgMatches) → app ≡ command
     → (is_simple_and_free app ≡ true → fault_of app words ≡ []) → HasMatchesOf app words m
-    → words_of words ≡ words_from (first_value (found_of m) (codes "cells")) (first_value (found_of m) (codes "generate"))
+    → words_of words ≡ words_from (first_value (found_of m) (codes "cells"))
+    (first_value (found_of m) (codes "generate"))
 found_words app words m is none matches =
     same_values _ (found_of m) _ (ap (λ a. fault_of a words) (sym is) ∙ none (ap is_simple_and_free is))
     ((matches (ap is_simple is)).0 ∙ ap (λ a. matches_of a words) is)

@@ -1,5 +1,6 @@
-use Rattle.hc_world.proofs.Common.{refl, subst, sym, EditsFiles, world_of}
-use Rattle.hc_world.proofs.Worlds.{dir_from_kind, file_from_kind, list_dir-absent, list_dir-dir, list_dir-file, none_from_kind}
+use Rattle.hc_world.proofs.Common.{refl, subst, sym, EditsFiles}
+use Rattle.hc_world.proofs.Worlds.{dir_from_kind, file_from_kind, list_dir-absent, list_dir-dir, list_dir-file}
+use Rattle.hc_world.proofs.Worlds.{none_from_kind}
 use Rattle.hc_world.proofs.entries.make_dir.Goals as goal
 
 pub returns-in-Dir-clause-edit : goal.returns-in-Dir-clause-edit
@@ -8,9 +9,10 @@ returns-in-Dir-clause-edit c =
 
 pub returns-in-Absent-clause-edit : goal.returns-in-Absent-clause-edit
 returns-in-Absent-clause-edit c =
-    let world = world_of c.args.files.now.entries.entries in
-    subst (EditsFiles c.make.result world (world_of c.make.new.files.entries.entries))
-    (sym (list_dir-absent world c.args.path.now (sym c.if-not-is_path.ensures) (none_from_kind _ (sym c.in-Absent.ensures)))) c.make.ensures.edit
+    let world = c.args.files.now.nodes in
+    subst (EditsFiles c.make.result world c.make.new.files.nodes)
+    (sym (list_dir-absent world c.args.path.now (sym c.if-not-is_path.ensures)
+    (none_from_kind _ (sym c.in-Absent.ensures)))) c.make.ensures.edit
 
 pub returns-in-File-clause-edit : goal.returns-in-File-clause-edit
 returns-in-File-clause-edit c =

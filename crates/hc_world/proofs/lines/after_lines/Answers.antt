@@ -6,11 +6,14 @@ use Rattle.hc_world.proofs.lines.after_lines.Goals as goal
 pub loop-init : goal.loop-init
 loop-init c = IsBehind-none c.args.text.now c.utf8.text
 
-more : (c : goal.After-first_line-at) → IsBehind c.args.text.now (c.loop.counter + 1) (c.loop.at + c.first_line-at.result)
+more : (c : goal.After-first_line-at)
+    → IsBehind c.args.text.now (c.loop.counter + 1) (c.loop.at + c.first_line-at.result)
 more c =
     let text = c.args.text.now in
     let within = c.loop.invariant.within in
-    subst (λ n. IsBehind text (c.loop.counter + 1) (c.loop.at + n)) (sym (rest_len text c.as_bytes.result.now c.loop.at c.first_line-at.result c.as_bytes.ensures.value c.first_line-at.ensures))
+    subst (λ n. IsBehind text (c.loop.counter + 1) (c.loop.at + n))
+    (sym (rest_len text c.as_bytes.result.now c.loop.at c.first_line-at.result c.as_bytes.ensures.value
+    c.first_line-at.ensures))
     (IsBehind-more text c.loop.counter c.loop.at c.loop.invariant (omega arith))
 
 pub loop-preserved : goal.loop-preserved

@@ -15,5 +15,7 @@ pub returns : goal.returns
 returns c =
     let old = c.args.old.now in
     let bytes = string_bytes c.push_str-2.new.self in
-    let all : bytes ≡ take c.in-Some-after_lines.start old ++ c.args.new.now ++ drop c.in-Some.end old = search rules in
-    edited-is old c.args.new.now bytes c.args.from c.args.to c.in-Some-after_lines.start c.in-Some.end c.in-Some-after_lines.ensures.some c.in-Some.ensures.some (omega arith) (omega arith) all
+    let all : bytes ≡ take c.in-Some-after_lines.start old ++ c.args.new.now ++ drop c.in-Some.end old =
+    search rules in
+    edited-is old c.args.new.now bytes c.args.from c.args.to c.in-Some-after_lines.start c.in-Some.end
+    c.in-Some-after_lines.ensures.some c.in-Some.ensures.some (omega arith) (omega arith) all

@@ -1,18 +1,21 @@
-use Rattle.hc_world.proofs.Common.{◌≡◌, [], ◌∷◌, ◌++◌, Some, None, append-nil, sym, ap, ◌∙◌, subst, rules, keys, filter_map, option_map, world_of, GoesOn, keys_from, name_behind}
+use Rattle.hc_world.proofs.Common.{◌≡◌, [], ◌∷◌, ◌++◌, Some, None, append-nil, sym, ap, ◌∙◌}
+use Rattle.hc_world.proofs.Common.{subst, rules, keys, filter_map, option_map, GoesOn, keys_from, name_behind}
 use Rattle.hc_world.proofs.Places.{fewer_left, keys_from-nil, names-behind, names_end, names_go_on}
 use Rattle.hc_world.proofs.names.names_below.Goals as goal
 
 pub loop-path-init : goal.loop-path-init
 loop-path-init c =
-    let world = world_of c.args.entries.now.entries in
-    ap (λ names. names ++ filter_map (name_behind c.in_ok-front.front.items) (keys_from c.new-place.result.items world))
+    let world = c.args.nodes.now in
+    ap (λ names. names ++ filter_map (name_behind c.in_ok-front.front.items)
+    (keys_from c.new-place.result.items world))
     c.new-names.ensures
-    ∙ ap (λ place. filter_map (name_behind c.in_ok-front.front.items) (keys_from place world)) c.new-place.ensures.items
+    ∙ ap (λ place. filter_map (name_behind c.in_ok-front.front.items) (keys_from place world))
+    c.new-place.ensures.items
     ∙ ap (filter_map (name_behind c.in_ok-front.front.items)) (keys_from-nil world)
 
 pub loop-path-smaller : goal.loop-path-smaller
 loop-path-smaller c =
-    let world = world_of c.args.entries.now.entries in
+    let world = c.args.nodes.now in
     let front = c.in_ok-front.front.items in
     let path = c.in-Some.path.now in
     let on : GoesOn front path (Some c.in-Some-2.next.items) =
@@ -23,7 +26,7 @@ loop-path-smaller c =
 
 pub loop-path-preserved : goal.loop-path-preserved
 loop-path-preserved c =
-    let world = world_of c.args.entries.now.entries in
+    let world = c.args.nodes.now in
     let front = c.in_ok-front.front.items in
     let path = c.in-Some.path.now in
     let names = c.loop-path.names in
@@ -39,7 +42,7 @@ loop-path-preserved c =
 
 pub returns-in-None : goal.returns-in-None
 returns-in-None c =
-    let world = world_of c.args.entries.now.entries in
+    let world = c.args.nodes.now in
     let front = c.in_ok-front.front.items in
     let path = c.in-Some.path.now in
     let names = c.loop-path.names in
@@ -55,7 +58,7 @@ returns-in-None c =
 
 pub returns : goal.returns
 returns c =
-    let world = world_of c.args.entries.now.entries in
+    let world = c.args.nodes.now in
     let front = c.in_ok-front.front.items in
     let none : keys_from c.loop-path.place.items world ≡ [] = search rules in
     sym (append-nil c.loop-path.names)

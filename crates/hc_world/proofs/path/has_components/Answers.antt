@@ -5,4 +5,6 @@ use Rattle.hc_world.proofs.path.has_components.Goals as goal
 
 pub returns : goal.returns
 returns c =
-    all_from_yields_List is_component _ _ _ c.all.ensures.ran (YieldsList-from_slice_split _ is_slash c.args.names.now c.split.ensures.rest c.split.ensures.done c.split.ensures.closure (λ x b q k. search (rules, tests))) (λ x b q k. search (rules, tests))
+    all_from_yields_List is_component _ _ _ c.all.ensures.ran
+    (YieldsList-from_slice_split _ is_slash c.args.names.now c.split.ensures.rest c.split.ensures.done
+    c.split.ensures.closure (λ x b q k. search (rules, tests))) (λ x b q k. search (rules, tests))

@@ -7,7 +7,8 @@ use Rattle.hc_world.proofs.walk.follow.Given as goal
 
 abbrev pub invariant-loop-slash : goal.invariant-loop-slash
 invariant-loop-slash l =
-    Leads l.fn.log (run (walk l.name) (shown_by l.world.files)) l.log (left (shown_by l.world.files) l.name l.from l.dirs)
+    Leads l.fn.log (run (walk l.name) (shown_by l.world.files)) l.log
+    (left (shown_by l.world.files) l.name l.from l.dirs)
 
 abbrev pub decreases-loop-slash : goal.decreases-loop-slash
 decreases-loop-slash l = length l.name - l.from

@@ -1,4 +1,5 @@
-use Rattle.hc_dfa.proofs.Common.{◌≡◌, ◌*◌, length, vec_len, slice_get, AreClasses, AreMoves, SetsExplored, TellsSteps}
+use Rattle.hc_dfa.proofs.Common.{◌≡◌, ◌*◌, length, vec_len, slice_get, AreClasses, AreMoves, SetsExplored}
+use Rattle.hc_dfa.proofs.Common.{TellsSteps}
 use Rattle.hc_dfa.proofs.Determined.{SetsMarked}
 use Rattle.hc_dfa.proofs.machine.Machine.determinize.Given as goal
 

@@ -8,7 +8,8 @@ loop-file-init g c = on_start file_step FILES c.args.self.now _ _
 
 pub loop-file-preserved : goal.loop-file-preserved
 loop-file-preserved g c =
-    on_more file_step FILES _ _ _ _ _ _ _ _ _ _ _ c.loop-file.invariant c.loop-file-test.true c.file.ensures c.take.ensures.goes c.take.ensures.few
+    on_more file_step FILES _ _ _ _ _ _ _ _ _ _ _ c.loop-file.invariant c.loop-file-test.true c.file.ensures
+    c.take.ensures.goes c.take.ensures.few
 
 pub returns-clause-goes : goal.returns-clause-goes
 returns-clause-goes g c = on_end file_step FILES _ _ _ _ _ _ _ c.loop-file.invariant c.loop-file-test.false

@@ -11,4 +11,5 @@ returns-in-Ok-clause-goes g c = λ left.
 
 pub returns-in-Err-clause-goes : goal.returns-in-Err-clause-goes
 returns-in-Err-clause-goes g c = λ left.
-    goes_refused _ _ _ _ _ _ (sym c.has_ended.ensures ∙ c.if-has_ended.false) refl c.count_refusal.ensures.tally (omega arith, omega arith)
+    goes_refused _ _ _ _ _ _ (sym c.has_ended.ensures ∙ c.if-has_ended.false) refl c.count_refusal.ensures.tally
+    (omega arith, omega arith)

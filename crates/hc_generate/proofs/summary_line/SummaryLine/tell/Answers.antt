@@ -11,5 +11,7 @@ returns c =
     ∙ ap (λ l. l ++ member_text (codes ",\"no_memory\":") tally.no_memory) (c.member-5.ensures.text
     ∙ ap (λ l. l ++ member_text (codes ",\"missing\":") tally.missing) (c.member-4.ensures.text
     ∙ ap (λ l. l ++ member_text (codes ",\"files\":") tally.files) (c.member-3.ensures.text
-    ∙ (λ i. (c.member-2.ensures.text ∙ ap (λ l. l ++ member_text (codes ",\"denied\":") tally.denied) (c.member.ensures.text
-    ∙ (λ i. c.requires i ++ member_text (codes "{\"summary\":{\"asks\":") (c.asks.ensures i)))) i ++ member_text (codes ",\"evaluations\":") (c.evaluations.ensures i))))))
+    ∙ (λ i. (c.member-2.ensures.text ∙ ap (λ l. l ++ member_text (codes ",\"denied\":") tally.denied)
+    (c.member.ensures.text
+    ∙ (λ i. c.requires i ++ member_text (codes "{\"summary\":{\"asks\":") (c.asks.ensures i)))) i ++ member_text
+    (codes ",\"evaluations\":") (c.evaluations.ensures i))))))

@@ -10,4 +10,5 @@ returns-clause-kept c = λ each has.
     (subst (λ (o : Cached). Contains (loaded_of o) each) (sym c.self.view_is) has)
 
 pub returns-clause-loads : goal.returns-clause-loads
-returns-clause-loads c = rw (← c.in_ok-dir.ensures) (now_loaded _ c.self.inside.fresh.items _ c.in_ok-push.ensures.items)
+returns-clause-loads c =
+    rw (← c.in_ok-dir.ensures) (now_loaded _ c.self.inside.fresh.items _ c.in_ok-push.ensures.items)

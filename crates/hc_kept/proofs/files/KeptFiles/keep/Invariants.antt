@@ -9,7 +9,8 @@ use Rattle.hc_kept.proofs.files.KeptFiles.keep.Given as goal
 -- What was kept so far is right, and each fresh one is kept or still to come.
 abbrev pub invariant-files : goal.invariant-files
 invariant-files l =
-    ((config : Config) → AreFilesOf l.world config l.fn.self → AreFresh (reading_in l.world.files config) l.fn.fresh.items
+    ((config : Config) → AreFilesOf l.world config l.fn.self
+    → AreFresh (reading_in l.world.files config) l.fn.fresh.items
     → AreFilesOf l.world config l.self × AreFresh (reading_in l.world.files config) l.fresh.items)
     × ((file : FreshFile) → Contains l.fn.fresh.items file
     → Contains l.fresh.items file ⊎ Contains (map as_loaded l.self) (fresh_as_loaded file))

@@ -14,4 +14,6 @@ returns-then-is_same-clause-none c =
 
 pub returns-else-is_same-clause-none : goal.returns-else-is_same-clause-none
 returns-else-is_same-clause-none c =
-    rw (← c.self.view_is) (other_allowed c.args.world.now c.self.inside.allowed c.args.allowed c.args.dir.now c.self.inside.by_dir.entries (sym c.is_same.ensures ∙ c.if-is_same.false))
+    rw (← c.self.view_is)
+    (other_allowed c.args.world.now c.self.inside.allowed c.args.allowed c.args.dir.now c.self.inside.by_dir.entries
+    (sym c.is_same.ensures ∙ c.if-is_same.false))

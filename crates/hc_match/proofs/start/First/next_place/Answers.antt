@@ -15,5 +15,6 @@ pub returns-clause-same : goal.returns-clause-same
 returns-clause-same c pattern end begins =
     let text = c.args.text.now in let test = λ (byte : ℕ). not (is_first c.args.self byte) in
     let count : c.before-2.result ≡ prefix_len test (drop c.args.from text) =
-    c.before-2.ensures ∙ ap (prefix_len test) (c.split_at.ensures.back ∙ ap (λ at. drop at text) c.min.ensures ∙ drop_min c.args.from text) in
+    c.before-2.ensures ∙ ap (prefix_len test) (c.split_at.ensures.back ∙ ap (λ at. drop at text) c.min.ensures
+    ∙ drop_min c.args.from text) in
     all_passed c.args.self text pattern end c.args.from c.before-2.result begins (omega (arith, count))

@@ -42,7 +42,8 @@ invariant-ends-ends l = record {
   unset : l.self.settings.items ≡ [];
   steps : l.self.steps ≤ l.fn.self.steps;
   within : l.left.first + l.left.more ≤ l.fn.run.first + l.fn.run.more;
-  left : (held : Held) → ends l.greedy (frame_ways l.text l.next) l.left.first l.left.more held ≡ ends l.greedy (frame_ways l.text l.next) l.fn.run.first l.fn.run.more held;
+  left : (held : Held) → ends l.greedy (frame_ways l.text l.next) l.left.first l.left.more held
+      ≡ ends l.greedy (frame_ways l.text l.next) l.fn.run.first l.fn.run.more held;
 }
 
 abbrev pub decreases-ends-ends : goal.decreases-ends-ends

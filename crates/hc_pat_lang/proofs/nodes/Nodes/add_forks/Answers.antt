@@ -5,7 +5,9 @@ use Rattle.hc_pat_lang.proofs.nodes.Nodes.add_forks.Goals as goal
 pub loop-from-preserved-in_default : goal.loop-from-preserved-in_default
 loop-from-preserved-in_default c =
     fork_passed _ _ _ _ c.loop-from.invariant
-    (λ first second at. c.in_default.not-Fork first second (let both : Some c.node.result ≡ Some (Fork first second) = sym c.node.ensures ∙ at in let e : c.node.result ≡ Fork first second = cc in e))
+    (λ first second at. c.in_default.not-Fork first second
+    (let both : Some c.node.result ≡ Some (Fork first second) = sym c.node.ensures ∙ at in
+    let e : c.node.result ≡ Fork first second = cc in e))
 
 pub add_silent-requires-clause-to : goal.add_silent-requires-clause-to
 add_silent-requires-clause-to c =
@@ -21,4 +23,5 @@ add_silent-requires-in-loop-from-clause-to c =
     omega arith
 
 pub loop-from-preserved : goal.loop-from-preserved
-loop-from-preserved c = fork_added _ _ _ _ _ _ _ _ c.loop-from.invariant c.in-Fork.ensures c.in_ok-add_silent.ensures.ok c.in_ok-add_silent-2.ensures.ok
+loop-from-preserved c = fork_added _ _ _ _ _ _ _ _ c.loop-from.invariant c.in-Fork.ensures c.in_ok-add_silent.ensures.ok
+    c.in_ok-add_silent-2.ensures.ok

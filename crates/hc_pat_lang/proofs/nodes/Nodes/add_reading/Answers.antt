@@ -5,7 +5,9 @@ use Rattle.hc_pat_lang.proofs.nodes.Nodes.add_reading.Goals as goal
 pub loop-number-preserved-in_default : goal.loop-number-preserved-in_default
 loop-number-preserved-in_default c =
     byte_passed _ _ _ _ c.loop-number.invariant
-    (λ set to at. c.in_default.not-Step set to (let both : Some c.node.result ≡ Some (Step set to) = sym c.node.ensures ∙ at in let e : c.node.result ≡ Step set to = cc in e))
+    (λ set to at. c.in_default.not-Step set to
+    (let both : Some c.node.result ≡ Some (Step set to) = sym c.node.ensures ∙ at in
+    let e : c.node.result ≡ Step set to = cc in e))
 
 pub add_class-requires-clause-to : goal.add_class-requires-clause-to
 add_class-requires-clause-to c =

@@ -11,5 +11,7 @@ returns-then-number-eq0 c = elim (eqb_tells c.args.number 0) [
 pub returns : goal.returns
 returns c = elim (eqb_tells c.args.number 0) [
   | inl is ↦ absurd (let e = is.1 in let f = c.if-number-eq0.false in grind arith)
-  | inr isnt ↦ rw isnt.0 (fragment_either _ _ _ _ _ _ _ _ _ _ (rw c.anything-2.ensures at c.in_ok-turn.ensures) (rw c.anything-3.ensures at c.in_ok-unset.ensures) c.in_ok-entries-2.ensures)
+  | inr isnt ↦ rw isnt.0
+      (fragment_either _ _ _ _ _ _ _ _ _ _ (rw c.anything-2.ensures at c.in_ok-turn.ensures)
+      (rw c.anything-3.ensures at c.in_ok-unset.ensures) c.in_ok-entries-2.ensures)
 ]

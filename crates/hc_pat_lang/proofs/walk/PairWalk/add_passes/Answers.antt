@@ -1,9 +1,11 @@
-use Rattle.hc_pat_lang.proofs.Common.{◌≡◌, ◌≤◌, sym, ◌∙◌, inl, arith, slice_get_within, next_state, IsSilent, past_byte, Step}
+use Rattle.hc_pat_lang.proofs.Common.{◌≡◌, ◌≤◌, sym, ◌∙◌, inl, arith, slice_get_within, next_state}
+use Rattle.hc_pat_lang.proofs.Common.{IsSilent, past_byte, Step}
 use Rattle.hc_pat_lang.proofs.Walking.{comes_more, comes_next, comes_none, comes_not, step_done, pass_added}
 use Rattle.hc_pat_lang.proofs.walk.PairWalk.add_passes.Goals as goal
 
 pub loop-byte-init : goal.loop-byte-init
-loop-byte-init c = comes_none _ _ _ _ (λ b j. IsSilent c.args.self.now.machine c.args.from.number j) _ _ _ c.requires.sound
+loop-byte-init c = comes_none _ _ _ _ (λ b j. IsSilent c.args.self.now.machine c.args.from.number j) _ _ _
+    c.requires.sound
 
 pub loop-byte-preserved-then-byte-next : goal.loop-byte-preserved-then-byte-next
 loop-byte-preserved-then-byte-next c = comes_next c.loop-byte.invariant c.if-byte-next.true
@@ -15,26 +17,37 @@ pub alike_end-last-requires-clause-has : goal.alike_end-last-requires-clause-has
 alike_end-last-requires-clause-has c = sym c.has.ensures ∙ c.if-not-has.false
 
 pub alike_end-last-requires-clause-state : goal.alike_end-last-requires-clause-state
-alike_end-last-requires-clause-state c = (c.requires.sound.proper c.args.from.number c.args.from.place c.requires.place).1
+alike_end-last-requires-clause-state c =
+    (c.requires.sound.proper c.args.from.number c.args.from.place c.requires.place).1
 
 pub add_pass-requires-clause-count : goal.add_pass-requires-clause-count
 add_pass-requires-clause-count c = c.loop-byte.invariant.sound.count
 
 pub add_pass-requires-clause-from : goal.add_pass-requires-clause-from
-add_pass-requires-clause-from c = slice_get_within _ _ _ (c.loop-byte.invariant.grew.extends c.args.from.number c.args.from.place c.requires.place)
+add_pass-requires-clause-from c =
+    slice_get_within _ _ _ (c.loop-byte.invariant.grew.extends c.args.from.number c.args.from.place c.requires.place)
 
 pub loop-byte-preserved : goal.loop-byte-preserved
 loop-byte-preserved c =
     let at = c.loop-byte.invariant.grew.extends c.args.from.number c.args.from.place c.requires.place in
     let has = sym c.has.ensures ∙ c.if-not-has.false in
     let alike = c.alike_end-last.ensures in
-    let stepped = pass_added _ _ _ _ _ _ c.args.from.number c.args.from.place (c.args.to, next_state c.args.set.now c.args.from.place.1 c.loop-byte.byte) c.loop-byte.invariant.sound at (c.requires.nodes.within c.args.from.place.0 (Step c.args.bytes c.args.to) c.requires.node, rw c.next_state.ensures.value at c.next_state.ensures.within) (rw c.next_state.ensures.value at c.in_ok-add_pass.ensures) (past_byte c.requires.node c.loop-byte-test.true has) in
+    let stepped = pass_added _ _ _ _ _ _ c.args.from.number c.args.from.place
+    (c.args.to, next_state c.args.set.now c.args.from.place.1 c.loop-byte.byte) c.loop-byte.invariant.sound at (
+      c.requires.nodes.within c.args.from.place.0 (Step c.args.bytes c.args.to) c.requires.node,
+      rw c.next_state.ensures.value at c.next_state.ensures.within,
+    )
+    (rw c.next_state.ensures.value at c.in_ok-add_pass.ensures)
+    (past_byte c.requires.node c.loop-byte-test.true has) in
     let end : c.alike_end-last.result ≡ c.from-next.result = omega arith in
     let past : c.loop-byte.next ≤ c.loop-byte.byte = (let f = c.if-byte-next.false in omega arith) in
-    rw (← end) (comes_more c.loop-byte.invariant _ _ (λ b j. IsSilent c.add_pass.new.self.machine c.args.from.number j) c.alike_end-last.result stepped.sound stepped.grew past alike
+    rw (← end)
+    (comes_more c.loop-byte.invariant _ _ (λ b j. IsSilent c.add_pass.new.self.machine c.args.from.number j)
+    c.alike_end-last.result stepped.sound stepped.grew past alike
     (λ b j. stepped.grew.silent c.args.from.number j) (λ b above below. stepped.reaches))
 
 pub returns : goal.returns
 returns c =
     let all : c.loop-byte.byte ≡ 256 = omega arith in
-    step_done _ _ _ _ _ _ _ _ _ _ c.requires.node c.loop-byte.invariant.sound c.loop-byte.invariant.grew (λ b small has. c.loop-byte.invariant.covers b (inl (omega arith)) has)
+    step_done _ _ _ _ _ _ _ _ _ _ c.requires.node c.loop-byte.invariant.sound c.loop-byte.invariant.grew
+    (λ b small has. c.loop-byte.invariant.covers b (inl (omega arith)) has)

@@ -4,9 +4,11 @@ use Rattle.hc_pat_lang.proofs.walk.PairWalk.add_read.Goals as goal
 
 pub add_step-requires-clause-from : goal.add_step-requires-clause-from
 add_step-requires-clause-from c =
-    (let e = ap (λ (m : Steps). m.states) c.in_ok-to.ensures.machine in let l = extends_longer _ _ c.in_ok-to.ensures.number.extends in let f = c.requires.from in omega arith)
+    (let e = ap (λ (m : Steps). m.states) c.in_ok-to.ensures.machine in
+    let l = extends_longer _ _ c.in_ok-to.ensures.number.extends in let f = c.requires.from in omega arith)
 
 pub add_step-requires-clause-to : goal.add_step-requires-clause-to
 add_step-requires-clause-to c =
     (let e = ap (λ (m : Steps). m.states) c.in_ok-to.ensures.machine in
-    let w : c.in_ok-to.to < length c.met.new.self.places.keys = slice_get_within _ _ _ c.in_ok-to.ensures.number.stored in omega arith)
+    let w : c.in_ok-to.to < length c.met.new.self.places.keys =
+    slice_get_within _ _ _ c.in_ok-to.ensures.number.stored in omega arith)

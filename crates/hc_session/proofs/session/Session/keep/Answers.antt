@@ -12,11 +12,15 @@ pub invariant_of-self-2 : goal.invariant_of-self-2
 invariant_of-self-2 c =
     let inside = c.self.inside in
     let at : c.edits.result ≡ inside.world.edits = search rules in
-    let kept = kept_as c.store.new.self inside.answers.limit inside.world c.args.request c.args.answer _ _ inside.answers.entries c.in_ok-store.ensures.ok c.in_ok-reads.ensures at in
-    let present = subst (λ (state : State). IsAnswerOf state.world state.main c.args.request c.args.answer) (sym c.self.view_is) c.requires.present in
-    subst (λ (cached : Cached Request Answer). IsSound inside.world inside.main cached.entries inside.site cached.limit) (sym kept) (record {
+    let kept = kept_as c.store.new.self inside.answers.limit inside.world c.args.request c.args.answer _ _
+    inside.answers.entries c.in_ok-store.ensures.ok c.in_ok-reads.ensures at in
+    let present = subst (λ (state : State). IsAnswerOf state.world state.main c.args.request c.args.answer)
+    (sym c.self.view_is) c.requires.present in
+    subst (λ (cached : Cached Request Answer). IsSound inside.world inside.main cached.entries inside.site
+    cached.limit) (sym kept) (record {
       limit = c.self.invariant.limit;
-      answers = all_stored inside.world inside.main c.args.request c.args.answer inside.answers.limit inside.answers.entries present c.self.invariant.answers;
+      answers = all_stored inside.world inside.main c.args.request c.args.answer inside.answers.limit
+          inside.answers.entries present c.self.invariant.answers;
       site = c.self.invariant.site;
     })
 
@@ -24,10 +28,14 @@ pub returns : goal.returns
 returns c =
     let inside = c.self.inside in
     let at : c.edits.result ≡ inside.world.edits = search rules in
-    let kept = kept_as c.store.new.self inside.answers.limit inside.world c.args.request c.args.answer _ _ inside.answers.entries c.in_ok-store.ensures.ok c.in_ok-reads.ensures at in
-    let limited = ap (λ limit. stored same_request limit (kept_answer inside.world c.args.request c.args.answer) inside.answers.entries) c.self.invariant.limit in (
+    let kept = kept_as c.store.new.self inside.answers.limit inside.world c.args.request c.args.answer _ _
+    inside.answers.entries c.in_ok-store.ensures.ok c.in_ok-reads.ensures at in
+    let limited =
+    ap (λ limit. stored same_request limit (kept_answer inside.world c.args.request c.args.answer)
+    inside.answers.entries) c.self.invariant.limit in (
       answer_reply c.args.trail c.args.self.now.world.files c.args.answer,
-      subst (λ (state : State). Says (answer_reply c.args.trail state.world.files c.args.answer) c.in_ok-stepped.stepped) c.self.view_is c.in_ok-stepped.ensures,
+      subst (λ (state : State). Says (answer_reply c.args.trail state.world.files c.args.answer)
+          c.in_ok-stepped.stepped) c.self.view_is c.in_ok-stepped.ensures,
       (
         refl,
         (λ i. record {

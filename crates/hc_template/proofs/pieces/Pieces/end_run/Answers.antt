@@ -8,5 +8,6 @@ pub returns-clause-done : goal.returns-clause-done
 returns-clause-done c =
     let text : c.from.result ≡ c.args.self.now.run.items = cc in
     on_ok_weaker c.push.result
-    (λ ok. ok ∙ ap (λ more. c.args.self.now.done ++ more) (ap (λ text. Bytes text ∷ []) text ∙ sym (one_piece c.args.self.now.run.items (grind (arith)))))
+    (λ ok. ok ∙ ap (λ more. c.args.self.now.done ++ more)
+    (ap (λ text. Bytes text ∷ []) text ∙ sym (one_piece c.args.self.now.run.items (grind (arith)))))
     c.push.ensures.ok

@@ -1,6 +1,0 @@
-use Rattle.std.proofs.Common.{◌≡◌, take}
-use Rattle.hc_model.proofs.claim.+copy.Given as goal
-
--- the forms so far are copied
-abbrev pub invariant-copy_forms-loop-form : goal.invariant-copy_forms-loop-form
-invariant-copy_forms-loop-form l = l.copy ≡ take l.form-index l.forms

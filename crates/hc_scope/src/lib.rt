@@ -1,0 +1,10 @@
+//! What a claim speaks of: a scope of requests, what is claimed of each, and sets of texts as they are written.
+//!
+//! Types alone, whose clones equal them; the program doesn't use them yet.
+#![tactic(auto)]
+
+mod claim;
+mod form;
+
+pub use claim::{Claim, Scope};
+pub use form::SetForm;
