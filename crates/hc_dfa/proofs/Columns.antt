@@ -1,15 +1,15 @@
 -- Where bytes lead from all states.
-use Rattle.hc_dfa.proofs.Common.{◌≡◌, ℕ, ◌<◌, List, length, slice_index, slice_get, Some, Vec, sym}
-use Rattle.hc_dfa.proofs.Common.{◌∙◌, ap, Global, Automaton, Classing, AreClasses, AreColumns, IsAsFine, IsColumn}
+use Rattle.hc_dfa.proofs.Common.{◌≡◌, ℕ, ◌<◌, List, length, slice_index, slice_get, Some, sym}
+use Rattle.hc_dfa.proofs.Common.{◌∙◌, ap, Automaton, Classing, AreClasses, AreColumns, IsAsFine, IsColumn}
 use Rattle.hc_dfa.proofs.Common.{Tells, TellsByNumber, class_of}
 use Rattle.hc_dfa.proofs.Tables.{stands_for}
 
 -- The number is that of the column of a byte.
-abbrev pub IsColumnOf : Automaton → List ℕ → List (Vec ℕ Global) → ℕ → ℕ → Type 0
-IsColumnOf a bytes columns k number = (column : Vec ℕ Global) × (slice_get columns number ≡ Some column)
-    × IsColumn a (slice_index bytes k) column.items
+abbrev pub IsColumnOf : Automaton → List ℕ → List (List ℕ) → ℕ → ℕ → Type 0
+IsColumnOf a bytes columns k number = (column : List ℕ) × (slice_get columns number ≡ Some column)
+    × IsColumn a (slice_index bytes k) column
 
-pub columns_made : (a : Automaton) (bytes numbers : List ℕ) (columns : List (Vec ℕ Global))
+pub columns_made : (a : Automaton) (bytes numbers : List ℕ) (columns : List (List ℕ))
     → length numbers ≡ length bytes
     → ((k : ℕ) → k < length bytes → IsColumnOf a bytes columns k (slice_index numbers k))
     → AreColumns a bytes numbers
@@ -17,7 +17,7 @@ columns_made a bytes numbers columns len each = record {
   len = len;
   same = λ k j s kb jb e sb.
       sym ((each k kb).2.each s sb)
-      ∙ (ap (λ (v : Vec ℕ Global). slice_index v.items s) (one k j kb jb e) ∙ (each j jb).2.each s sb);
+      ∙ (ap (λ (v : List ℕ). slice_index v s) (one k j kb jb e) ∙ (each j jb).2.each s sb);
 }
   where
     one : (k j : ℕ) (kb : k < length bytes) (jb : j < length bytes)

@@ -16,19 +16,19 @@ pub use Rattle.std.specs.List.{AllByRecursion, Contains, list_any}
 pub use Rattle.std.specs.declared.alloc.Global.{Global}
 pub use Rattle.hc_dfa.specs.Automata.{Automaton, next_state, accepts_from, states, value_on, is_final, IsTable, run}
 unfoldable pub use Rattle.hc_dfa.specs.Automata.{accepts}
-pub use Rattle.hc_dfa.specs.Blocks.{RespectsFinals, Refines, IsStable, AreLeaders, IsSignature, Represents, IsSameList}
+pub use Rattle.hc_dfa.specs.Blocks.{RespectsFinals, Refines, IsStable, AreLeaders, IsSignature, Represents}
 pub use Rattle.hc_dfa.specs.Built.{Accepts, AreFirst, IsInOrder, product_of, Includes, inclusion_of, kept}
 pub use Rattle.hc_dfa.specs.Built.{AcceptsImages, complement_of}
 pub use Rattle.hc_dfa.specs.Classings.{Classing, IsAsFine, AreClasses, AreColumns, IsColumn, Tells, TellsByNumber}
 pub use Rattle.hc_dfa.specs.Classings.{class_of, class_count, first_of, AreClassesBelow, IsRows}
 unfoldable pub use Rattle.hc_dfa.specs.Classings.{expanded}
 pub use Rattle.hc_dfa.specs.Distances.{Bounds, Distances, IsNearest, IsSettled, IsWalk}
-pub use Rattle.hc_dfa.specs.Explored.{IsOne, Extends, IsMet, Leads, Explored}
+pub use Rattle.hc_dfa.specs.Explored.{Extends, IsMet, Leads, Explored}
 pub use Rattle.hc_dfa.specs.Machines.{Steps, Reads, IsSilent, PathToFinal, AcceptsPathsOf}
-pub use Rattle.hc_dfa.specs.Pairs.{IsPair, pair_step, PairsExplored}
+pub use Rattle.hc_dfa.specs.Pairs.{IsPair, pair_step}
 pub use Rattle.hc_dfa.specs.Sets.{AreChanges, AreMoves, ArePieces, AreStates, FollowsTo, Gathers, GathersAll, HitsAt}
 pub use Rattle.hc_dfa.specs.Sets.{ReadsTo, Marks, Has, IsClosed, IsStep, SilentPath, TellsSteps, IsSetOf, IsClosure}
-pub use Rattle.hc_dfa.specs.Sets.{IsProper, IsMark, SetsExplored, IsRead}
+pub use Rattle.hc_dfa.specs.Sets.{IsProper, IsMark, IsRead}
 pub use Rattle.hc_dfa.specs.Sets.SilentPath.{stays, goes_on}
 pub use Rattle.hc_dfa.specs.Singles.{single, single_step, IsSingle, is_among, AreFound}
 pub use Rattle.hc_dfa.specs.Texts.{IsText, TextSet, IsEmptySet, IsLeast, comes_before, byte_order, IsLeastOf}

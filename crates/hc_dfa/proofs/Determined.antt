@@ -1,26 +1,20 @@
 -- The automaton of sets of a machine's states.
-use Rattle.hc_dfa.proofs.Common.{◌≡◌, ℕ, ◌*◌, ◌<◌, ◌≤◌, List, [], ◌∷◌, length, Bool, true}
-use Rattle.hc_dfa.proofs.Common.{Some, slice_get, Vec, arith, ap, ◌∙◌, slice_get_within, Global, Automaton}
+use Rattle.hc_dfa.proofs.Common.{◌≡◌, ℕ, ◌<◌, List, [], ◌∷◌, length, Bool, true}
+use Rattle.hc_dfa.proofs.Common.{Some, slice_get, arith, ap, ◌∙◌, slice_get_within, Automaton}
 use Rattle.hc_dfa.proofs.Common.{next_state, accepts_from, accepts, Steps, PathToFinal, AcceptsPathsOf, Has, IsSetOf}
-use Rattle.hc_dfa.proofs.Common.{Contains, refl, false, SilentPath, IsClosure, IsProper, IsStep, IsMark, IsSameList}
-use Rattle.hc_dfa.proofs.Common.{SetsExplored, TellsSteps, stays, goes_on, IsText, Classing, AreClasses, class_count}
+use Rattle.hc_dfa.proofs.Common.{Contains, refl, false, SilentPath, IsClosure, IsProper, IsStep, IsMark}
+use Rattle.hc_dfa.proofs.Common.{TellsSteps, stays, goes_on, IsText, Classing, AreClasses, class_count}
 use Rattle.hc_dfa.proofs.Common.{class_of, first_of, expanded}
 use Rattle.hc_dfa.specs.Machines.PathToFinal.{ends, silently, by_byte}
-use Rattle.hc_dfa.proofs.Rows.{Marked, mark_at, leads_at}
+use Rattle.hc_dfa.proofs.Cells.{mark_at, leads_at}
+use Rattle.hc_dfa.specs.Explored.{IsTableOf}
 use Rattle.hc_dfa.proofs.Tables.{cell_within, expanded_at}
 
-abbrev pub SetsMarked : Steps → List (Vec ℕ Global) → List Bool → Type 0
-SetsMarked m sets finals = Marked (λ set answer. IsMark m.finals set.items answer) sets finals
-
 -- Each set has a row and a mark.
-pub record AllSets (m : Steps) (sets : List (Vec ℕ Global)) (c : Classing) (rows : List ℕ) (finals : List Bool) :
-    Type 0 where
+pub record AllSets (m : Steps) (c : Classing) (rows : List ℕ) (finals : List Bool) : Type 0 where
   pub classes : AreClasses c
   pub tells : TellsSteps m c
-  pub explored : SetsExplored m c.firsts sets rows
-  pub marked : SetsMarked m sets finals
-  pub whole : length rows ≡ length finals * class_count c
-  pub all : length sets ≤ length finals
+  pub table : IsTableOf (IsClosure m m.starts) (IsProper m) (IsStep m) (IsMark m.finals) c.firsts rows finals
 
 pub marked_set : (count : ℕ) (finals set : List ℕ) (marks : List Bool) (answer : Bool)
     → IsSetOf count finals marks
@@ -41,37 +35,42 @@ pub after_silent : (m : Steps) (from : ℕ) {state : ℕ} (text : List ℕ) → 
 after_silent m from text stays path = path
 after_silent m from text (goes_on silent step) path = after_silent m from text silent (silently step path)
 
-module _ (m : Steps) (sets : List (Vec ℕ Global)) (c : Classing) (rows : List ℕ) (finals : List Bool)
-    (is : AllSets m sets c rows finals) where
+module _ (m : Steps) (c : Classing) (rows : List ℕ) (finals : List Bool)
+    (is : AllSets m c rows finals) where
+  abbrev sets : List (List ℕ)
+  sets = is.table.keys
+
   abbrev pub made : Automaton
   made = record { next = expanded c rows (length finals); finals = finals }
 
-  mark_here : (state : ℕ) (set : Vec ℕ Global) → slice_get sets state ≡ Some set
-      → IsMark m.finals set.items (accepts_from made state [])
+  mark_here : (state : ℕ) (set : List ℕ) → slice_get sets state ≡ Some set
+      → IsMark m.finals set (accepts_from made state [])
   mark_here state set at =
-      mark_at (λ set answer. IsMark m.finals set.items answer) sets made.finals state set is.marked
-      (let w = slice_get_within sets state set at in omega (arith, is.all)) at
+      mark_at (IsMark m.finals) sets made.finals state set is.table.rows.marked
+      (let w = slice_get_within sets state set at in let all = is.table.all in omega arith) at
 
-  step_here : (state byte : ℕ) (set : Vec ℕ Global) → slice_get sets state ≡ Some set → byte < 256
-      → (to : Vec ℕ Global) × (slice_get sets (next_state made state byte) ≡ Some to)
-      × IsStep m set.items byte to.items
+  step_here : (state byte : ℕ) (set : List ℕ) → slice_get sets state ≡ Some set → byte < 256
+      → (to : List ℕ) × (slice_get sets (next_state made state byte) ≡ Some to)
+      × IsStep m set byte to
   step_here state byte set at below =
       let class = is.classes.within byte below in
-      let here : state < length finals = (let w = slice_get_within sets state set at in omega (arith, is.all)) in
-      let leads = leads_at (class_count c) IsSameList (λ set. IsProper m set.items)
-      (λ from k to. IsStep m from.items (first_of c k) to.items) sets rows
-      state (class_of c byte) set is.explored at
-      (rw is.whole (cell_within (class_count c) state (class_of c byte) (length finals) here class)) class in (
+      let here : state < length finals = (let w = slice_get_within sets state set at in let all = is.table.all in
+      omega arith) in
+      let leads = leads_at (class_count c) (IsProper m)
+      (λ from k to. IsStep m from (first_of c k) to) sets rows
+      state (class_of c byte) set is.table.rows.explored at
+      (rw is.table.rows.rows (cell_within (class_count c) state (class_of c byte) (length finals) here class))
+      class in (
         leads.0,
         ap (λ k. slice_get sets k) (expanded_at c rows (length finals) state byte here below) ∙ leads.1,
-        is.tells set.items leads.0.items (first_of c (class_of c byte)) byte (is.classes.below (class_of c byte) class)
+        is.tells set leads.0 (first_of c (class_of c byte)) byte (is.classes.below (class_of c byte) class)
             below (is.classes.own (class_of c byte) class) leads.2,
       )
 
   -- What a set accepts, a path from one of its states reads.
-  pub to_path : (text : List ℕ) (state : ℕ) (set : Vec ℕ Global) → slice_get sets state ≡ Some set
+  pub to_path : (text : List ℕ) (state : ℕ) (set : List ℕ) → slice_get sets state ≡ Some set
       → IsText text → accepts_from made state text ≡ true
-      → (from : ℕ) × Contains set.items from × PathToFinal m from text
+      → (from : ℕ) × Contains set from × PathToFinal m from text
   to_path [] state set at bytes accepted = let found = (mark_here state set at).found accepted in
       (found.0, found.1, ends found.2)
   to_path (byte ∷ text) state set at bytes accepted =
@@ -82,24 +81,26 @@ module _ (m : Steps) (sets : List (Vec ℕ Global)) (c : Classing) (rows : List 
       (read.0, read.1, by_byte read.2 (after_silent m closed.0 text closed.2 later.2))
 
   -- A set accepts what a path from one of its states reads.
-  pub from_path : {text : List ℕ} {from : ℕ} (state : ℕ) (set : Vec ℕ Global)
-      → slice_get sets state ≡ Some set → IsText text → Contains set.items from
+  pub from_path : {text : List ℕ} {from : ℕ} (state : ℕ) (set : List ℕ)
+      → slice_get sets state ≡ Some set → IsText text → Contains set from
       → PathToFinal m from text → accepts_from made state text ≡ true
   from_path {from = from} state set at bytes has (ends final) = (mark_here state set at).none from has final
   from_path {from = from} state set at bytes has (silently {next = next} step path) =
-      from_path state set at bytes ((is.explored.proper state set at).closed from next has step) path
+      from_path state set at bytes ((is.table.rows.explored.proper state set at).closed from next has step) path
   from_path {from = from} state set at bytes has (by_byte {next = next} {byte = byte} step path) =
       let to = step_here state byte set at bytes.0 in
       from_path (next_state made state byte) to.0 to.1 bytes.1
       (to.2.closes.keeps next (to.2.reads.complete from next has step)) path
 
-  pub determined : (first : Vec ℕ Global) → IsClosure m m.starts first.items → slice_get sets 0 ≡ Some first
-      → AcceptsPathsOf m made
+  pub determined : AcceptsPathsOf m made
   unfolding accepts
-  determined first closure at text bytes = (
-    (λ accepted.
-        let path = to_path text 0 first at bytes accepted in
-        let closed = closure.sound path.0 path.1 in
-        record { start = closed.0; among = closed.1; path = after_silent m closed.0 text closed.2 path.2 }),
-    (λ path. from_path 0 first at bytes (closure.keeps path.start path.among) path.path),
-  )
+  determined text bytes =
+      let first = is.table.rows.first.0 in
+      let at = is.table.rows.first.1 in
+      let closure = is.table.rows.first.2 in (
+        (λ accepted.
+            let path = to_path text 0 first at bytes accepted in
+            let closed = closure.sound path.0 path.1 in
+            record { start = closed.0; among = closed.1; path = after_silent m closed.0 text closed.2 path.2 }),
+        (λ path. from_path 0 first at bytes (closure.keeps path.start path.among) path.path),
+      )

@@ -9,7 +9,7 @@ pub mod Tables
 pub mod Grouped
 pub mod Columns
 pub mod Pieces
-pub mod Rows
+pub mod Cells
 pub mod Pairs
 pub mod Nearest
 pub mod Outside
@@ -19,3 +19,5 @@ pub mod Replaced
 pub mod Merged
 pub mod Alone
 pub mod Found
+pub mod Growing
+pub mod Following

@@ -1,7 +1,7 @@
 -- Automata whose states with the same test are made one.
 use Rattle.hc_dfa.proofs.Common.{◌≡◌, ℕ, ◌<◌, List, length, slice_index, Bool, true, false, ◌&&◌, refl}
-use Rattle.hc_dfa.proofs.Common.{sym, ◌∙◌, ap, subst, arith, Some, slice_get, ◌≤◌, Vec, slice_get_within}
-use Rattle.hc_dfa.proofs.Common.{Global, Automaton, states, next_state, accepts, value_on, RespectsFinals, Refines}
+use Rattle.hc_dfa.proofs.Common.{sym, ◌∙◌, ap, subst, arith, Some, slice_get, ◌≤◌, slice_get_within}
+use Rattle.hc_dfa.proofs.Common.{Automaton, states, next_state, accepts, value_on, RespectsFinals, Refines}
 use Rattle.hc_dfa.proofs.Common.{IsStable, AreLeaders, IsSignature, Represents, Bounds, is_final, Accepts, product_of}
 use Rattle.hc_dfa.proofs.Common.{Both, Classing, AreClasses, Tells, class_of}
 use Rattle.hc_dfa.proofs.Runs.{IsAutomaton, next_within, simulated}
@@ -73,11 +73,11 @@ distances_tell a d blocks pairs bounds each s t sb tb same =
     same_answers false false to from = refl
 
 -- Each state's number is that of its signature.
-abbrev pub AreNumbered : Automaton → List ℕ → List ℕ → List (Vec ℕ Global) → ℕ → ℕ → Type 0
-AreNumbered a bytes blocks signatures state number = (signature : Vec ℕ Global)
-    × (slice_get signatures number ≡ Some signature) × IsSignature a bytes blocks state signature.items
+abbrev pub AreNumbered : Automaton → List ℕ → List ℕ → List (List ℕ) → ℕ → ℕ → Type 0
+AreNumbered a bytes blocks signatures state number = (signature : List ℕ)
+    × (slice_get signatures number ≡ Some signature) × IsSignature a bytes blocks state signature
 
-pub refines : (a : Automaton) (bytes blocks finer : List ℕ) (signatures : List (Vec ℕ Global))
+pub refines : (a : Automaton) (bytes blocks finer : List ℕ) (signatures : List (List ℕ))
     → Represents a bytes → length finer ≡ states a → length signatures ≤ states a
     → ((s : ℕ) → s < states a → AreNumbered a bytes blocks signatures s (slice_index finer s))
     → Refines a blocks finer
@@ -86,12 +86,12 @@ refines a bytes blocks finer signatures represents len few each = record {
   bound = λ s sb. let e = each s sb in let w = slice_get_within signatures (slice_index finer s) e.0 e.1 in
       omega arith;
   own = λ s t sb tb same. sym (each s sb).2.block
-      ∙ (ap (λ (v : Vec ℕ Global). slice_index v.items (length bytes)) (one s t sb tb same)
+      ∙ (ap (λ (v : List ℕ). slice_index v (length bytes)) (one s t sb tb same)
       ∙ (each t tb).2.block);
   steps = λ s t byte sb tb same b.
       let r = represents byte b in
       ap (λ (x : ℕ). slice_index blocks x) (r.2 s sb) ∙ (sym ((each s sb).2.steps r.0 r.1)
-      ∙ (ap (λ (v : Vec ℕ Global). slice_index v.items r.0) (one s t sb tb same)
+      ∙ (ap (λ (v : List ℕ). slice_index v r.0) (one s t sb tb same)
       ∙ ((each t tb).2.steps r.0 r.1 ∙ ap (λ (x : ℕ). slice_index blocks x) (sym (r.2 t tb)))));
 }
   where

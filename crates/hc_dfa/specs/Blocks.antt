@@ -1,6 +1,5 @@
 -- Partitions of an automaton's states into blocks.
-use Rattle.std.specs.Prelude.{◌≡◌, ℕ, ◌<◌, List, length, slice_index, Vec}
-use Rattle.std.specs.declared.alloc.Global.{Global}
+use Rattle.std.specs.Prelude.{◌≡◌, ℕ, ◌<◌, List, length, slice_index}
 use Rattle.hc_dfa.specs.Automata.{Automaton, states, next_state, is_final, value_on}
 
 -- The states of one block are all final, or none is.
@@ -49,7 +48,3 @@ pub record AreLeaders (count : ℕ) (blocks leaders : List ℕ) : Type 0 where
   pub bound : (block : ℕ) → block < count → slice_index leaders block < count
   pub block : (s : ℕ) → s < count → slice_index blocks (slice_index leaders (slice_index blocks s))
       ≡ slice_index blocks s
-
--- Two vectors have the same numbers.
-abbrev pub IsSameList : Vec ℕ Global → Vec ℕ Global → Type 0
-IsSameList list other = list.items ≡ other.items

@@ -1,5 +1,6 @@
 -- Machines whose steps read a byte or are silent, and may lead from a state to many.
-use Rattle.std.specs.Prelude.{◌≡◌, ℕ, ◌<◌, ◌≤◌, ◌^◌, ◌↔◌, IsTrue, List, [], ◌∷◌}
+use Rattle.std.specs.Prelude.{◌≡◌, ℕ, ◌+◌, ◌<◌, ◌≤◌, ◌^◌, ◌⊎◌, ◌↔◌, IsTrue, List}
+use Rattle.std.specs.Prelude.{[], ◌∷◌, Option, None, Some}
 use Rattle.std.specs.List.{All, Contains}
 use Rattle.hc_dfa.specs.Automata.{Automaton, accepts}
 use Rattle.hc_dfa.specs.Texts.{IsText}
@@ -41,6 +42,23 @@ pub record IsSilent (m : Steps) (from to : ℕ) : Type 0 where
   pub among : Contains m.silent step
   pub leaves : step.from ≡ from
   pub enters : step.to ≡ to
+
+-- A step of the machine, past a byte or none.
+abbrev pub HasStep : Steps → ℕ → Option ℕ → ℕ → Type 0
+HasStep m from None to = IsSilent m from to
+HasStep m from (Some byte) to = Reads m from byte to
+
+-- The second machine is the first with a step.
+pub record AddsStep (m n : Steps) (from : ℕ) (byte : Option ℕ) (to : ℕ) : Type 0 where
+  pub same : n ≡ record m { reading = n.reading; silent = n.silent }
+  pub keeps : (i : ℕ) (b : Option ℕ) (j : ℕ) → HasStep m i b j → HasStep n i b j
+  pub adds : HasStep n from byte to
+  pub only : (i : ℕ) (b : Option ℕ) (j : ℕ) → HasStep n i b j → HasStep m i b j
+      ⊎ ((i ≡ from) × (b ≡ byte) × (j ≡ to))
+
+-- The byte behind the last one of the step leads as the step does.
+abbrev pub GoesOn : ReadingStep → ℕ → ℕ → ℕ → Type 0
+GoesOn step from byte to = (step.from ≡ from) × (step.high + 1 ≡ byte) × (step.to ≡ to) × (step.low ≤ byte)
 
 -- A path from a state to a final one: its silent steps read nothing, its reading steps the text.
 pub data PathToFinal (m : Steps) : ℕ → List ℕ → Type 0 where

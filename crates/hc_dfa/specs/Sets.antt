@@ -1,10 +1,8 @@
 -- Sets of a machine's states, as lists.
 use Rattle.std.specs.Prelude.{◌≡◌, ℕ, ◌+◌, ◌<◌, ◌≤◌, ◌⊎◌, List, length, map, slice_index}
-use Rattle.std.specs.Prelude.{slice_index_or, Bool, true, false, slice_get, Option, None, Some, Vec}
+use Rattle.std.specs.Prelude.{slice_index_or, Bool, true, false, Option, None, Some}
 use Rattle.std.specs.List.{All, Contains}
-use Rattle.std.specs.declared.alloc.Global.{Global}
 use Rattle.hc_dfa.specs.Classings.{Classing, class_of}
-use Rattle.hc_dfa.specs.Explored.{Explored}
 use Rattle.hc_dfa.specs.Machines.{Steps, Reads, IsSilent}
 use Rattle.hc_dfa.specs.declared.machine.ReadingStep.{ReadingStep}
 use Rattle.hc_dfa.specs.declared.machine.SilentStep.{SilentStep}
@@ -89,11 +87,12 @@ AreReadingSpans m spans = AreSpans m.states (map (λ (step : ReadingStep). step.
 abbrev pub AreSilentSpans : Steps → Spans → Type 0
 AreSilentSpans m spans = AreSpans m.states (map (λ (step : SilentStep). step.from) m.silent) spans
 
--- Both, and a place for each state.
+-- Both, a place for each state, and whether it is final.
 pub record AreMoves (m : Steps) (moves : Moves) : Type 0 where
   pub reading : AreReadingSpans m moves.reading
   pub silent : AreSilentSpans m moves.silent
   pub places : length moves.places.items ≡ m.states
+  pub finals : IsSetOf m.states m.finals moves.finals.items
 
 -- What marking one reading step leaves.
 pub record Marks (step : ReadingStep) (changes more : List Bool) : Type 0 where
@@ -113,12 +112,6 @@ pub record IsMark (states : List ℕ) (set : List ℕ) (answer : Bool) : Type 0 
   pub found : answer ≡ true → (state : ℕ) × Contains set state × Contains states state
   pub none : (state : ℕ) → Contains set state → Contains states state → answer ≡ true
 
--- The copy of the set that stands at a place of the list; none past its end.
-abbrev pub IsSetAt : List (Vec ℕ Global) → ℕ → Option (Vec ℕ Global) → Type 0
-IsSetAt sets i None = length sets ≤ i
-IsSetAt sets i (Some set) = (stored : Vec ℕ Global) × (slice_get sets i ≡ Some stored)
-    × (stored.items ≡ set.items)
-
 -- Bytes with the same number have no change between them, nor at the later one.
 abbrev pub ArePieces : List Bool → ℕ → List ℕ → Type 0
 ArePieces changes count numbers =
@@ -130,9 +123,3 @@ abbrev pub TellsSteps : Steps → Classing → Type 0
 TellsSteps m c =
     (from to : List ℕ) (b d : ℕ) → b < 256 → d < 256 → class_of c b ≡ class_of c d → IsStep m from b to
     → IsStep m from d to
-
--- The rows made so far have an entry for each of these bytes.
-abbrev pub SetsExplored : Steps → List ℕ → List (Vec ℕ Global) → List ℕ → Type 0
-SetsExplored m bytes sets next =
-    Explored (length bytes) (λ set. IsProper m set.items)
-    (λ from k to. IsStep m from.items (slice_index bytes k) to.items) sets next

@@ -5,8 +5,8 @@ ghost use Rattle.hc_dfa.specs.Classings.{AreColumns, IsColumn, TellsByNumber};
 use crate::Dfa;
 use crate::classes::Classes;
 use crate::dfa::BYTES;
-use crate::numbers::number_of_list;
-use hc_base::NoMemory;
+use crate::numbers::number_of;
+use hc_base::{List, NoMemory};
 use indexmap::IndexSet;
 use std::alloc::Global;
 
@@ -48,16 +48,16 @@ fn column_numbers(alloc: Global, a: &Dfa, bytes: &[u8]) -> Result<Vec<u32>, NoMe
     let mut numbers = Vec::new(alloc);
     for byte in bytes {
         let column = column(alloc, a, *byte)?;
-        numbers.push(number_of_list(&mut columns, column)?)?;
+        numbers.push(number_of(&mut columns, column)?)?;
     }
     Ok(numbers)
 }
 
 /// Where a byte leads from each state.
-fn column(alloc: Global, a: &Dfa, byte: u8) -> Result<Vec<u32>, NoMemory>
-    ensures { IfOk result (λ column. IsColumn a.now byte column.items) }
+fn column(alloc: Global, a: &Dfa, byte: u8) -> Result<List<u32>, NoMemory>
+    ensures { IfOk result (IsColumn a.now byte) }
 {
-    let mut column = Vec::new(alloc);
+    let mut column = List::new(alloc);
     for state in 0..a.states() {
         column.push(a.next_state(state, byte))?;
     }

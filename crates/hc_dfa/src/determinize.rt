@@ -1,19 +1,17 @@
-ghost use Rattle.std.specs.Prelude.{◌≡◌, ℕ, ◌+◌, ◌*◌, ◌<◌, Some, slice_get, length, vec_len, IfOk};
-ghost use Rattle.std.specs.Prelude.{OnOk, Vec};
-ghost use Rattle.std.specs.declared.alloc.Global.{Global};
+ghost use Rattle.std.specs.Prelude.{◌≡◌, ℕ, IfOk, length, vec_len};
+ghost use Rattle.std.proofs.Common.{sym};
+ghost use Rattle.std.specs.Cmp.Lexicographic.{same_text};
 ghost use Rattle.hc_dfa.specs.Classings.{AreClasses};
-ghost use Rattle.hc_dfa.specs.Explored.{Extends};
 ghost use Rattle.hc_dfa.specs.Machines.{AcceptsPathsOf};
-ghost use Rattle.hc_dfa.specs.Sets.{AreMoves, ArePieces, AreStates, IsClosure, IsSetAt, SetsExplored, TellsSteps};
+ghost use Rattle.hc_dfa.specs.Sets.{AreMoves, ArePieces, AreStates, IsClosure, IsMark, IsProper, IsStep, TellsSteps};
 
 use crate::classes::Classes;
 use crate::coarse::coarsened;
 use crate::dfa::BYTES;
-use crate::numbers::number_of_list;
-use crate::subsets::{Moves, changes_of, has_marked, set_of};
+use crate::rows::{Rows, table_of};
+use crate::subsets::{Moves, changes_of, has_marked};
 use crate::{Dfa, Machine};
-use hc_base::NoMemory;
-use indexmap::IndexSet;
+use hc_base::{List, NoMemory};
 use std::alloc::Global;
 
 impl Machine {
@@ -23,83 +21,65 @@ impl Machine {
         ensures { IfOk result (AcceptsPathsOf self.now) }
     {
         let classes = alike_bytes(alloc, self)?;
-        let mut sets = IndexSet::new(alloc);
         let mut moves = Moves::new(alloc, self)?;
-        let marks = set_of(alloc, self.states(), self.finals())?;
-        let starts = start_set(alloc, self, &mut moves)?;
-        number_of_list(&mut sets, starts)?;
-        let mut next = Vec::new(alloc);
-        let mut finals = Vec::new(alloc);
-        for state in 0..u32::MAX {
-            let Some(set) = set_at(alloc, &sets, state)? else {
-                let smaller = coarsened(alloc, &Dfa::made(classes, next, finals))?;
-                return Ok(smaller);
-            };
-            add_set_row(
-                &mut next,
-                &mut sets,
-                &mut moves,
-                self,
-                classes.firsts(),
-                &set,
-            )?;
-            finals.push(has_marked(&set, &marks))?;
-        }
-        Err(NoMemory)
+        let first = start_set(alloc, self, &mut moves)?;
+        let sets = Sets { machine: self };
+        let table = table_of(alloc, &sets, moves, classes.firsts(), first)?;
+        let smaller = coarsened(alloc, &Dfa::made(classes, table.next, table.finals))?;
+        Ok(smaller)
     }
 }
 
 /// The set of the starts and of what silent steps lead to from them.
-fn start_set(alloc: Global, machine: &Machine, moves: &mut Moves) -> Result<Vec<u32>, NoMemory>
+fn start_set(alloc: Global, machine: &Machine, moves: &mut Moves) -> Result<List<u32>, NoMemory>
     requires { AreMoves machine.now moves.old }
     ensures moves { AreMoves machine.now moves.new }
-    ensures states { IfOk result (λ set. AreStates machine.now set.items) }
-    ensures closure { IfOk result (λ set. IsClosure machine.now machine.now.starts set.items) }
+    ensures states { IfOk result (AreStates machine.now) }
+    ensures closure { IfOk result (IsClosure machine.now machine.now.starts) }
 {
     let _ = machine.states();
     let starts = machine.starts().to_vec(alloc)?;
-    moves.close(machine, starts)
+    let closure = moves.close(machine, starts)?;
+    Ok(List::from(closure))
 }
 
-/// A copy of the set of a state.
-fn set_at(
-    alloc: Global,
-    sets: &IndexSet<Vec<u32>>,
-    state: u32,
-) -> Result<Option<Vec<u32>>, NoMemory>
-    ensures { IfOk result (IsSetAt sets.now.keys state) }
-{
-    match sets.get_index(state as usize) {
-        None => Ok(None),
-        Some(set) => Ok(Some(set.as_slice().to_vec(alloc)?)),
-    }
+/// Sets of a machine's states.
+#[derive(Clone, Copy)]
+struct Sets<'a> {
+    machine: &'a Machine,
 }
 
-/// Adds the row of a set of states, with an entry for each of the bytes, and the sets that it meets.
-fn add_set_row(
-    next: &mut Vec<u32>,
-    sets: &mut IndexSet<Vec<u32>>,
-    moves: &mut Moves,
-    machine: &Machine,
-    bytes: &[u8],
-    set: &[u32],
-) -> Result<(), NoMemory>
-    requires explored { SetsExplored machine.now bytes.now sets.old.keys next.old.items }
-    requires moves { AreMoves machine.now moves.old }
-    requires states { AreStates machine.now set.now }
-    requires row { (row : ℕ) × (stored : Vec ℕ Global) × (slice_get sets.old.keys row ≡ Some stored)
-        × (stored.items ≡ set.now) × (vec_len next.old ≡ row * length bytes.now) }
-    ensures explored { OnOk result (SetsExplored machine.now bytes.now sets.new.keys next.new.items) }
-    ensures moves { AreMoves machine.now moves.new }
-    ensures len { OnOk result (vec_len next.new ≡ vec_len next.old + length bytes.now) }
-    ensures extends { OnOk result (Extends sets.old.keys sets.new.keys) }
-{
-    for byte in bytes {
-        let found = moves.read(machine, set, *byte)?;
-        let target = moves.close(machine, found)?;
-        next.push(number_of_list(sets, target)?)?;
+impl<'a> Rows for Sets<'a> {
+    type Key = List<u32>;
+
+    type Scratch = Moves;
+
+    ghost begins = { λ sets. IsClosure sets.machine.now sets.machine.now.starts };
+
+    ghost is_key = { λ sets. IsProper sets.machine.now };
+
+    ghost leads = { λ sets. IsStep sets.machine.now };
+
+    ghost marks = { λ sets. IsMark sets.machine.now.finals };
+
+    ghost fits = { λ sets. AreMoves sets.machine.now };
+
+    fn next(&self, moves: &mut Moves, set: &List<u32>, byte: u8) -> Result<List<u32>, NoMemory> {
+        let found = moves.read(self.machine, set.as_slice(), byte)?;
+        let closure = moves.close(self.machine, found)?;
+        Ok(List::from(closure))
     }
-    Ok(())
+
+    fn is_final(&self, moves: &Moves, set: &List<u32>) -> bool {
+        has_marked(set.as_slice(), &moves.finals)
+    }
+
+    fn copy(&self, set: &List<u32>) -> Result<List<u32>, NoMemory> {
+        let copy = set.copy()?;
+        Ok(copy)
+    }
+
+    ghost same = { λ x y same. same_text x y (sym same) };
 }
 
 /// Classes of bytes that no reading step tells apart.

@@ -1,10 +1,11 @@
-ghost use Rattle.std.specs.Prelude.{◌≡◌, ◌<◌, [], ◌∷◌, IfOk, OnOk};
+ghost use Rattle.std.specs.Prelude.{◌<◌, IfOk};
 ghost use Rattle.hc_dfa.specs.Automata.{states};
 ghost use Rattle.hc_dfa.specs.Built.{AcceptsImages};
-ghost use Rattle.hc_dfa.specs.Images.{HasImageSteps, HasFinals, IsBare};
+ghost use Rattle.hc_dfa.specs.Images.{image_graph};
+ghost use Rattle.std.proofs.Common.{rules};
 
-use crate::dfa::BYTES;
-use crate::{Dfa, Machine, ReadingStep};
+use crate::graphs::automaton;
+use crate::{Choice, Dfa, Graph, Move};
 use hc_base::NoMemory;
 use std::alloc::Global;
 
@@ -12,42 +13,36 @@ use std::alloc::Global;
 pub fn byte_image(alloc: Global, set: &Dfa, table: &[u8; 256]) -> Result<Dfa, NoMemory>
     ensures { IfOk result (λ image. AcceptsImages set.now table.now image) }
 {
-    let mut machine = Machine::new(alloc, set.states());
-    machine.add_start(set.start())?;
-    add_steps(&mut machine, set, table)?;
-    add_finals(&mut machine, set)?;
-    let image = machine.determinize(alloc)?;
+    let image = automaton(alloc, &Image { set, table }, set.start())?;
     Ok(image)
 }
 
-/// Adds a step for each state and byte, by the byte's entry in the table.
-fn add_steps(machine: &mut Machine, set: &Dfa, table: &[u8; 256]) -> Result<(), NoMemory>
-    requires { IsBare set.now machine.old }
-    ensures { OnOk result (HasImageSteps set.now table.now machine.old machine.new) }
-{
-    for cell in 0..set.states() as usize * BYTES {
-        let from = (cell / BYTES) as u32;
-        let byte = (cell % BYTES) as u8;
-        machine.add_step(ReadingStep {
-            from,
-            low: table[byte as usize],
-            high: table[byte as usize],
-            to: set.next_state(from, byte),
-        })?;
-    }
-    Ok(())
+#[derive(Clone, Copy)]
+struct Image<'a> {
+    set: &'a Dfa,
+    table: &'a [u8; 256],
 }
 
-/// Makes the final states of the set final.
-fn add_finals(machine: &mut Machine, set: &Dfa) -> Result<(), NoMemory>
-    requires states { machine.old.states ≡ states set.now }
-    requires none { machine.old.finals ≡ [] }
-    ensures { OnOk result (HasFinals set.now machine.old machine.new) }
-{
-    for state in 0..set.states() {
-        if set.is_final(state) {
-            machine.add_final(state)?;
+impl<'a> Graph for Image<'a> {
+    type Key = u32;
+
+    ghost is_key = { λ image state. state < states image.set.now };
+
+    ghost graph = { λ image. image_graph image.set.now image.table.now };
+
+    fn step(&self, state: u32, choice: Choice) -> Option<Move<u32>> {
+        match choice {
+            Choice::Byte(byte) => Some(Move {
+                byte: Some(self.table[byte as usize]),
+                to: self.set.next_state(state, byte),
+            }),
+            _ => None,
         }
     }
-    Ok(())
+
+    fn is_final(&self, state: u32) -> bool {
+        self.set.is_final(state)
+    }
+
+    ghost same = { Prim.search rules };
 }

@@ -4,6 +4,7 @@ ghost use Rattle.hc_dfa.specs.Classings.{Classing, AreClasses, Tells};
 ghost use Rattle.hc_dfa.specs.Distances.{Bounds, Distances, IsFirstTo, IsNearest, IsSettled};
 ghost use Rattle.hc_dfa.specs.Texts.{IsLeastOf};
 
+use crate::settling::{Passes, settle};
 use crate::{Dfa, Member};
 use hc_base::NoMemory;
 use std::alloc::Global;
@@ -66,12 +67,25 @@ pub(crate) fn distances(alloc: Global, a: &Dfa) -> Result<Vec<u32>, NoMemory>
     ensures { IfOk result (λ found. Distances a.now found.items) }
 {
     let mut distances = at_finals(alloc, a)?;
-    for _pass in 0..u32::MAX {
-        if !bring_all_nearer(a, &mut distances) {
-            return Ok(distances);
-        }
+    settle(&Nearer { a }, &mut distances)?;
+    Ok(distances)
+}
+
+#[derive(Clone, Copy)]
+struct Nearer<'a> {
+    a: &'a Dfa,
+}
+
+impl<'a> Passes for Nearer<'a> {
+    type State = Vec<u32>;
+
+    ghost is_sound = { λ nearer distances. Bounds nearer.a.now distances.items };
+
+    ghost is_settled = { λ nearer distances. Distances nearer.a.now distances.items };
+
+    fn pass(&self, distances: &mut Vec<u32>) -> Result<bool, NoMemory> {
+        Ok(bring_all_nearer(self.a, distances))
     }
-    Err(NoMemory)
 }
 
 fn at_finals(alloc: Global, a: &Dfa) -> Result<Vec<u32>, NoMemory>

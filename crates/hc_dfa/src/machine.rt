@@ -1,6 +1,6 @@
 ghost use Rattle.std.specs.Prelude.{◌≡◌, ℕ, ◌+◌, ◌^◌, ◌<◌, [], ◌∷◌, ◌++◌, OnOk, OnErr};
-ghost use Rattle.std.specs.Prelude.{IfOk};
-ghost use Rattle.hc_dfa.specs.Machines.{IsMachine};
+ghost use Rattle.std.specs.Prelude.{IfOk, IsTrue, None, Some};
+ghost use Rattle.hc_dfa.specs.Machines.{IsMachine, AddsStep, GoesOn};
 
 use hc_base::NoMemory;
 use std::alloc::Global;
@@ -15,8 +15,20 @@ pub struct ReadingStep {
     pub to: u32,
 }
 
+impl ReadingStep {
+    /// The byte behind the last one leads as this step does.
+    fn goes_on(self, from: u32, byte: u8, to: u32) -> bool
+        ensures { IsTrue result → GoesOn self from byte to }
+    {
+        self.from == from
+            && self.to == to
+            && self.low <= byte
+            && u16::from(self.high) + 1 == u16::from(byte)
+    }
+}
+
 /// A step from a state to a state that reads nothing.
-#[derive(Clone, Copy, Drop)]
+#[derive(Clone, Copy, Drop, PartialEq, Eq)]
 pub struct SilentStep {
     pub from: u32,
     pub to: u32,
@@ -93,6 +105,58 @@ impl Machine {
     {
         self.silent.push(step)?;
         Ok(())
+    }
+
+    /// Adds a step past a byte or past none. One that goes on where the last step ends becomes a part of it.
+    pub fn add_move(&mut self, from: u32, byte: Option<u8>, to: u32) -> Result<(), NoMemory>
+        requires from { from < self.old.states }
+        requires to { to < self.old.states }
+        ensures { OnOk result (AddsStep self.old self.new from byte to) }
+    {
+        match byte {
+            None => self.pass(SilentStep { from, to }),
+            Some(byte) => self.read(from, byte, to),
+        }
+    }
+
+    fn pass(&mut self, step: SilentStep) -> Result<(), NoMemory>
+        requires from { step.from < self.old.states }
+        requires to { step.to < self.old.states }
+        ensures { OnOk result (AddsStep self.old self.new step.from None step.to) }
+    {
+        if self.silent.last().copied() == Some(step) {
+            return Ok(());
+        }
+        self.add_silent(step)
+    }
+
+    fn read(&mut self, from: u32, byte: u8, to: u32) -> Result<(), NoMemory>
+        requires from { from < self.old.states }
+        requires to { to < self.old.states }
+        ensures { OnOk result (AddsStep self.old self.new from (Some byte) to) }
+    {
+        let Some(last) = self.reading.last().copied() else {
+            return self.read_alone(from, byte, to);
+        };
+        if !last.goes_on(from, byte, to) {
+            return self.read_alone(from, byte, to);
+        }
+        let place = self.reading.len() - 1;
+        self.reading[place] = ReadingStep { high: byte, ..last };
+        Ok(())
+    }
+
+    fn read_alone(&mut self, from: u32, byte: u8, to: u32) -> Result<(), NoMemory>
+        requires from { from < self.old.states }
+        requires to { to < self.old.states }
+        ensures { OnOk result (AddsStep self.old self.new from (Some byte) to) }
+    {
+        self.add_step(ReadingStep {
+            from,
+            low: byte,
+            high: byte,
+            to,
+        })
     }
 
     /// Makes a state a start.

@@ -1,6 +1,5 @@
 ghost use Rattle.std.specs.Prelude.{◌≡◌, true, IfOk};
-ghost use Rattle.hc_dfa.specs.Blocks.{IsSameList};
-ghost use Rattle.hc_dfa.specs.Explored.{IsMet, IsOne};
+ghost use Rattle.hc_dfa.specs.Explored.{IsMet};
 
 use hc_base::NoMemory;
 use indexmap::IndexSet;
@@ -9,20 +8,9 @@ use std::hash::Hash;
 /// The number of a key: its place among the keys, in the order in which they were first met.
 pub fn number_of<K: Eq + Hash + Drop>(keys: &mut IndexSet<K>, key: K) -> Result<u32, NoMemory>
     requires { (x y : K) → K.eq x y ≡ true → x ≡ y }
-    ensures { IfOk result (λ number. IsMet IsOne keys.old.keys key keys.new.keys number) }
+    ensures { IfOk result (λ number. IsMet keys.old.keys key keys.new.keys number) }
 {
     let (index, _) = keys.insert_full(key)?;
-    match u32::try_from(index) {
-        Ok(number) => Ok(number),
-        Err(_) => Err(NoMemory),
-    }
-}
-
-/// The same for lists of numbers.
-pub fn number_of_list(lists: &mut IndexSet<Vec<u32>>, list: Vec<u32>) -> Result<u32, NoMemory>
-    ensures { IfOk result (λ number. IsMet IsSameList lists.old.keys list lists.new.keys number) }
-{
-    let (index, _) = lists.insert_full(list)?;
     match u32::try_from(index) {
         Ok(number) => Ok(number),
         Err(_) => Err(NoMemory),

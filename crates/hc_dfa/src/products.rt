@@ -1,16 +1,14 @@
-ghost use Rattle.std.specs.Prelude.{◌≡◌, ℕ, ◌+◌, ◌*◌, ◌<◌, Some, slice_get, length, vec_len, IfOk};
-ghost use Rattle.std.specs.Prelude.{OnOk};
-ghost use Rattle.hc_dfa.specs.Automata.{accepts, IsTable};
+ghost use Rattle.std.specs.Prelude.{◌≡◌, IfOk};
+ghost use Rattle.std.proofs.Common.{rules};
+ghost use Rattle.hc_dfa.specs.Automata.{is_final};
 ghost use Rattle.hc_dfa.specs.Built.{Accepts, kept, product_of};
 ghost use Rattle.hc_dfa.specs.Classings.{AreClasses, Tells};
-ghost use Rattle.hc_dfa.specs.Explored.{Extends};
-ghost use Rattle.hc_dfa.specs.Pairs.{IsPair, PairsExplored};
+ghost use Rattle.hc_dfa.specs.Pairs.{IsPair, pair_step};
 
 use crate::Dfa;
 use crate::classes::Classes;
-use crate::numbers::number_of;
+use crate::rows::{Rows, table_of};
 use hc_base::NoMemory;
-use indexmap::IndexSet;
 use std::alloc::Global;
 
 /// What a product keeps: the texts of both sets, of either, or of the first that aren't in the second.
@@ -38,18 +36,9 @@ pub fn product(alloc: Global, a: &Dfa, b: &Dfa, keep: Keep) -> Result<Dfa, NoMem
     ensures { IfOk result (λ made. Accepts made (product_of keep a.now b.now)) }
 {
     let shared = shared_classes(alloc, a, b)?;
-    let mut pairs = IndexSet::new(alloc);
-    number_of(&mut pairs, (a.start(), b.start()))?;
-    let mut next = Vec::new(alloc);
-    let mut finals = Vec::new(alloc);
-    for state in 0..u32::MAX {
-        let Some(pair) = pairs.get_index(state as usize).copied() else {
-            return Ok(Dfa::made(shared, next, finals));
-        };
-        add_row(&mut next, &mut pairs, a, b, shared.firsts(), pair)?;
-        finals.push(keep.keeps(a.is_final(pair.0), b.is_final(pair.1)))?;
-    }
-    Err(NoMemory)
+    let first = (a.start(), b.start());
+    let table = table_of(alloc, &Pairs { a, b, keep }, (), shared.firsts(), first)?;
+    Ok(Dfa::made(shared, table.next, table.finals))
 }
 
 /// Classes of bytes that neither automaton tells apart.
@@ -63,25 +52,44 @@ fn shared_classes(alloc: Global, a: &Dfa, b: &Dfa) -> Result<Classes, NoMemory>
     Ok(shared)
 }
 
-/// Adds the row of a pair of states, with an entry for each of the bytes, and the pairs that it meets.
-fn add_row(
-    next: &mut Vec<u32>,
-    pairs: &mut IndexSet<(u32, u32)>,
-    a: &Dfa,
-    b: &Dfa,
-    bytes: &[u8],
-    pair: (u32, u32),
-) -> Result<(), NoMemory>
-    requires explored { PairsExplored a.now b.now bytes.now pairs.old.keys next.old.items }
-    requires row { (row : ℕ) × (slice_get pairs.old.keys row ≡ Some pair)
-        × (vec_len next.old ≡ row * length bytes.now) }
-    ensures explored { OnOk result (PairsExplored a.now b.now bytes.now pairs.new.keys next.new.items) }
-    ensures len { OnOk result (vec_len next.new ≡ vec_len next.old + length bytes.now) }
-    ensures extends { OnOk result (Extends pairs.old.keys pairs.new.keys) }
-{
-    for byte in bytes {
-        let target = (a.next_state(pair.0, *byte), b.next_state(pair.1, *byte));
-        next.push(number_of(pairs, target)?)?;
+#[derive(Clone, Copy)]
+struct Pairs<'a> {
+    a: &'a Dfa,
+    b: &'a Dfa,
+    keep: Keep,
+}
+
+impl<'a> Rows for Pairs<'a> {
+    type Key = (u32, u32);
+
+    type Scratch = ();
+
+    ghost begins = { λ pairs pair. pair ≡ (0, 0) };
+
+    ghost is_key = { λ pairs pair. IsPair pairs.a.now pairs.b.now pair };
+
+    ghost leads = { λ pairs pair byte to. to ≡ pair_step pairs.a.now pairs.b.now pair byte };
+
+    ghost marks = { λ pairs pair answer.
+        answer ≡ kept pairs.keep (is_final pairs.a.now pair.0) (is_final pairs.b.now pair.1) };
+
+    ghost fits = { λ pairs scratch. Unit {0} };
+
+    fn next(&self, _: &mut (), pair: &(u32, u32), byte: u8) -> Result<(u32, u32), NoMemory> {
+        Ok((
+            self.a.next_state(pair.0, byte),
+            self.b.next_state(pair.1, byte),
+        ))
     }
-    Ok(())
+
+    fn is_final(&self, _: &(), pair: &(u32, u32)) -> bool {
+        self.keep
+            .keeps(self.a.is_final(pair.0), self.b.is_final(pair.1))
+    }
+
+    fn copy(&self, pair: &(u32, u32)) -> Result<(u32, u32), NoMemory> {
+        Ok(*pair)
+    }
+
+    ghost same = { Prim.search rules };
 }

@@ -6,9 +6,10 @@ ghost use Rattle.hc_dfa.specs.Built.{Accepts};
 use crate::coarse::coarsened;
 use crate::dfa::{complement, led};
 use crate::leasts::distances;
-use crate::numbers::{number_of, number_of_list};
+use crate::numbers::number_of;
+use crate::settling::{Passes, settle};
 use crate::{Dfa, Keep, product};
-use hc_base::NoMemory;
+use hc_base::{List, NoMemory};
 use indexmap::IndexSet;
 use std::alloc::Global;
 
@@ -57,14 +58,31 @@ fn stable_blocks(alloc: Global, a: &Dfa) -> Result<Vec<u32>, NoMemory>
 {
     let bytes = a.classes().firsts();
     let mut blocks = by_distances(alloc, a)?;
-    for _round in 0..u32::MAX {
-        let finer = refine(alloc, a, bytes, &blocks)?;
-        if finer == blocks {
-            return Ok(finer);
-        }
-        blocks = finer;
+    settle(&Finer { alloc, a, bytes }, &mut blocks)?;
+    Ok(blocks)
+}
+
+#[derive(Drop)]
+struct Finer<'a> {
+    alloc: Global,
+    a: &'a Dfa,
+    bytes: &'a [u8],
+}
+
+impl<'a> Passes for Finer<'a> {
+    type State = Vec<u32>;
+
+    ghost is_sound = { λ finer blocks. Represents finer.a.now finer.bytes.now
+        × (length blocks.items ≡ states finer.a.now) × RespectsFinals finer.a.now blocks.items };
+
+    ghost is_settled = { λ finer blocks. IsStable finer.a.now blocks.items };
+
+    fn pass(&self, blocks: &mut Vec<u32>) -> Result<bool, NoMemory> {
+        let finer = refine(self.alloc, self.a, self.bytes, blocks)?;
+        let same = finer == *blocks;
+        *blocks = finer;
+        Ok(!same)
     }
-    Err(NoMemory)
 }
 
 /// States as far from a final state and from one that is not final: mostly few rounds are left then.
@@ -94,7 +112,7 @@ fn refine(alloc: Global, a: &Dfa, bytes: &[u8], blocks: &[u32]) -> Result<Vec<u3
     let mut finer = Vec::new(alloc);
     for state in 0..a.states() {
         let signature = signature(alloc, a, bytes, blocks, state)?;
-        finer.push(number_of_list(&mut signatures, signature)?)?;
+        finer.push(number_of(&mut signatures, signature)?)?;
     }
     Ok(finer)
 }
@@ -105,12 +123,12 @@ fn signature(
     bytes: &[u8],
     blocks: &[u32],
     state: u32,
-) -> Result<Vec<u32>, NoMemory>
+) -> Result<List<u32>, NoMemory>
     requires len { length blocks.now ≡ states a.now }
     requires state { state < states a.now }
-    ensures { IfOk result (λ signature. IsSignature a.now bytes.now blocks.now state signature.items) }
+    ensures { IfOk result (IsSignature a.now bytes.now blocks.now state) }
 {
-    let mut signature = Vec::new(alloc);
+    let mut signature = List::new(alloc);
     for byte in bytes {
         signature.push(blocks[a.next_state(state, *byte) as usize])?;
     }

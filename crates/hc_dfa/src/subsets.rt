@@ -22,14 +22,15 @@ pub fn set_of(alloc: Global, count: u32, states: &[u32]) -> Result<Vec<bool>, No
     Ok(set)
 }
 
-/// The steps of a machine by the states that they leave, and for each state the place at which it
-/// stood last in a set.
+/// The steps of a machine by the states that they leave, for each state the place at which it stood last
+/// in a set, and whether it is final.
 #[derive(Drop)]
 pub struct Moves {
     pub alloc: Global,
     pub reading: Spans,
     pub silent: Spans,
     pub places: Vec<usize>,
+    pub finals: Vec<bool>,
 }
 
 impl Moves {
@@ -40,11 +41,13 @@ impl Moves {
         let reading = reading_spans(alloc, machine)?;
         let silent = silent_spans(alloc, machine)?;
         let places = vec![in alloc; 0; machine.states() as usize]?;
+        let finals = set_of(alloc, machine.states(), machine.finals())?;
         Ok(Moves {
             alloc,
             reading,
             silent,
             places,
+            finals,
         })
     }
 

@@ -14,32 +14,20 @@ pub use Rattle.hc_base.specs.declared.place.Span.{Span}
 pub use Rattle.hc_dfa.proofs.Runs.{IsAutomaton, next_within}
 pub use Rattle.hc_dfa.specs.Automata.{Automaton, next_state, is_final, states, accepts_from, run}
 unfoldable pub use Rattle.hc_dfa.specs.Automata.{accepts}
-pub use Rattle.hc_dfa.specs.Explored.{Extends, IsMet, IsOne}
-pub use Rattle.hc_dfa.specs.Machines.{Steps, Reads, PathToFinal, AcceptsPathsOf, IsSilent}
+pub use Rattle.hc_dfa.specs.Explored.{Extends}
 pub use Rattle.hc_dfa.specs.Texts.{TextSet, IsText, IsLeastOf}
-pub use Rattle.hc_dfa.specs.declared.machine.ReadingStep.{ReadingStep}
-pub use Rattle.hc_dfa.specs.declared.machine.SilentStep.{SilentStep}
-pub use Rattle.hc_pat_lang.specs.Added.{IsMore, AddsReading, AddsSilent, AddsFinals, AddsStarts, IsRow, IsExit, IsFinal}
-pub use Rattle.hc_pat_lang.specs.Added.{LeadsOn}
 pub use Rattle.hc_pat_lang.specs.Found.{MayHold, IsGroupText, IsFound}
 pub use Rattle.hc_pat_lang.specs.Fragments.{Exists, point_at, Serves, KnowsEnds, KeepsEnd, KeepsEnds, IsBelow, IsReady}
 pub use Rattle.hc_pat_lang.specs.Fragments.{IsFragment, IsLooped, LeadsTo, KnowsEnd, TakesRest, AreTurns}
 pub use Rattle.hc_pat_lang.specs.Gates.{alone_gate, nowhere, nowhere_gate, finish_point, finish_gate, IsStep, IsFork}
 pub use Rattle.hc_pat_lang.specs.Gates.{IsJoin, anything}
-pub use Rattle.hc_pat_lang.specs.Led.{ends_at, LedToBelow, OnwardsBelow, LeadsOnwards, IsLedTo}
-pub use Rattle.hc_pat_lang.specs.Matching.{IsFull, LooksFor, first_nodes, IsRunOf, IsClassBelow, IsClass, IsByteBelow}
-pub use Rattle.hc_pat_lang.specs.Matching.{IsForkBelow, EndBelow, ReadsNode}
-pub use Rattle.hc_pat_lang.specs.Merging.{IsOther, IsOtherBelow, IsPass, IsPassBelow, IsSlash, IsSlashBelow}
+pub use Rattle.hc_pat_lang.specs.Matching.{IsFull, LooksFor, first_nodes}
+pub use Rattle.hc_pat_lang.specs.Graphs.{IsMarked, ReadsMarked, ReadsNode, byte_of, marks, unmarked}
 pub use Rattle.hc_pat_lang.specs.Nodes.{Takes, AreNodes}
 pub use Rattle.hc_pat_lang.specs.Sets.{AcceptsOnly, IsJoined, IsMerged, IsRest, IsFront}
 pub use Rattle.hc_pat_lang.specs.Turned.{leaves_out, part_ways, seen, step_by, chosen_any, chosen_behind, chosen_then}
 pub use Rattle.hc_pat_lang.specs.Turned.{chosen_up_to, chosen_ways, step_node, group_ways, seen_in, marked_byte}
 pub use Rattle.hc_pat_lang.specs.Turned.{plain_byte, chosen_repeated, has_turn}
-pub use Rattle.hc_pat_lang.specs.Walked.{IsMarked, byte_of, marks, unmarked, IsDone, Passes, PassesMarked, Place}
-pub use Rattle.hc_pat_lang.specs.Walked.{ReadsMarked, Sound, AddsPass, AddsRead, Grew, IsAlike, IsLast, IsPlace}
-pub use Rattle.hc_pat_lang.specs.Walked.{Reaches, Tied, Walks}
-pub use Rattle.hc_pat_lang.specs.Walked.Passes.{to_first, to_second, past_byte}
-pub use Rattle.hc_pat_lang.specs.Walked.PassesMarked.{past_marked}
 pub use Rattle.hc_pat_lang.specs.declared.gates.Gate.{Gate}
 pub use Rattle.hc_pat_lang.specs.declared.gates.GroupPart.{GroupPart}
 pub use Rattle.hc_pat_lang.specs.declared.gates.GroupPart.TheVariants.{Outside, Inside, Without}

@@ -1,128 +1,92 @@
--- The machine of a text of one automaton and then one of another.
-use Rattle.hc_pat_lang.proofs.Common.{◌≡◌, ℕ, ◌+◌, ◌<◌, ◌⊎◌, List, [], ◌∷◌, ◌++◌, true}
-use Rattle.hc_pat_lang.proofs.Common.{refl, sym, ap, subst, inl, inr, arith, Automaton, states, next_state, is_final}
-use Rattle.hc_pat_lang.proofs.Common.{accepts_from, accepts, Steps, PathToFinal, AcceptsPathsOf, IsText, SilentStep}
-use Rattle.hc_pat_lang.proofs.Common.{IsAutomaton, next_within, IsRow, IsExit, IsFinal, AcceptsOnly, IsJoined}
-use Rattle.hc_dfa.specs.Machines.PathToFinal.{ends, silently, by_byte}
-use Rattle.hc_pat_lang.proofs.Consisting.{Consists}
-use Rattle.hc_pat_lang.proofs.Tables.{row_here, final_here}
+-- The graph of a text of one automaton and then one of another.
+use Rattle.hc_pat_lang.proofs.Common.{◌≡◌, ℕ, List, [], ◌∷◌, ◌++◌, true, refl, sym, ap, subst}
+use Rattle.hc_pat_lang.proofs.Common.{Automaton, next_state, accepts_from, accepts, IsText, AcceptsOnly, IsJoined}
+use Rattle.hc_dfa.specs.Graphs.{Way, AcceptsWays}
+use Rattle.hc_dfa.specs.Graphs.Way.{ends, passes, reads}
+use Rattle.hc_dfa.specs.declared.graphs.Choice.{Choice}
+use Rattle.hc_dfa.specs.declared.graphs.Choice.TheVariants.{Byte, One, Other}
+use Rattle.hc_pat_lang.proofs.Moving.{if_move, same_read, never_passed}
+use Rattle.hc_pat_lang.specs.Graphs.{joined_graph, joined_moves, passing, reading}
+use Rattle.hc_pat_lang.specs.declared.joined.Side.{Side}
+use Rattle.hc_pat_lang.specs.declared.joined.Side.TheVariants.{First, Second}
 
--- What stands at a state of the first automaton, and at one of the second.
-module _ (a b : Automaton) (place : ℕ) where
-  first_passed : place < states a → (step : SilentStep) → step.from ≡ place → ⊥ ⊎ IsExit a (states a) step
-      → (is_final a place ≡ true) × (step.to ≡ states a)
-  first_passed s step leaves is = grind arith
+module _ (a b : Automaton) where
+  -- What a state of either automaton reads.
+  abbrev ReadBy : Side → List ℕ → Type 0
+  ReadBy (First state) text = IsJoined (accepts_from a state) (accepts_from b 0) text
+  ReadBy (Second state) text = accepts_from b state text ≡ true
 
-  first_read : (byte next : ℕ) → place < states a → (⊥ ⊎ IsRow a 0 place byte next)
-      ⊎ IsRow b (states a) place byte next → next ≡ next_state a place byte
-  first_read byte next s is = grind arith
-
-  second_ends : (state : ℕ) → place ≡ states a + state → ⊥ ⊎ IsFinal b (states a) place
-      → is_final b state ≡ true
-  second_ends state here is = grind arith
-
-  second_read : (state byte next : ℕ) → place ≡ states a + state → (⊥ ⊎ IsRow a 0 place byte next)
-      ⊎ IsRow b (states a) place byte next → next ≡ states a + next_state b state byte
-  second_read state byte next here is = grind arith
-
-module _ (a b : Automaton) (is_a : IsAutomaton a) (is_b : IsAutomaton b) (m : Steps)
-    (made : Consists m (λ from byte to. (⊥ ⊎ IsRow a 0 from byte to) ⊎ IsRow b (states a) from byte to)
-    (λ step. ⊥ ⊎ IsExit a (states a) step)
-    (λ state. ⊥ ⊎ IsFinal b (states a) state) (λ state. ⊥ ⊎ (0 ≡ state))) where
-  -- What a state of the first automaton reads.
-  record InFirst (state : ℕ) (text : List ℕ) : Type 0 where
-    pub front : List ℕ
-    pub back : List ℕ
-    pub begins : accepts_from a state front ≡ true
-    pub goes_on : accepts_from b 0 back ≡ true
-    pub joined : front ++ back ≡ text
-
-  to_second : {place : ℕ} {text : List ℕ} (state : ℕ) → state < states b → place ≡ states a + state
-      → IsText text → PathToFinal m place text → accepts_from b state text ≡ true
-  to_second {place = place} state s here bytes (ends final) = second_ends a b place state here
-      (made.finals.only place final)
-  to_second {place = place} state s here bytes (silently step path) = elim (made.silent.only step.step step.among) [
-    | inl none ↦ absurd none
-    | inr exit ↦ absurd (let l = exit.leaves.below in let h = exit.leaves.here in let f = step.leaves in omega arith)
-  ]
-  to_second {place = place} state s here bytes (by_byte {next = next} {byte = byte} reads path) =
-      to_second (next_state b state byte) (next_within b is_b state byte s bytes.0)
-      (second_read a b place state byte next here (made.reads place byte next reads)) bytes.1 path
-
-  to_first : {place : ℕ} {text : List ℕ} → place < states a → IsText text → PathToFinal m place text
-      → InFirst place text
-  to_first {place = place} s bytes (ends final) = elim (made.finals.only place final)
-      [ inl none ↦ absurd none | inr is ↦ absurd (let h = is.here in omega arith) ]
-  to_first {place = place} {text = text} s bytes (silently step path) =
-      let exit = first_passed a b place s step.step step.leaves (made.silent.only step.step step.among) in
+  passed : (side to : Side) (choice : Choice) (text : List ℕ) → joined_moves a b side choice ≡ passing to
+      → ReadBy to text → ReadBy side text
+  passed (First state) to One text move read =
+      let is = if_move _ _ _ move in
       record {
         front = [];
         back = text;
-        begins = exit.0;
-        goes_on = to_second 0 is_b.some (let e = exit.1 in let f = step.enters in omega arith) bytes path;
+        begins = is.0;
+        goes_on = subst (λ (side : Side). ReadBy side text) (sym is.2) read;
         joined = refl;
       }
-  to_first {place = place} s bytes (by_byte {next = next} {byte = byte} {text = text} reads path) =
-      let to = first_read a b place byte next s (made.reads place byte next reads) in
-      let later = to_first (rw to (next_within a is_a place byte s bytes.0)) bytes.1 path in
-      record {
-        front = byte ∷ later.front;
-        back = later.back;
-        begins = rw (← to) later.begins;
-        goes_on = later.goes_on;
-        joined = ap (λ (xs : List ℕ). byte ∷ xs) later.joined;
-      }
+  passed (First state) to (Byte byte) text move read = absurd (never_passed _ _ _ move)
+  passed (First state) to Other text move read = absurd (cc)
+  passed (Second state) to (Byte byte) text move read = absurd (never_passed _ _ _ move)
+  passed (Second state) to One text move read = absurd (cc)
+  passed (Second state) to Other text move read = absurd (cc)
 
-  second_path : (text : List ℕ) (state : ℕ) → state < states b → IsText text → accepts_from b state text
-      ≡ true → PathToFinal m (states a + state) text
-  second_path [] state s bytes member =
-      ends (made.finals.all (states a + state) (inr (final_here b (states a) state member s)))
-  second_path (byte ∷ text) state s bytes member =
-      by_byte (made.leads (states a + state) byte (states a + next_state b state byte)
-      (inr (row_here b (states a) state byte _ _ refl refl s bytes.0)))
-      (second_path text (next_state b state byte) (next_within b is_b state byte s bytes.0) bytes.1 member)
+  read : (side to : Side) (choice : Choice) (byte : ℕ) (text : List ℕ) → joined_moves a b side choice
+      ≡ reading byte to
+      → ReadBy to text → ReadBy side (byte ∷ text)
+  read (First state) to (Byte own) byte text move later =
+      let is = same_read _ _ _ _ move in
+      let joined : ReadBy (First (next_state a state own)) text =
+      subst (λ (side : Side). ReadBy side text) (sym is.1) later in
+      rw (← is.0) (record {
+        front = own ∷ joined.front;
+        back = joined.back;
+        begins = joined.begins;
+        goes_on = joined.goes_on;
+        joined = ap (λ (t : List ℕ). own ∷ t) joined.joined;
+      })
+  read (First state) to One byte text move later = absurd (let none = (if_move _ _ _ move).1 in cc)
+  read (First state) to Other byte text move later = absurd (cc)
+  read (Second state) to (Byte own) byte text move later =
+      let is = same_read _ _ _ _ move in
+      let accepted : ReadBy (Second (next_state b state own)) text =
+      subst (λ (side : Side). ReadBy side text) (sym is.1) later in
+      rw (← is.0) accepted
+  read (Second state) to One byte text move later = absurd (cc)
+  read (Second state) to Other byte text move later = absurd (cc)
 
-  first_path : (front back : List ℕ) (state : ℕ) → state < states a → IsText (front ++ back)
-      → accepts_from a state front ≡ true → accepts_from b 0 back ≡ true
-      → PathToFinal m state (front ++ back)
-  first_path [] back state s bytes final member =
-      let step : SilentStep = record { from = state; to = states a } in
-      let exit : IsExit a (states a) step =
-      record {
-        leaves = record { state = state; below = s; here = omega arith; final = final };
-        enters = refl;
-      } in
-      let start : states a + 0 ≡ states a = omega arith in
-      silently {next = states a}
-      (record { step = step; among = made.silent.all step (inr exit); leaves = refl; enters = refl })
-      (subst (λ (x : ℕ). PathToFinal m x back) start (second_path back 0 is_b.some bytes member))
-  first_path (byte ∷ front) back state s bytes final member =
-      by_byte (made.leads state byte (next_state a state byte)
-      (inl (inr (row_here a 0 state byte _ _ (omega arith) (omega arith) s bytes.0))))
-      (first_path front back (next_state a state byte) (next_within a is_a state byte s bytes.0) bytes.1 final member)
+  to_read : {side : Side} {text : List ℕ} → Way (joined_graph a b) side text → ReadBy side text
+  to_read {side = First state} (ends final) = absurd (cc)
+  to_read {side = Second state} (ends final) = final
+  to_read {side = side} {text = text} (passes {to = to} leads way) =
+      passed side to leads.choice text leads.move (to_read way)
+  to_read {side = side} (reads {to = to} {byte = byte} {text = text} leads way) =
+      read side to leads.choice byte text leads.move (to_read way)
 
-  pub joined_accepts : (automaton : Automaton) → AcceptsPathsOf m automaton
-      → AcceptsOnly (IsJoined (accepts a) (accepts b)) automaton
+  second_way : (text : List ℕ) (state : ℕ) → IsText text → accepts_from b state text ≡ true
+      → Way (joined_graph a b) (Second state) text
+  second_way [] state bytes member = ends member
+  second_way (byte ∷ text) state bytes member =
+      reads {to = Second (next_state b state byte)} (record { choice = Byte byte; is = bytes.0; move = refl })
+      (second_way text (next_state b state byte) bytes.1 member)
+
+  first_way : (front back : List ℕ) (state : ℕ) → IsText (front ++ back) → accepts_from a state front ≡ true
+      → accepts_from b 0 back ≡ true → Way (joined_graph a b) (First state) (front ++ back)
+  first_way [] back state bytes final member =
+      passes {to = Second 0} (record { choice = One; is = tt; move = rw final refl }) (second_way back 0 bytes member)
+  first_way (byte ∷ front) back state bytes begins member =
+      reads {to = First (next_state a state byte)} (record { choice = Byte byte; is = bytes.0; move = refl })
+      (first_way front back (next_state a state byte) bytes.1 begins member)
+
+  pub joined_accepts : (made : Automaton) → AcceptsWays (joined_graph a b) (First 0) made
+      → AcceptsOnly (IsJoined (accepts a) (accepts b)) made
   unfolding accepts
-  joined_accepts automaton same text bytes = (
-    (λ accepted.
-        let path = (same text bytes).0 accepted in
-        let start : 0 ≡ path.start =
-        elim (made.starts.only path.start path.among) [ inl none ↦ absurd none | inr e ↦ e ] in
-        let first = to_first (rw (← start) is_a.some) bytes path.path in
-        record {
-          front = first.front;
-          back = first.back;
-          begins = subst (λ (x : ℕ). accepts_from a x first.front ≡ true) (sym start) first.begins;
-          goes_on = first.goes_on;
-          joined = first.joined;
-        }),
+  joined_accepts made same text bytes = (
+    (λ accepted. to_read ((same text bytes).0 accepted)),
     (λ joined.
         let all : IsText (joined.front ++ joined.back) = subst IsText (sym joined.joined) bytes in
-        (same text bytes).1 (record {
-          start = 0;
-          among = made.starts.all 0 (inr refl);
-          path = subst (λ (t : List ℕ). PathToFinal m 0 t) joined.joined
-              (first_path joined.front joined.back 0 is_a.some all joined.begins joined.goes_on);
-        })),
+        (same text bytes).1
+        (rw (← joined.joined) (first_way joined.front joined.back 0 all joined.begins joined.goes_on))),
   )

@@ -1,13 +1,9 @@
 pub mod Sets
 pub mod Found
-pub mod Added
-pub mod Led
-pub mod Merging
 pub mod Nodes
 pub mod Turned
-pub mod Walked
 pub mod Gates
 pub mod Fragments
 pub mod Matching
 pub mod Laws
-pub mod Walks
+pub mod Graphs

@@ -6,7 +6,6 @@ ghost use Rattle.hc_pat_lang.specs.Sets.{AcceptsOnly};
 
 use crate::gates::{Gate, GroupPart};
 use crate::nodes::{Node, Nodes};
-use crate::table::automaton_of;
 use hc_base::NoMemory;
 use hc_dfa::Dfa;
 use hc_pattern::{ByteSet, Pat};
@@ -20,8 +19,7 @@ pub fn matched(alloc: Global, pat: &Pat) -> Result<Dfa, NoMemory>
     let mut nodes = Nodes::new(alloc, every)?;
     let entries = nodes.build(pat, GroupPart::Outside, Gate::anything())?;
     let start = nodes.look_for(every, entries)?;
-    let machine = nodes.machine(alloc, start)?;
-    let made = automaton_of(alloc, &machine)?;
+    let made = nodes.automaton(alloc, start)?;
     Ok(made)
 }
 

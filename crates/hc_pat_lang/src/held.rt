@@ -10,8 +10,6 @@ ghost use Rattle.hc_pat_lang.specs.Turned.{group_ways};
 use crate::finding::every_byte;
 use crate::gates::{Gate, GroupPart};
 use crate::nodes::Nodes;
-use crate::table::automaton_of;
-use crate::walk::marked_machine;
 use hc_base::NoMemory;
 use hc_dfa::Dfa;
 use hc_pattern::Pat;
@@ -27,8 +25,7 @@ pub fn group_texts(alloc: Global, pat: &Pat, set: &Dfa, number: u8) -> Result<Df
     let mut nodes = Nodes::new(alloc, every)?;
     let entries = nodes.build_group(pat, number)?;
     let start = nodes.look_for(every, entries)?;
-    let machine = marked_machine(alloc, &nodes, set, start)?;
-    let made = automaton_of(alloc, &machine)?;
+    let made = nodes.marked(alloc, set, start)?;
     Ok(made)
 }
 

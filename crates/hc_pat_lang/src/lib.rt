@@ -18,11 +18,8 @@ mod joined;
 pub mod laws;
 mod nodes;
 mod quotients;
-mod runs;
+mod reading;
 mod slashes;
-mod steps;
-mod table;
-mod walk;
 
 pub use finding::matched;
 pub use held::group_texts;

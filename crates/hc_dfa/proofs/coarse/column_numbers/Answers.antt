@@ -1,22 +1,18 @@
-use Rattle.hc_dfa.proofs.Common.{ℕ, List, slice_index, subst, arith, IsColumn}
+use Rattle.hc_dfa.proofs.Common.{arith}
 use Rattle.hc_dfa.proofs.Columns.{IsColumnOf, columns_made}
 use Rattle.hc_dfa.proofs.Nearest.{each_more}
 use Rattle.hc_dfa.proofs.coarse.column_numbers.Goals as goal
 
 pub loop-byte-preserved : goal.loop-byte-preserved
 loop-byte-preserved c =
-    let met = c.in_ok-number_of_list.ensures in
+    let met = c.in_ok-number_of.ensures in
     record {
       len = omega (arith, c.in_ok-push.ensures.len);
       each = rw c.in_ok-push.ensures.items
-          (each_more (IsColumnOf c.args.a.now c.args.bytes.now c.number_of_list.new.lists.keys)
-          c.loop-byte.numbers.items c.loop-byte.byte-index c.in_ok-number_of_list.field-0 (omega arith)
-          (λ k below. let old = c.loop-byte.invariant.each k below in (old.0, met.extends _ _ old.1, old.2)) (
-            met.to,
-            met.stored,
-            subst (λ (xs : List ℕ). IsColumn c.args.a.now (slice_index c.args.bytes.now c.loop-byte.byte-index) xs)
-                met.same c.in_ok-column.ensures,
-          ));
+          (each_more (IsColumnOf c.args.a.now c.args.bytes.now c.number_of.new.keys.keys)
+          c.loop-byte.numbers.items c.loop-byte.byte-index c.in_ok-number_of.field-0 (omega arith)
+          (λ k below. let old = c.loop-byte.invariant.each k below in (old.0, met.extends _ _ old.1, old.2))
+          (_, met.stored, c.in_ok-column.ensures));
     }
 
 pub returns : goal.returns

@@ -1,4 +1,4 @@
-use Rattle.hc_dfa.proofs.Common.{◌≡◌, ℕ, Some, slice_index, ap, sym, ◌∙◌, arith, common_steps}
+use Rattle.hc_dfa.proofs.Common.{◌≡◌, ℕ, Some, slice_index, ap, ◌∙◌, arith, common_steps}
 use Rattle.hc_dfa.proofs.Merged.{IsPaired, distances_tell}
 use Rattle.hc_dfa.proofs.Nearest.{each_more}
 use Rattle.hc_dfa.proofs.reduced.by_distances.Goals as goal
@@ -15,7 +15,7 @@ loop-state-preserved c =
           c.loop-state.state c.in_ok-number_of.field-0 (omega arith)
           (λ s below. let old = c.loop-state.invariant.each s below in (old.0, met.extends _ _ old.1)) (
             c.unwrap_or.result,
-            met.stored ∙ ap Some (sym met.same ∙ ap (λ (x : ℕ). (x, c.unwrap_or.result)) here),
+            met.stored ∙ ap Some (ap (λ (x : ℕ). (x, c.unwrap_or.result)) here),
           ));
     }
 

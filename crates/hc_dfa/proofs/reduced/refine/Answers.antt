@@ -1,4 +1,4 @@
-use Rattle.hc_dfa.proofs.Common.{ℕ, List, subst, arith, IsSignature}
+use Rattle.hc_dfa.proofs.Common.{arith}
 use Rattle.hc_dfa.proofs.Merged.{AreNumbered, refines}
 use Rattle.hc_dfa.proofs.Nearest.{each_more}
 use Rattle.hc_dfa.proofs.reduced.refine.Goals as goal
@@ -10,17 +10,13 @@ returns c = refines c.args.a.now c.args.bytes.now c.args.blocks.now c.loop-state
 
 pub loop-state-preserved : goal.loop-state-preserved
 loop-state-preserved c =
-    let met = c.in_ok-number_of_list.ensures in
+    let met = c.in_ok-number_of.ensures in
     record {
       len = omega (arith, c.in_ok-push.ensures.len);
       few = omega (arith, met.len);
       each = rw c.in_ok-push.ensures.items
-          (each_more (AreNumbered c.args.a.now c.args.bytes.now c.args.blocks.now c.number_of_list.new.lists.keys)
-          c.loop-state.finer.items c.loop-state.state c.in_ok-number_of_list.field-0 (omega arith)
-          (λ s below. let old = c.loop-state.invariant.each s below in (old.0, met.extends _ _ old.1, old.2)) (
-            met.to,
-            met.stored,
-            subst (λ (xs : List ℕ). IsSignature c.args.a.now c.args.bytes.now c.args.blocks.now c.loop-state.state
-                xs) met.same c.in_ok-signature.ensures,
-          ));
+          (each_more (AreNumbered c.args.a.now c.args.bytes.now c.args.blocks.now c.number_of.new.keys.keys)
+          c.loop-state.finer.items c.loop-state.state c.in_ok-number_of.field-0 (omega arith)
+          (λ s below. let old = c.loop-state.invariant.each s below in (old.0, met.extends _ _ old.1, old.2))
+          (_, met.stored, c.in_ok-signature.ensures));
     }

@@ -1,7 +1,10 @@
 use Rattle.hc_dfa.proofs.Merged.{firsts_represent}
 use Rattle.hc_dfa.proofs.reduced.stable_blocks.Goals as goal
 
-pub refine-requires-clause-bytes : goal.refine-requires-clause-bytes
-refine-requires-clause-bytes c =
-    rw c.firsts-bytes.ensures.value
-    (firsts_represent c.classes.result.now c.args.a.now c.classes.ensures.classes c.classes.ensures.tells)
+pub settle-requires : goal.settle-requires
+settle-requires c = (
+  rw c.firsts-bytes.ensures.value
+      (firsts_represent c.classes.result.now c.args.a.now c.classes.ensures.classes c.classes.ensures.tells),
+  c.in_ok-blocks.ensures.len,
+  c.in_ok-blocks.ensures.finals,
+)

@@ -1,11 +1,5 @@
-use Rattle.hc_pat_lang.proofs.Consisting.{consists_none, with_reading, with_finals, with_start}
-use Rattle.hc_pat_lang.proofs.Rests.{front_accepted}
+use Rattle.hc_pat_lang.proofs.Rests.{front_accepts}
 use Rattle.hc_pat_lang.proofs.quotients.suffix_quotient.Goals as goal
 
 pub returns : goal.returns
-returns c =
-    let bare = consists_none _ _ c.new-machine.ensures in
-    let table = with_reading _ _ _ _ _ _ bare _ c.in_ok-add_table.ensures in
-    let started = with_start _ _ _ _ _ _ table _ c.in_ok-add_start.ensures.ok in
-    let made = with_finals _ _ _ _ _ _ started _ c.in_ok-add_ends.ensures in
-    front_accepted c.args.set.now c.states.ensures.table _ _ c.in_ok-made.ensures c.args.by.now made
+returns c = front_accepts c.args.set.now c.args.by.now _ (rw c.start-2.ensures.value at c.in_ok-made.ensures)

@@ -1,7 +1,7 @@
 use Rattle.hc_dfa.proofs.Common.{◌≡◌, slice_get, slice_get_within, get_or_from_slice_get, Some, None, arith, sym}
 use Rattle.hc_dfa.proofs.Common.{◌∙◌}
 use Rattle.hc_dfa.proofs.Closures.{closing_done, closing_more}
-use Rattle.hc_dfa.proofs.Rows.{keys_ended}
+use Rattle.hc_dfa.proofs.Cells.{keys_ended}
 use Rattle.hc_dfa.proofs.subsets.Moves.close.Goals as goal
 
 pub returns-in_default-clause-closure : goal.returns-in_default-clause-closure
@@ -20,6 +20,7 @@ loop-place-preserved c =
         reading = c.loop-place.invariant.moves.reading;
         silent = c.loop-place.invariant.moves.silent;
         places = omega (arith, c.follow_from.ensures.places, c.loop-place.invariant.moves.places);
+        finals = c.loop-place.invariant.moves.finals;
       };
       states = c.in_ok-follow_from.ensures.states;
       closure = closing_more c.args.machine.now _ c.loop-place.closure.items _ c.loop-place.place c.in-Some.state

@@ -12,6 +12,7 @@ loop-state-preserved c =
         reading = c.loop-state.invariant.moves.reading;
         silent = c.loop-state.invariant.moves.silent;
         places = omega (arith, c.read_from.ensures.places, c.loop-state.invariant.moves.places);
+        finals = c.loop-state.invariant.moves.finals;
       };
       states = c.in_ok-read_from.ensures.states;
       found = gathers_more (ReadBelow c.args.machine.now c.args.set.now c.args.byte i)

@@ -1,0 +1,9 @@
+pub mod Authorizing
+pub mod Ends
+pub mod Mapping
+pub mod Naming
+pub mod Passing
+pub mod Restarting
+pub mod Sections
+pub mod Views
+pub mod Walks
