@@ -15,10 +15,10 @@ use std::marker::Model;
 
 /// A value, what it rests on, and the number of the last edit before it was kept.
 #[derive(Drop)]
-pub(crate) struct Kept<V> {
-    reads: List<Read>,
-    at: u64,
-    value: V,
+pub struct Kept<V> {
+    pub reads: List<Read>,
+    pub at: u64,
+    pub value: V,
 }
 
 /// Values by their keys, each with what it rests on, the oldest first and at most so many. They stand in a ring, so
@@ -100,8 +100,8 @@ impl<K: Eq + Hash + Drop, V: Drop> Cache<K, V> {
     }
 }
 
-// The value, while nothing that it rests on has changed.
-fn value_kept<'c, V>(kept: &'c Kept<V>, world: &World) -> Option<&'c V>
+/// The value, while nothing that it rests on has changed.
+pub fn value_kept<'c, V>(kept: &'c Kept<V>, world: &World) -> Option<&'c V>
     ensures { option_map (λ value. value.now) result ≡ value_kept world.now kept.now }
 {
     if is_current(world, kept.reads.as_slice(), kept.at) {

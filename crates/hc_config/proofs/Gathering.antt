@@ -18,7 +18,8 @@ use Rattle.hc_config.specs.declared.source.Source.{Source}
 use Rattle.hc_table.specs.declared.context.Context.{Context}
 use Rattle.hc_config.proofs.Places.{before_more, next_place}
 
-module _ (all rest : List Entry) (place : ℕ) (entry : Entry) (source : Source) (standing : Standing) (context : Context)
+module _ (all rest : List Entry) (place : ℕ) (entry : Entry) (source : Source) (standing : Standing)
+    (context : Context)
     (container : Option Container) (wild : Bool)
     (here : drop place all ≡ entry ∷ rest) (is_context : context ≡ context_of source standing)
     (is_container : container ≡ container_of standing) (is_wild : wild ≡ wild_of standing) where

@@ -3,3 +3,4 @@ pub mod Networks
 pub mod Gathering
 pub mod Closing
 pub mod Behind
+pub mod Smallest

@@ -15,4 +15,5 @@ pub mod Levels
 pub mod LevelViews
 pub mod Directives
 pub mod Rules
+pub mod Broken
 pub mod Configuration

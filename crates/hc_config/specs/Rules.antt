@@ -50,7 +50,9 @@ abbrev pub spelling_of : Wording → Spelling
 spelling_of Configuration = conf_spelling
 spelling_of Rewriting = rewrite_spelling
 
--- ---- what it gives, or the first rule that it breaks, in the order of their numbers
+-- ---- what it gives, or the rule that it is refused for
+
+-- Each rule is looked at only where it may be the smallest that is broken; that it is the smallest is Broken.antt.
 
 -- Where the words are not read, what rests on them is not looked at.
 abbrev pub if_read : Result (List (List ℕ)) AtByte → Giving → Among → Result Effect AtByte
@@ -122,7 +124,7 @@ stands_apart place kind among =
     (is_of_rewriting kind.meaning && is_apart place)
     || (is_of_directories kind.meaning && in_wild_directory place among)
 
--- The smaller number counts.
+-- The smaller number counts (Broken.antt).
 abbrev pub refused_behind : AtByte → Result Effect AtByte → Result Effect AtByte
 refused_behind broken (Ok effect) = Err broken
 refused_behind broken (Err earlier) = Err (lesser earlier broken)

@@ -43,7 +43,7 @@ abbrev pub is_forbidden : Source → DirectiveKind → Bool
 is_forbidden Configuration kind = false
 is_forbidden (Override allowed) kind = not (is_class_allowed allowed kind.class)
 
--- The smaller number counts.
+-- The smaller number counts (Broken.antt).
 abbrev pub unless_forbidden : {A : Type 0} → Bool → Result A AtByte → Result A AtByte
 unless_forbidden false answer = answer
 unless_forbidden true (Ok effect) = Err (rule OVERRIDE_NOT_ALLOWED)

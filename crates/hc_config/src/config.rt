@@ -28,7 +28,7 @@ pub type BuildFault = Fault<Refusal>;
 /// The configuration of a flat list (Apache manual, "Configuration Files").
 ///
 /// The last `DocumentRoot` counts (core), and every alias and redirect in its order (mod_alias). The first
-/// entry that breaks a rule is refused, by the rule with the smallest number; behind all entries
+/// entry that breaks a rule is refused, by the smallest (specs/Broken.antt); behind all entries
 /// what stopped the reading; and last a list without `DocumentRoot`, at line 0 of the file that
 /// reading began with. The order of refusals is our own choice.
 #[tactic(auto, unfolding(crate::specs::Configuration::built))]
@@ -43,7 +43,7 @@ pub fn build(alloc: Global, flat: &Flat) -> Result<Config, BuildFault>
 
 /// What stands in a `.htaccess` (Apache manual, ".htaccess files"), as in a section of its directory.
 ///
-/// The first entry that breaks a rule is refused, by the rule with the smallest number; and behind all
+/// The first entry that breaks a rule is refused, by the smallest (specs/Broken.antt); and behind all
 /// entries what stopped the reading. A directive has to be one that may stand in such a file, and its
 /// class allowed there (core, AllowOverride).
 #[tactic(auto, unfolding(crate::specs::Configuration::built_override))]

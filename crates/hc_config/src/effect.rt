@@ -32,7 +32,7 @@ pub(crate) enum Effect {
     Releases,
 }
 
-/// Why an entry gives nothing: the first rule that it breaks.
+/// Why an entry gives nothing: the smallest of the rules that it breaks (specs/Broken.antt).
 pub(crate) type EffectFault = Fault<AtByte>;
 
 pub(crate) const WRONG: AtByte = AtByte {

@@ -26,7 +26,7 @@ use hc_table::{
 };
 use std::alloc::Global;
 
-/// What an entry gives, or the first rule that it breaks.
+/// What an entry gives, or the smallest of the rules that it breaks (specs/Broken.antt).
 #[tactic(auto, unfolding(crate::specs::Rules::judged))]
 pub(crate) fn judge(among: &Among) -> Result<Effect, EffectFault>
     ensures { Gives result (judged among.now.source among.now.context (among_of among.now)) }

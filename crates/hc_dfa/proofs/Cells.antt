@@ -1,62 +1,16 @@
 -- Automata that are built row by row from keys.
 use Rattle.hc_dfa.proofs.Common.{◌≡◌, ℕ, ◌+◌, ◌*◌, ◌/◌, ◌%◌, ◌<◌, ◌≤◌, List, []}
 use Rattle.hc_dfa.proofs.Common.{◌∷◌, ◌++◌, length, get_or, Some, None, slice_get, slice_index, sym}
-use Rattle.hc_dfa.proofs.Common.{◌∙◌, ap, subst, arith, inl, inr, ◌⊎◌, Bool, true, false}
-use Rattle.hc_dfa.proofs.Common.{if◌then◌else◌, length-append, common_steps, div-mul-add, mod-mul-add}
-use Rattle.hc_dfa.proofs.Common.{get_or_append_left, list_any, get_or-append_seam, slice_get_within, slice_get-get_or}
-use Rattle.hc_dfa.proofs.Common.{add-mul, slice_get_cases, get_or_from_slice_get, Classing, AreClasses, IsRows}
+use Rattle.hc_dfa.proofs.Common.{◌∙◌, ap, subst, arith, inl, inr, ◌⊎◌, Bool, false}
+use Rattle.hc_dfa.proofs.Common.{length-append, common_steps, div-mul-add, mod-mul-add}
+use Rattle.hc_dfa.proofs.Common.{get_or_append_left, get_or-append_seam, slice_get_within, slice_get-get_or}
+use Rattle.hc_dfa.proofs.Common.{add-mul, slice_get_cases, Classing, AreClasses, IsRows}
 use Rattle.hc_dfa.specs.Explored.{Extends, IsMet, Leads, Explored, AreMarked, AreRows, IsTableOf, RowsExplored}
-use Rattle.indexmap.specs.IndexSet.{insert_key}
 
 -- Where no key stands, the keys have ended.
 pub keys_ended : {K : Type 0} (keys : List K) (i : ℕ) → slice_get keys i ≡ None → length keys ≤ i
 keys_ended keys i none =
     elim (slice_get_cases keys i).1 [ inl here ↦ (let found = here.2 in absurd (cc)) | inr past ↦ past.0 ]
-
--- A key that a set of keys took in.
-pub met_inserted : {K : Type 0} (eq : K → K → Bool) → ((x y : K) → eq x y ≡ true → x ≡ y)
-    → (keys : List K) (key : K) (more : List K) (number : ℕ)
-    → more ≡ insert_key eq keys key → (k : K) × (slice_get more number ≡ Some k) × (eq key k ≡ true)
-    → IsMet keys key more number
-met_inserted {K} eq law keys key more number inserted stored =
-    record {
-      stored = stored.1 ∙ ap Some (sym (law key stored.0 stored.2));
-      longer = longer (list_any (eq key) keys) inserted;
-      len = len (list_any (eq key) keys) inserted;
-      extends = λ i k at. extends (list_any (eq key) keys) inserted i k at;
-      only = λ i k at. only (list_any (eq key) keys) inserted i k at;
-    }
-  where
-    longer : (had : Bool) → more ≡ (if had then keys else keys ++ key ∷ []) → length keys ≤ length more
-    longer true e = rw e (omega arith)
-    longer false e = rw (e, length-append) (omega arith)
-
-    len : (had : Bool) → more ≡ (if had then keys else keys ++ key ∷ []) → length more ≤ length keys + 1
-    len true e = rw e (omega arith)
-    len false e = rw (e, length-append) (omega arith)
-
-    extends : (had : Bool) → more ≡ (if had then keys else keys ++ key ∷ []) → Extends keys more
-    extends true e i k at = rw e at
-    extends false e i k at =
-        let within = slice_get_within keys i k at in
-        rw e (slice_get-get_or (keys ++ key ∷ []) i k (omega (arith, length-append keys (key ∷ [])))
-        ∙ (ap Some (get_or_append_left keys (key ∷ []) k i within)
-        ∙ (sym (slice_get-get_or keys i k within) ∙ at)))
-
-    only : (had : Bool) → more ≡ (if had then keys else keys ++ key ∷ []) → (i : ℕ) (k : K)
-        → slice_get more i ≡ Some k → (slice_get keys i ≡ Some k) ⊎ (k ≡ key)
-    only true e i k at = inl (rw e at at)
-    only false e i k at =
-        let here = rw e at at in
-        let within = slice_get_within (keys ++ key ∷ []) i k here in
-        let is = get_or_from_slice_get (keys ++ key ∷ []) i k k here in
-        let cases : (i < length keys) ⊎ (i ≡ length keys) =
-        (let l = length-append keys (key ∷ []) in grind arith) in
-        elim cases [
-          | inl old ↦ inl
-              (slice_get-get_or keys i k old ∙ (ap Some (sym (get_or_append_left keys (key ∷ []) k i old) ∙ is)))
-          | inr last ↦ inr (sym is ∙ rw last (get_or-append_seam keys key [] k))
-        ]
 
 module _ {K : Type 0} (width : ℕ) (Proper : K → Type 0)
     (Step : K → ℕ → K → Type 0) where

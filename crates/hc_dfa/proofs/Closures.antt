@@ -1,319 +1,239 @@
 -- Sets of states that grow.
 use Rattle.hc_dfa.proofs.Common.{◌≡◌, ℕ, ◌+◌, ◌<◌, ◌≤◌, ◌∙◌, sym, arith, ap, refl, subst}
-use Rattle.hc_dfa.proofs.Common.{slice_index, slice_index_or, List, [], ◌∷◌, ◌++◌, length, length-append, map}
-use Rattle.hc_dfa.proofs.Common.{slice_set, Bool, true, false, ◌⊎◌, inl, inr, get_or-set_same, get_or-set_other}
-use Rattle.hc_dfa.proofs.Common.{get_or_default, get_or_append_left, get_or-map, length-map, Contains, Steps, Reads}
-use Rattle.hc_dfa.proofs.Common.{IsSilent, Classing, IsAsFine, AreChanges, ArePieces, AreSpans, AreStates, HitsAt}
-use Rattle.hc_dfa.proofs.Common.{ReadsTo, FollowsTo, Some, None, Gathers, GathersAll, Marks, Has, IsClosure, IsStep}
-use Rattle.hc_dfa.proofs.Common.{SilentPath, TellsSteps, stays, goes_on, ReadingStep, SilentStep, Spans}
-use Rattle.std.proofs.lemmas.Bool.{cases_eq}
-use Rattle.std.proofs.lemmas.List.Elements.{Contains-append_cases, Contains-append_left, Contains-append_right}
-use Rattle.std.proofs.lemmas.List.Elements.{Contains-get_or}
+use Rattle.hc_dfa.proofs.Common.{◌++◌, ◌⊎◌, inl, inr}
+use Rattle.hc_dfa.proofs.Common.{slice_index, slice_index_or, List, [], ◌∷◌, length, take, Bool}
+use Rattle.hc_dfa.proofs.Common.{slice_get, slice_get_within, slice_get-get_or, get_or_from_slice_get}
+use Rattle.hc_dfa.proofs.Common.{◌↔◌, append_assoc, append-nil}
+use Rattle.hc_dfa.proofs.Common.{Contains, Option, Some}
+use Rattle.hc_dfa.proofs.Common.{None, Vec, Global, Classing, IsAsFine, AreChanges, ArePieces, AreStates, Gathers}
+use Rattle.hc_dfa.proofs.Common.{GathersAll, Marks, Has, IsMarked, IsClosure, IsStep, LeadsTo, FollowsTo}
+use Rattle.hc_dfa.proofs.Common.{TellsSteps, stays, goes_on, Bytes, Machine, Step, Goes, HasStep, Reads}
+use Rattle.std.proofs.lemmas.List.{take-append-le, take_all, take_more}
+use Rattle.std.proofs.lemmas.List.Elements.{Contains-append_left, Contains-get_or, Contains-push, Contains-push_cases}
 use Rattle.std.proofs.lemmas.List.Sorted.{Contains-permutation, IsPermutation-sym}
 use Rattle.std.specs.List.Sorted.{IsPermutation}
-use Rattle.hc_dfa.specs.Machines.{IsMachine}
 
-pub has_added : (set : List Bool) (added state : ℕ) → added < length set → Has set state
-    → Has (slice_set set added true) state
-has_added set added state below has =
-    elim (cases_eq state added) [
-      | inl e ↦ rw e (get_or-set_same set added true false below)
-      | inr ne ↦
-          rw (get_or-set_other set added state true false ne) has
-    ]
+-- ---- lists
 
-pub gathers_first : (Done Belongs : ℕ → Type 0) (set : List ℕ) → ((x : ℕ) → Done x → ⊥)
-    → Gathers Done Belongs set set
-gathers_first Done Belongs set none =
-    record {
-      keeps = λ x at. at;
-      sound = λ x at. inl at;
-      complete = λ x done. absurd (none x done);
-      front = λ i below. refl;
-      len = omega arith;
-    }
+-- What one more element may be.
+pub contains_more : {X : Type 0} (xs : List X) (i : ℕ) (d x : X) → i < length xs → Contains (take (i + 1) xs) x
+    → Contains (take i xs) x ⊎ (slice_index_or xs i d ≡ x)
+contains_more {X} xs i d x below has = Contains-push_cases (take i xs) (slice_index_or xs i d) x
+    (subst (λ (ys : List X). Contains ys x) (take_more xs i d below) has)
+
+pub contains_at : {X : Type 0} (xs : List X) (i : ℕ) (x : X) → slice_get xs i ≡ Some x → Contains xs x
+contains_at xs i x at = (i, slice_get_within xs i x at, get_or_from_slice_get xs i x x at)
+
+-- ---- what is gathered
 
 -- Nothing new, and what is done now was done before.
 pub gathers_same : (Done More Belongs : ℕ → Type 0) (set more : List ℕ) → Gathers Done Belongs set more
     → ((x : ℕ) → More x → Done x) → Gathers More Belongs set more
-gathers_same Done More Belongs set more is done =
-    record {
-      keeps = is.keeps;
-      sound = is.sound;
-      complete = λ x m. is.complete x (done x m);
-      front = is.front;
-      len = is.len;
-    }
+gathers_same Done More Belongs set more is done = record {
+  rest = is.rest;
+  extends = is.extends;
+  sound = is.sound;
+  complete = λ x m. is.complete x (done x m);
+}
+
+pub gathers_keeps : (Done Belongs : ℕ → Type 0) (set more : List ℕ) (x : ℕ) → Gathers Done Belongs set more
+    → Contains set x → Contains more x
+gathers_keeps Done Belongs set more x is has = rw is.extends (Contains-append_left set is.rest x has)
 
 pub gathers_more : (Done More Belongs New : ℕ → Type 0) (set more next : List ℕ) → Gathers Done Belongs set more
     → GathersAll New more next
     → ((x : ℕ) → New x → Belongs x) → ((x : ℕ) → More x → Done x ⊎ New x)
     → Gathers More Belongs set next
 gathers_more Done More Belongs New set more next is new belongs done = record {
-  keeps = λ x at. new.keeps x (is.keeps x at);
+  rest = is.rest ++ new.rest;
+  extends = new.extends ∙ ap (λ (xs : List ℕ). xs ++ new.rest) is.extends ∙ append_assoc set is.rest new.rest;
   sound = λ x at. elim (new.sound x at) [ inl old ↦ is.sound x old | inr n ↦ inr (belongs x n) ];
-  complete = λ x m. elim (done x m) [ inl d ↦ new.keeps x (is.complete x d) | inr n ↦ new.complete x n ];
-  front = λ i below. new.front i (let l = is.len in omega arith) ∙ is.front i below;
-  len = let l = is.len in let k = new.len in omega arith;
+  complete = λ x m. elim (done x m)
+      [ inl d ↦ gathers_keeps New New more next x new (is.complete x d) | inr n ↦ new.complete x n ];
 }
 
 pub gathers_old : (set : List ℕ) (state : ℕ) → Contains set state → GathersAll (λ x. x ≡ state) set set
-gathers_old set state here =
-    record {
-      keeps = λ x at. at;
-      sound = λ x at. inl at;
-      complete = λ x e. subst (λ (y : ℕ). Contains set y)
-          (sym e) here;
-      front = λ i below. refl;
-      len = omega arith;
-    }
+gathers_old set state here = record {
+  rest = [];
+  extends = sym (append-nil set);
+  sound = λ x at. inl at;
+  complete = λ x e. subst (λ (y : ℕ). Contains set y) (sym e) here;
+}
 
 pub gathers_new : (set : List ℕ) (state : ℕ) → GathersAll (λ x. x ≡ state) set (set ++ state ∷ [])
 gathers_new set state = record {
-  keeps = λ x at. Contains-append_left set (state ∷ []) x at;
-  sound = λ x at. elim (Contains-append_cases set (state ∷ []) x at)
-      [ inl old ↦ inl old | inr c ↦ inr (only x c) ];
-  complete = λ x e. Contains-append_right set (state ∷ []) x (0, omega arith, sym e);
-  front = λ i below. get_or_append_left set (state ∷ []) 0 i below;
-  len = let l = length-append set (state ∷ []) in omega arith;
+  rest = state ∷ [];
+  extends = refl;
+  sound = λ x at. elim (Contains-push_cases set state x at) [ inl old ↦ inl old | inr e ↦ inr (sym e) ];
+  complete = λ x e. subst (λ (y : ℕ). Contains (set ++ state ∷ []) y) (sym e) (Contains-push set state);
 }
-  where
-    only : (x : ℕ) → Contains (state ∷ []) x → x ≡ state
-    only x c = let e : c.0 ≡ 0 = (let b = c.1 in omega arith) in sym (rw e at c.2)
 
-pub gathers_states : (m : Steps) (set more : List ℕ) (to : ℕ) → AreStates m set → to < m.states
+pub gathers_states : (m : Machine) (set more : List ℕ) (to : ℕ) → AreStates m set → to < length m.steps.items
     → GathersAll (λ x. x ≡ to) set more → AreStates m more
 gathers_states m set more to are below is k d k_below =
     elim (is.sound (slice_index_or more k d) (Contains-get_or more k d k_below)) [
-      | inl old ↦ subst (λ (y : ℕ). y < m.states) old.2 (are old.0 (slice_index_or more k d) old.1)
-      | inr e ↦ subst (λ (y : ℕ). y < m.states) (sym e) below
+      | inl old ↦ subst (λ (y : ℕ). y < length m.steps.items) old.2 (are old.0 (slice_index_or more k d) old.1)
+      | inr e ↦ subst (λ (y : ℕ). y < length m.steps.items) (sym e) below
     ]
 
--- Steps of a list that lead to a state, and stand from one place up to another.
-module _ {X : Type 0} (xs : List X) (Hits : X → ℕ → Type 0) where
-  abbrev pub HitsBetween : ℕ → ℕ → ℕ → Type 0
-  HitsBetween begin end x = (k : ℕ) × (step : X) × (begin ≤ k) × (k < end) × (slice_index_or xs k step ≡ step)
-      × Hits step x
+-- ---- steps
 
-  pub hits_none : (begin x : ℕ) → HitsBetween begin begin x → ⊥
-  hits_none begin x hit = let l = hit.2 in let u = hit.3 in omega arith
+-- One more step, which doesn't lead by this, and one that does.
+pub steps_past : (steps : List Step) (i : ℕ) (d : Step) (byte : Option ℕ) (x : ℕ) → i < length steps
+    → (Reads (slice_index_or steps i d).bytes byte → ⊥) → HasStep (take (i + 1) steps) byte x
+    → HasStep (take i steps) byte x
+steps_past steps i d byte x below isnt has = elim (contains_more steps i d has.0 below has.1) [
+  | inl old ↦ (has.0, old, has.2)
+  | inr e ↦ absurd (isnt (rw e has.2.0))
+]
 
-  -- What one more step may hit.
-  pub hits_more : (begin at x : ℕ) (here : X) → at < length xs → slice_index_or xs at here ≡ here
-      → HitsBetween begin (at + 1) x
-      → HitsBetween begin at x ⊎ Hits here x
-  hits_more begin at x here below is hit =
-      let cases : (hit.0 < at) ⊎ (hit.0 ≡ at) = (let u = hit.3 in grind arith) in
-      elim cases [
-        | inl old ↦ inl (hit.0, hit.1, hit.2, old, hit.4, hit.5)
-        | inr e ↦
-            (let same : hit.1 ≡ here = sym hit.4
-            ∙ (ap (λ k. slice_index_or xs k hit.1) e ∙ (get_or_default xs at hit.1 here below ∙ is)) in
-            inr (subst (λ (step : X). Hits step x) same hit.5))
-      ]
+pub steps_more : (steps : List Step) (i : ℕ) (d : Step) (byte : Option ℕ) (x : ℕ) → i < length steps
+    → HasStep (take (i + 1) steps) byte x → HasStep (take i steps) byte x ⊎ (x ≡ (slice_index_or steps i d).to)
+steps_more steps i d byte x below has = elim (contains_more steps i d has.0 below has.1) [
+  | inl old ↦ inl (has.0, old, has.2)
+  | inr e ↦ inr (rw e (sym has.2.1))
+]
 
-  -- After a step that hits nothing, and after one whose state was added.
-  pub hits_nothing : (Belongs : ℕ → Type 0) (begin at : ℕ) (set more : List ℕ)
-      → Gathers (HitsBetween begin at) Belongs set more → at < length xs
-      → HitsAt xs Hits at None → Gathers (HitsBetween begin (at + 1)) Belongs set more
-  hits_nothing Belongs begin at set more is below none =
-      gathers_same (HitsBetween begin at) (HitsBetween begin (at + 1)) Belongs set more is
-      (λ x hit.
-      elim (hits_more begin at x (slice_index_or xs at hit.1) below
-      (get_or_default xs at (slice_index_or xs at hit.1) hit.1 below) hit) [
-        | inl old ↦ old
-        | inr h ↦ absurd
-            (none x (slice_index_or xs at hit.1) (get_or_default xs at (slice_index_or xs at hit.1) hit.1 below) h)
-      ])
-
-  pub hits_one : (Belongs : ℕ → Type 0) (begin at to : ℕ) (set more next : List ℕ)
-      → Gathers (HitsBetween begin at) Belongs set more → at < length xs
-      → HitsAt xs Hits at (Some to) → Belongs to → GathersAll (λ x. x ≡ to) more next
-      → Gathers (HitsBetween begin (at + 1)) Belongs set next
-  hits_one Belongs begin at to set more next is below one belongs new =
-      gathers_more (HitsBetween begin at) (HitsBetween begin (at + 1)) Belongs (λ x. x ≡ to) set more next is new
-      (λ x e. subst Belongs (sym e) belongs)
-      (λ x hit. elim (hits_more begin at x one.0 below one.1 hit) [ inl old ↦ inl old | inr h ↦ inr (one.3 x h) ])
-
-  -- Each step that hits stands in the span of the state that it leaves.
-  pub hits_all : (from : X → ℕ) (count : ℕ) (spans : Spans) → AreSpans count (map from xs) spans
-      → (state end x : ℕ) (step : X) → Contains xs step
-      → from step ≡ state → slice_index spans.ends.items state ≤ end → Hits step x
-      → HitsBetween (slice_index spans.begins.items state) end x
-  hits_all from count spans are state end x step among leaves past hits =
-      let k = among.0 in
-      let below : k < length (map from xs) = (let w = among.1 in omega (arith, length-map xs from)) in
-      let is : slice_index (map from xs) k ≡ state = get_or-map from xs k step 0 among.1
-      ∙ (ap from among.2 ∙ leaves) in
-      let before = rw is at (are.begins.before k below) in
-      let behind = rw is at (are.ends.behind k below) in
-      (k, step, before, omega arith, among.2, hits)
-
-pub silent_hit : (m : Steps) (state at to : ℕ) → IsMachine m → at < length m.silent
-    → HitsAt m.silent (FollowsTo state) at (Some to) → IsSilent m state to × (to < m.states)
-silent_hit m state at to is below hit = (
-  record { step = hit.0; among = (at, below, hit.1); leaves = hit.2.0; enters = hit.2.1 },
-  subst (λ (y : ℕ). y < m.states) (ap (λ (step : SilentStep). step.to) hit.1 ∙ hit.2.1)
-      (is.silent at hit.0 below).1,
+-- The row of a state.
+pub row_steps : (m : Machine) (state : ℕ) (row : Vec Step Global) (steps : List Step) → state < length m.steps.items
+    → row ≡ slice_index_or m.steps.items state row → steps ≡ row.items
+    → (byte : Option ℕ) (x : ℕ) → HasStep steps byte x ↔ Goes m state byte x
+row_steps m state row steps below is same byte x = (
+  (λ has. (row, at, rw same at has)),
+  (λ goes. let e : goes.0 ≡ row = (let a = at in let g = goes.1 in cc) in
+      rw (same, ← e) goes.2),
 )
+  where
+    at : slice_get m.steps.items state ≡ Some row
+    at = slice_get-get_or m.steps.items state row below ∙ ap Some (sym is)
 
-pub reading_hit : (m : Steps) (state byte at to : ℕ) → IsMachine m → at < length m.reading
-    → HitsAt m.reading (ReadsTo state byte) at (Some to) → Reads m state byte to × (to < m.states)
-reading_hit m state byte at to is below hit = (
-  record {
-    step = hit.0;
-    among = (at, below, hit.1);
-    leaves = hit.2.0;
-    low = hit.2.1;
-    high = hit.2.2;
-    enters = hit.2.3;
-  },
-  subst (λ (y : ℕ). y < m.states) (ap (λ (step : ReadingStep). step.to) hit.1 ∙ hit.2.3)
-      (is.reading at hit.0 below).1,
-)
+-- One more state of a set.
+pub leads_more : (m : Machine) (set : List ℕ) (i : ℕ) (byte : Option ℕ) (x : ℕ) → i < length set
+    → LeadsTo m (take (i + 1) set) byte x → LeadsTo m (take i set) byte x ⊎ Goes m (slice_index set i) byte x
+leads_more m set i byte x below leads = elim (contains_more set i 0 leads.0 below leads.1) [
+  | inl old ↦ inl (leads.0, old, leads.2)
+  | inr e ↦ inr (subst (λ (s : ℕ). Goes m s byte x) (sym e) leads.2)
+]
 
--- What a byte leads to from the first states of the set.
-abbrev pub ReadBelow : Steps → List ℕ → ℕ → ℕ → ℕ → Type 0
-ReadBelow m set byte count x = (k : ℕ) × (k < count) × Reads m (slice_index set k) byte x
+-- ---- the closure
 
--- What silent steps lead to from the first states of the set.
-abbrev pub FollowedBelow : Steps → List ℕ → ℕ → ℕ → Type 0
-FollowedBelow m set count x = (k : ℕ) × (k < count) × IsSilent m (slice_index set k) x
-
-abbrev pub FollowedFrom : Steps → List ℕ → ℕ → Type 0
-FollowedFrom m set x = (before : ℕ) × Contains set before × SilentPath m before x
-
-pub closing_more : (m : Steps) (initial set next : List ℕ) (place state : ℕ)
-    → Gathers (FollowedBelow m set place) (FollowedFrom m initial) initial set
-    → place < length set → slice_index set place ≡ state → GathersAll (IsSilent m state) set next
-    → Gathers (FollowedBelow m next (place + 1)) (FollowedFrom m initial) initial next
-closing_more m initial set next place state is below at new =
-    gathers_more (FollowedBelow m set place) (FollowedBelow m next (place + 1)) (FollowedFrom m initial)
-    (IsSilent m state) initial set next is new
-    (λ x silent. elim (is.sound state (subst (λ (y : ℕ). Contains set y) at (Contains-get_or set place 0 below))) [
-      | inl first ↦ (state, first, goes_on stays silent)
-      | inr path ↦ (path.0, path.1, goes_on path.2 silent)
+pub closing_more : (m : Machine) (initial set next : List ℕ) (place state : ℕ)
+    → Gathers (LeadsTo m (take place set) None) (FollowsTo m initial) initial set
+    → slice_get set place ≡ Some state → GathersAll (Goes m state None) set next
+    → Gathers (LeadsTo m (take (place + 1) next) None) (FollowsTo m initial) initial next
+closing_more m initial set next place state is at new =
+    let below = slice_get_within set place state at in
+    let value : slice_index set place ≡ state = get_or_from_slice_get set place state 0 at in
+    gathers_more (LeadsTo m (take place set) None) (LeadsTo m (take (place + 1) next) None) (FollowsTo m initial)
+    (Goes m state None) initial set next is new
+    (λ x goes. elim (is.sound state (contains_at set place state at)) [
+      | inl first ↦ (state, first, goes_on stays goes)
+      | inr path ↦ (path.0, path.1, goes_on path.2 goes)
     ])
-    (λ x followed.
-    let front = new.front followed.0 (let w = followed.1 in omega arith) in
-    let cases : (followed.0 < place) ⊎ (followed.0 ≡ place) = (let w = followed.1 in grind arith) in
-    elim cases [
-      | inl old ↦ inl (followed.0, old, subst (λ (y : ℕ). IsSilent m y x) front followed.2)
-      | inr e ↦ inr
-          (subst (λ (y : ℕ). IsSilent m y x) (front ∙ (ap (λ k. slice_index set k) e ∙ at)) followed.2)
-    ])
+    (λ x leads.
+    let front : take (place + 1) next ≡ take (place + 1) set = ap (take (place + 1)) new.extends
+    ∙ take-append-le (place + 1) set new.rest (omega arith) in
+    rw value at (leads_more m set place None x below (subst (λ (xs : List ℕ). LeadsTo m xs None x) front leads)))
 
-pub closing_done : (m : Steps) (initial set sorted : List ℕ) (place : ℕ)
-    → Gathers (FollowedBelow m set place) (FollowedFrom m initial) initial set
+pub closing_done : (m : Machine) (initial set sorted : List ℕ) (place : ℕ)
+    → Gathers (LeadsTo m (take place set) None) (FollowsTo m initial) initial set
     → length set ≤ place → IsPermutation set sorted → IsClosure m initial sorted
 closing_done m initial set sorted place is all moved =
     let to = λ (x : ℕ). Contains-permutation set sorted x moved in
     let back = λ (x : ℕ). Contains-permutation sorted set x (IsPermutation-sym set sorted moved) in
     record {
-      keeps = λ x at. to x (is.keeps x at);
+      keeps = λ x at. to x (gathers_keeps _ _ initial set x is at);
       sound = λ x at. elim (is.sound x (back x at)) [ inl first ↦ (x, first, stays) | inr path ↦ path ];
-      closed = λ state next at silent.
-          let here = back state at in
-          let same : slice_index set here.0 ≡ state = get_or_default set here.0 0 state here.1 ∙ here.2 in
-          to next (is.complete next (
-            here.0,
-            (let w = here.1 in omega arith),
-            subst (λ (y : ℕ). IsSilent m y next) (sym same) silent,
-          ));
+      closed = λ x leads. to x (is.complete x (leads.0, rw (take_all place set all) (back leads.0 leads.1), leads.2));
     }
 
--- Two bytes with no change between them are read by the same steps.
-module _ (m : Steps) (changes : List Bool) (are : AreChanges m changes) (b d : ℕ) (ordered : b ≤ d)
-    (none : (k : ℕ) → b < k → k ≤ d → Has changes k → ⊥) where
-  read_later : (before state : ℕ) → Reads m before b state → Reads m before d state
-  read_later before state r =
-      let cases : (d ≤ r.step.high) ⊎ (r.step.high < d) = grind arith in
-      record {
-        step = r.step;
-        among = r.among;
-        leaves = r.leaves;
-        enters = r.enters;
-        low = (let l = r.low in omega arith);
-        high = elim cases [
-          | inl h ↦ h
-          | inr past ↦ absurd
-              (none (r.step.high + 1) (let h = r.high in omega arith) (omega arith) (are.high r.step r.among))
-        ];
-      }
+-- ---- bytes that are read alike
 
-  read_earlier : (before state : ℕ) → Reads m before d state → Reads m before b state
-  read_earlier before state r =
-      let cases : (r.step.low ≤ b) ⊎ (b < r.step.low) = grind arith in
-      record {
-        step = r.step;
-        among = r.among;
-        leaves = r.leaves;
-        enters = r.enters;
-        low = elim cases [ inl l ↦ l | inr past ↦ absurd (none r.step.low past r.low (are.low r.step r.among)) ];
-        high = (let h = r.high in omega arith);
-      }
+-- Two bytes with no change between them are read by the same steps.
+module _ (changes : List Bool) (b d : ℕ) (ordered : b ≤ d)
+    (none : (k : ℕ) → b < k → k ≤ d → Has changes k → ⊥) where
+  read_later : (bytes : Option Bytes) → IsMarked changes bytes → Reads bytes (Some b) → Reads bytes (Some d)
+  read_later None marked reads = reads
+  read_later (Some bytes) marked reads =
+      let cases : (d ≤ bytes.high) ⊎ (bytes.high < d) = grind arith in
+      let low = reads.0 in
+      let high = reads.1 in (
+        omega arith,
+        elim cases
+            [ inl h ↦ h | inr past ↦ absurd (none (bytes.high + 1) (omega arith) (omega arith) marked.1) ],
+      )
+
+  read_earlier : (bytes : Option Bytes) → IsMarked changes bytes → Reads bytes (Some d) → Reads bytes (Some b)
+  read_earlier None marked reads = reads
+  read_earlier (Some bytes) marked reads =
+      let cases : (bytes.low ≤ b) ⊎ (b < bytes.low) = grind arith in
+      let high = reads.1 in (
+        elim cases [ inl l ↦ l | inr past ↦ absurd (none bytes.low past reads.0 marked.0) ],
+        omega arith,
+      )
 
 -- Bytes that are read by the same steps lead to the same sets.
-step_alike : (m : Steps) (from to : List ℕ) (b d : ℕ)
-    → ((before state : ℕ) → Reads m before b state → Reads m before d state)
-    → ((before state : ℕ) → Reads m before d state → Reads m before b state) → IsStep m from b to
-    → IsStep m from d to
-step_alike m from to b d later earlier step = record {
+step_alike : (m : Machine) (changes : List Bool) (from to : List ℕ) (b d : ℕ) → AreChanges m.steps.items changes
+    → ((bytes : Option Bytes) → IsMarked changes bytes → Reads bytes (Some b) → Reads bytes (Some d))
+    → ((bytes : Option Bytes) → IsMarked changes bytes → Reads bytes (Some d) → Reads bytes (Some b))
+    → IsStep m from b to → IsStep m from d to
+step_alike m changes from to b d are later earlier step = record {
   read = step.read;
   closes = step.closes;
-  reads = record {
-    sound = λ state has. let r = step.reads.sound state has in (r.0, r.1, later r.0 state r.2);
-    complete = λ before state has reads. step.reads.complete before state has (earlier before state reads);
-  };
+  reads = λ x. (
+    (λ has. let leads = (step.reads x).0 has in (leads.0, leads.1, alike leads.0 x b d later leads.2)),
+    (λ leads. (step.reads x).1 (leads.0, leads.1, alike leads.0 x d b earlier leads.2)),
+  );
 }
+  where
+    alike : (state x byte other : ℕ)
+        → ((bytes : Option Bytes) → IsMarked changes bytes → Reads bytes (Some byte) → Reads bytes (Some other))
+        → Goes m state (Some byte) x → Goes m state (Some other) x
+    alike state x byte other same goes =
+        let steps = goes.0 in
+        let step = goes.2.0 in
+        let marked = are.each steps (contains_at m.steps.items state steps goes.1) step goes.2.1 in
+        (steps, goes.1, (step, goes.2.1, (same step.bytes marked goes.2.2.0, goes.2.2.1)))
 
-pub pieces_tell : (m : Steps) (changes : List Bool) (numbers : List ℕ) (c : Classing) → AreChanges m changes
-    → ArePieces changes 256 numbers → IsAsFine c numbers
-    → TellsSteps m c
+pub pieces_tell : (m : Machine) (changes : List Bool) (numbers : List ℕ) (c : Classing)
+    → AreChanges m.steps.items changes → ArePieces changes 256 numbers → IsAsFine c numbers → TellsSteps m c
 pieces_tell m changes numbers c are pieces fine from to b d bb db same step =
     let cases : (b ≤ d) ⊎ (d ≤ b) = grind arith in
     elim cases [
       | inl up ↦ (let none = λ (k : ℕ). pieces b d k db (fine b d bb db same) in
-          step_alike m from to b d (read_later m changes are b d up none) (read_earlier m changes are b d up none) step)
+          step_alike m changes from to b d are (read_later changes b d up none) (read_earlier changes b d up none) step)
       | inr down ↦ (let none = λ (k : ℕ). pieces d b k bb (sym (fine b d bb db same)) in
-          step_alike m from to b d (read_earlier m changes are d b down none) (read_later m changes are d b down none)
+          step_alike m changes from to b d are (read_earlier changes d b down none) (read_later changes d b down none)
           step)
     ]
 
--- The changes of the first reading steps.
-pub record ChangesBelow (m : Steps) (changes : List Bool) (count : ℕ) : Type 0 where
-  pub len : length changes ≡ 257
-  pub low : (k : ℕ) (d : ReadingStep) → k < count → Has changes (slice_index_or m.reading k d).low
-  pub high : (k : ℕ) (d : ReadingStep) → k < count → Has changes ((slice_index_or m.reading k d).high + 1)
+-- ---- changes
 
-pub changes_more : (m : Steps) (changes more : List Bool) (count : ℕ) (base : ReadingStep)
-    → ChangesBelow m changes count → count < length m.reading
-    → Marks (slice_index_or m.reading count base) changes more → ChangesBelow m more (count + 1)
-changes_more m changes more count base is below marks = record {
-  len = marks.len ∙ is.len;
-  low = λ k d k_below. elim (place k k_below) [
-    | inl old ↦ marks.keeps (slice_index_or m.reading k d).low (is.low k d old)
-    | inr e ↦ subst (λ (x : ReadingStep). Has more x.low) (here k d e) marks.low
-  ];
-  high = λ k d k_below. elim (place k k_below) [
-    | inl old ↦ marks.keeps ((slice_index_or m.reading k d).high + 1) (is.high k d old)
-    | inr e ↦ subst (λ (x : ReadingStep). Has more (x.high + 1)) (here k d e) marks.high
+pub marked_later : (changes more : List Bool) (bytes : Option Bytes) → ((k : ℕ) → Has changes k → Has more k)
+    → IsMarked changes bytes → IsMarked more bytes
+marked_later changes more None keeps marked = marked
+marked_later changes more (Some bytes) keeps marked =
+    (keeps bytes.low marked.0, keeps (bytes.high + 1) marked.1)
+
+pub marks_more : (steps : List Step) (i : ℕ) (d : Step) (changes more next : List Bool) → i < length steps
+    → Marks (take i steps) changes more → Marks (slice_index_or steps i d ∷ []) more next
+    → Marks (take (i + 1) steps) changes next
+marks_more steps i d changes more next below is new = record {
+  len = new.len ∙ is.len;
+  keeps = λ k has. new.keeps k (is.keeps k has);
+  each = λ step among. elim (contains_more steps i d step below among) [
+    | inl old ↦ marked_later more next step.bytes new.keeps (is.each step old)
+    | inr e ↦ new.each step (0, omega arith, e)
   ];
 }
-  where
-    place : (k : ℕ) → k < count + 1 → (k < count) ⊎ (count ≡ k)
-    place k k_below = grind arith
 
-    here : (k : ℕ) (d : ReadingStep) → count ≡ k → slice_index_or m.reading count base
-        ≡ slice_index_or m.reading k d
-    here k d e = get_or_default m.reading count base d below ∙ ap (λ n. slice_index_or m.reading n d) e
-
-pub all_changes : (m : Steps) (changes : List Bool) (count : ℕ) → ChangesBelow m changes count
-    → length m.reading ≤ count → AreChanges m changes
-all_changes m changes count is all = record {
-  len = is.len;
-  low = λ step among. subst (λ (x : ReadingStep). Has changes x.low) among.2
-      (is.low among.0 step (let w = among.1 in omega arith));
-  high = λ step among. subst (λ (x : ReadingStep). Has changes (x.high + 1)) among.2
-      (is.high among.0 step (let w = among.1 in omega arith));
+pub changes_more : (all : List (Vec Step Global)) (i : ℕ) (d : Vec Step Global) (changes more : List Bool)
+    → i < length all → AreChanges (take i all) changes → Marks (slice_index_or all i d).items changes more
+    → AreChanges (take (i + 1) all) more
+changes_more all i d changes more below is new = record {
+  len = new.len ∙ is.len;
+  each = λ steps among step has. elim (contains_more all i d steps below among) [
+    | inl old ↦ marked_later changes more step.bytes new.keeps (is.each steps old step has)
+    | inr e ↦ new.each step (subst (λ (v : Vec Step Global). Contains v.items step) (sym e) has)
+  ];
 }

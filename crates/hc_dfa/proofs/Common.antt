@@ -1,10 +1,13 @@
 -- The names that the proofs of this crate cite, passed on from one place. Declares nothing.
 pub use Rattle.std.proofs.Common.{◌≡◌, ℕ, ◌+◌, ◌*◌, ◌<◌, ◌≤◌, ◌/◌, ◌%◌, ◌⊎◌}
-pub use Rattle.std.proofs.Common.{nat_eq, List, [], ◌∷◌, length, drop, slice_index, false, refl, ◌∙◌, ap}
+pub use Rattle.std.proofs.Common.{◌↔◌}
+pub use Rattle.std.proofs.Common.{nat_eq, List, [], ◌∷◌, length, take, drop, slice_index, false, refl, ◌∙◌}
+pub use Rattle.std.proofs.Common.{ap}
 pub use Rattle.std.proofs.Common.{inl, inr, arith, drop-cons, add-one, sym, ◌||◌, subst, not, count_by, length-set}
 pub use Rattle.std.proofs.Common.{slice_index_or, slice_set, Bool, true, get_or-set_same, get_or-set_other, slice_get}
 pub use Rattle.std.proofs.Common.{Some, Vec, ◌&&◌, IsTrue, ◌++◌, length-append, Option, None, ◌-◌, map}
-pub use Rattle.std.proofs.Common.{get_or, ◌^◌, if◌then◌else◌, vec_len, ◌==◌, append_assoc, append-nil}
+pub use Rattle.std.proofs.Common.{get_or, rules, ◌^◌, if◌then◌else◌, vec_len, ◌==◌, append_assoc}
+pub use Rattle.std.proofs.Common.{append-nil}
 pub use Rattle.std.proofs.Math.Nat.{div-add-mod, div-lt_iff_lt-mul, mod-lt, add-mul}
 pub use Rattle.std.proofs.Math.Seq.{get_or-append_seam}
 pub use Rattle.std.proofs.lemmas.Grind.{common_steps, same_number_lists}
@@ -24,17 +27,17 @@ pub use Rattle.hc_dfa.specs.Classings.{class_of, class_count, first_of, AreClass
 unfoldable pub use Rattle.hc_dfa.specs.Classings.{expanded}
 pub use Rattle.hc_dfa.specs.Distances.{Bounds, Distances, IsNearest, IsSettled, IsWalk}
 pub use Rattle.hc_dfa.specs.Explored.{Extends, IsMet, Leads, Explored}
-pub use Rattle.hc_dfa.specs.Machines.{Steps, Reads, IsSilent, PathToFinal, AcceptsPathsOf}
+pub use Rattle.hc_dfa.specs.Machines.{Reads, LeadsBy, HasStep, AddsStep, Goes, IsFinal, IsMachine, PathToFinal}
+pub use Rattle.hc_dfa.specs.Machines.{AcceptsPaths, IsOneStep, Grows}
 pub use Rattle.hc_dfa.specs.Pairs.{IsPair, pair_step}
-pub use Rattle.hc_dfa.specs.Sets.{AreChanges, AreMoves, ArePieces, AreStates, FollowsTo, Gathers, GathersAll, HitsAt}
-pub use Rattle.hc_dfa.specs.Sets.{ReadsTo, Marks, Has, IsClosed, IsStep, SilentPath, TellsSteps, IsSetOf, IsClosure}
-pub use Rattle.hc_dfa.specs.Sets.{IsProper, IsMark, IsRead}
+pub use Rattle.hc_dfa.specs.Sets.{AreChanges, ArePieces, AreStates, FollowsTo, Gathers, GathersAll, Has, IsClosed}
+pub use Rattle.hc_dfa.specs.Sets.{IsClosure, IsMark, IsMarked, IsProper, IsRead, IsStep, LeadsTo, Marks, SilentPath}
+pub use Rattle.hc_dfa.specs.Sets.{TellsSteps}
 pub use Rattle.hc_dfa.specs.Sets.SilentPath.{stays, goes_on}
 pub use Rattle.hc_dfa.specs.Singles.{single, single_step, IsSingle, is_among, AreFound}
 pub use Rattle.hc_dfa.specs.Texts.{IsText, TextSet, IsEmptySet, IsLeast, comes_before, byte_order, IsLeastOf}
-pub use Rattle.hc_dfa.specs.Spans.{AreSpans}
-pub use Rattle.hc_dfa.specs.declared.spans.Spans.{Spans}
 pub use Rattle.hc_dfa.specs.declared.leasts.TheConstants.{NONE}
-pub use Rattle.hc_dfa.specs.declared.machine.ReadingStep.{ReadingStep}
-pub use Rattle.hc_dfa.specs.declared.machine.SilentStep.{SilentStep}
+pub use Rattle.hc_dfa.specs.declared.machine.Bytes.{Bytes}
+pub use Rattle.hc_dfa.specs.declared.machine.Machine.{Machine}
+pub use Rattle.hc_dfa.specs.declared.machine.Step.{Step}
 pub use Rattle.hc_dfa.specs.declared.products.Keep.TheVariants.{FirstOnly, Both}

@@ -1,41 +1,29 @@
 -- The automaton of sets of a machine's states.
-use Rattle.hc_dfa.proofs.Common.{◌≡◌, ℕ, ◌<◌, List, [], ◌∷◌, length, Bool, true}
-use Rattle.hc_dfa.proofs.Common.{Some, slice_get, arith, ap, ◌∙◌, slice_get_within, Automaton}
-use Rattle.hc_dfa.proofs.Common.{next_state, accepts_from, accepts, Steps, PathToFinal, AcceptsPathsOf, Has, IsSetOf}
-use Rattle.hc_dfa.proofs.Common.{Contains, refl, false, SilentPath, IsClosure, IsProper, IsStep, IsMark}
+use Rattle.hc_dfa.proofs.Common.{◌≡◌, ℕ, ◌<◌, List, [], ◌∷◌, length, Bool, true, refl, sym, subst}
+use Rattle.hc_dfa.proofs.Common.{inl, inr, Some, slice_get, arith, ap}
+use Rattle.hc_dfa.proofs.Common.{◌∙◌, slice_get_within, Automaton, next_state, accepts_from, accepts, Machine}
+use Rattle.hc_dfa.proofs.Common.{PathToFinal, AcceptsPaths, Contains, SilentPath, IsClosure, IsProper, IsStep, IsMark}
 use Rattle.hc_dfa.proofs.Common.{TellsSteps, stays, goes_on, IsText, Classing, AreClasses, class_count}
 use Rattle.hc_dfa.proofs.Common.{class_of, first_of, expanded}
-use Rattle.hc_dfa.specs.Machines.PathToFinal.{ends, silently, by_byte}
+use Rattle.hc_dfa.specs.Machines.PathToFinal.{ends, passes, reads}
+use Rattle.std.proofs.lemmas.List.Elements.{Contains-push_cases}
 use Rattle.hc_dfa.proofs.Cells.{mark_at, leads_at}
 use Rattle.hc_dfa.specs.Explored.{IsTableOf}
 use Rattle.hc_dfa.proofs.Tables.{cell_within, expanded_at}
 
 -- Each set has a row and a mark.
-pub record AllSets (m : Steps) (c : Classing) (rows : List ℕ) (finals : List Bool) : Type 0 where
+pub record AllSets (m : Machine) (c : Classing) (rows : List ℕ) (finals : List Bool) : Type 0 where
   pub classes : AreClasses c
   pub tells : TellsSteps m c
-  pub table : IsTableOf (IsClosure m m.starts) (IsProper m) (IsStep m) (IsMark m.finals) c.firsts rows finals
-
-pub marked_set : (count : ℕ) (finals set : List ℕ) (marks : List Bool) (answer : Bool)
-    → IsSetOf count finals marks
-    → (answer ≡ true → (state : ℕ) × Contains set state × Has marks state)
-    → (answer ≡ false → (state : ℕ) → Contains set state → Has marks state → ⊥)
-    → IsMark finals set answer
-marked_set count finals set marks true is found none =
-    record { found = λ yes. (let f = found refl in (f.0, f.1, is.sound f.0 f.2)); none = λ state in_set final. refl }
-marked_set count finals set marks false is found none =
-    record {
-      found = λ no. absurd (cc);
-      none = λ state in_set final. absurd (none refl state in_set (is.complete state final));
-    }
+  pub table : IsTableOf (IsClosure m (0 ∷ [])) (IsProper m) (IsStep m) (IsMark m.finals.items) c.firsts rows finals
 
 -- A silent path in front of a path.
-pub after_silent : (m : Steps) (from : ℕ) {state : ℕ} (text : List ℕ) → SilentPath m from state
+pub after_silent : (m : Machine) (from : ℕ) {state : ℕ} (text : List ℕ) → SilentPath m from state
     → PathToFinal m state text → PathToFinal m from text
 after_silent m from text stays path = path
-after_silent m from text (goes_on silent step) path = after_silent m from text silent (silently step path)
+after_silent m from text (goes_on silent step) path = after_silent m from text silent (passes step path)
 
-module _ (m : Steps) (c : Classing) (rows : List ℕ) (finals : List Bool)
+module _ (m : Machine) (c : Classing) (rows : List ℕ) (finals : List Bool)
     (is : AllSets m c rows finals) where
   abbrev sets : List (List ℕ)
   sets = is.table.keys
@@ -44,9 +32,9 @@ module _ (m : Steps) (c : Classing) (rows : List ℕ) (finals : List Bool)
   made = record { next = expanded c rows (length finals); finals = finals }
 
   mark_here : (state : ℕ) (set : List ℕ) → slice_get sets state ≡ Some set
-      → IsMark m.finals set (accepts_from made state [])
+      → IsMark m.finals.items set (accepts_from made state [])
   mark_here state set at =
-      mark_at (IsMark m.finals) sets made.finals state set is.table.rows.marked
+      mark_at (IsMark m.finals.items) sets made.finals state set is.table.rows.marked
       (let w = slice_get_within sets state set at in let all = is.table.all in omega arith) at
 
   step_here : (state byte : ℕ) (set : List ℕ) → slice_get sets state ≡ Some set → byte < 256
@@ -77,22 +65,22 @@ module _ (m : Steps) (c : Classing) (rows : List ℕ) (finals : List Bool)
       let to = step_here state byte set at bytes.0 in
       let later = to_path text (next_state made state byte) to.0 to.1 bytes.1 accepted in
       let closed = to.2.closes.sound later.0 later.1 in
-      let read = to.2.reads.sound closed.0 closed.1 in
-      (read.0, read.1, by_byte read.2 (after_silent m closed.0 text closed.2 later.2))
+      let read = (to.2.reads closed.0).0 closed.1 in
+      (read.0, read.1, reads read.2 (after_silent m closed.0 text closed.2 later.2))
 
   -- A set accepts what a path from one of its states reads.
   pub from_path : {text : List ℕ} {from : ℕ} (state : ℕ) (set : List ℕ)
       → slice_get sets state ≡ Some set → IsText text → Contains set from
       → PathToFinal m from text → accepts_from made state text ≡ true
   from_path {from = from} state set at bytes has (ends final) = (mark_here state set at).none from has final
-  from_path {from = from} state set at bytes has (silently {next = next} step path) =
-      from_path state set at bytes ((is.table.rows.explored.proper state set at).closed from next has step) path
-  from_path {from = from} state set at bytes has (by_byte {next = next} {byte = byte} step path) =
+  from_path {from = from} state set at bytes has (passes {next = next} step path) =
+      from_path state set at bytes ((is.table.rows.explored.proper state set at).closed next (from, has, step)) path
+  from_path {from = from} state set at bytes has (reads {next = next} {byte = byte} step path) =
       let to = step_here state byte set at bytes.0 in
       from_path (next_state made state byte) to.0 to.1 bytes.1
-      (to.2.closes.keeps next (to.2.reads.complete from next has step)) path
+      (to.2.closes.keeps next ((to.2.reads next).1 (from, has, step))) path
 
-  pub determined : AcceptsPathsOf m made
+  pub determined : AcceptsPaths m made
   unfolding accepts
   determined text bytes =
       let first = is.table.rows.first.0 in
@@ -101,6 +89,11 @@ module _ (m : Steps) (c : Classing) (rows : List ℕ) (finals : List Bool)
         (λ accepted.
             let path = to_path text 0 first at bytes accepted in
             let closed = closure.sound path.0 path.1 in
-            record { start = closed.0; among = closed.1; path = after_silent m closed.0 text closed.2 path.2 }),
-        (λ path. from_path 0 first at bytes (closure.keeps path.start path.among) path.path),
+            let silent = subst (λ (s : ℕ). SilentPath m s path.0) (sym (only closed.0 closed.1)) closed.2 in
+            after_silent m 0 text silent path.2),
+        (λ path. from_path 0 first at bytes (closure.keeps 0 (0, omega arith, refl)) path),
       )
+    where
+      only : (x : ℕ) → Contains (0 ∷ []) x → 0 ≡ x
+      only x c = elim (Contains-push_cases [] 0 x c)
+          [ inl none ↦ absurd (let w = none.1 in omega arith) | inr e ↦ e ]

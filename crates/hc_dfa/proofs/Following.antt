@@ -1,36 +1,17 @@
 -- The machine of a graph, whose states are the keys that are met.
 use Rattle.hc_dfa.proofs.Common.{◌≡◌, ℕ, ◌+◌, ◌<◌, ◌≤◌, ◌⊎◌, List, [], ◌∷◌, ◌++◌}
-use Rattle.hc_dfa.proofs.Common.{length, true}
-use Rattle.hc_dfa.proofs.Common.{refl, sym, ◌∙◌, ap, inl, inr, arith, Option, Some, None, slice_get}
-use Rattle.hc_dfa.proofs.Common.{slice_get_cases, slice_get_within, IsMet, Steps, PathToFinal}
-use Rattle.std.proofs.lemmas.List.Elements.{Contains-append_left, Contains-push, Contains-push_cases}
-use Rattle.hc_dfa.specs.Graphs.{GraphOf, Leads, Way, ReadsWays, LeadsAt, HasMove, IsBefore, Follows, IsChoice}
-use Rattle.hc_dfa.specs.Graphs.{choice_number}
+use Rattle.hc_dfa.proofs.Common.{length, Bool, false}
+use Rattle.hc_dfa.proofs.Common.{refl, sym, ◌∙◌, ap, inl, inr, arith, Option, Some, None, Vec, Global, slice_get}
+use Rattle.hc_dfa.proofs.Common.{slice_get_cases, slice_get_within, slice_get-get_or, get_or_from_slice_get}
+use Rattle.hc_dfa.proofs.Common.{slice_index_or, get_or_append_left, get_or-append_seam, length-append, Extends, IsMet}
+use Rattle.hc_dfa.proofs.Common.{Machine, Step, AddsStep, Goes, IsMachine, PathToFinal}
+use Rattle.hc_dfa.proofs.Cells.{first_key}
+use Rattle.hc_dfa.specs.Graphs.{GraphOf, Leads, Way, ReadsWays, AreKeys, AreSteps, Follows, IsChoice, choice_number}
+use Rattle.hc_dfa.specs.Graphs.Way.{ends, passes, reads}
+use Rattle.hc_dfa.specs.Machines.PathToFinal.{ends as path_ends, passes as path_passes, reads as path_reads}
 use Rattle.hc_dfa.specs.declared.graphs.Choice.{Choice}
 use Rattle.hc_dfa.specs.declared.graphs.Choice.TheVariants.{Byte, One, Other}
-use Rattle.hc_dfa.specs.Graphs.Way.{ends, passes, reads}
-use Rattle.hc_dfa.specs.Machines.{AddsStep, HasStep}
-use Rattle.hc_dfa.specs.Machines.PathToFinal.{ends as path_ends, silently, by_byte}
 use Rattle.hc_dfa.specs.declared.graphs.Move.{Move}
-
--- A machine with other states has the same steps.
-same_steps : (m n : Steps) → m.silent ≡ n.silent → m.reading ≡ n.reading
-    → (i : ℕ) (b : Option ℕ) (j : ℕ)
-    → HasStep m i b j → HasStep n i b j
-same_steps m n silent reading i None j is = record {
-  step = is.step;
-  among = rw silent at is.among;
-  leaves = is.leaves;
-  enters = is.enters;
-}
-same_steps m n silent reading i (Some b) j is = record {
-  step = is.step;
-  among = rw reading at is.among;
-  leaves = is.leaves;
-  low = is.low;
-  high = is.high;
-  enters = is.enters;
-}
 
 pub same_move : {K : Type 0} (m n : Move K) → Some m ≡ Some n → (m.byte ≡ n.byte) × (m.to ≡ n.to)
 same_move {K} m n same =
@@ -48,223 +29,203 @@ same_choice Other (Byte d) is_c is_d same = absurd (omega arith)
 same_choice Other One is_c is_d same = absurd (omega arith)
 same_choice Other Other is_c is_d same = refl
 
-module _ {K : Type 0} (IsKey : K → Type 0) (g : GraphOf K) (start : K) where
-  pub begun : (keys : List K) (m : Steps) (number : ℕ) → IsKey start → IsMet [] start keys number
-      → m ≡ record { states = length keys; reading = []; silent = []; starts = number ∷ []; finals = [] }
-      → Follows IsKey g start keys m 0 0
-  begun keys m number is met new =
-      let first : number ≡ 0 = (let w = slice_get_within keys number start met.stored in omega (arith, met.len)) in
-      let stored : slice_get keys 0 ≡ Some start = rw first at met.stored in
-      rw new (record {
-        states = refl;
-        starts = ap (λ (n : ℕ). n ∷ []) first;
-        first = stored;
-        proper = λ i key at. elim (met.only i key at) [ inl none ↦ absurd (cc) | inr e ↦ rw e is ];
-        leads = λ i byte j step. absurd (no_step i byte j step);
-        finals = λ i among. absurd (let w = among.1 in omega arith);
-        moves = λ i choice key move front below at moves. absurd (elim front
-            [ inl less ↦ omega arith | inr here ↦ (let w = here.1 in omega arith) ]);
-        final = λ i key less at final. absurd (omega arith);
-      })
-    where
-      bare : Steps
-      bare = record { states = length keys; reading = []; silent = []; starts = number ∷ []; finals = [] }
+-- What stands in a list with one more element.
+got_push : {X : Type 0} (xs : List X) (x y : X) (i : ℕ) → slice_get (xs ++ x ∷ []) i ≡ Some y
+    → (slice_get xs i ≡ Some y) ⊎ ((i ≡ length xs) × (x ≡ y))
+got_push xs x y i at =
+    let within = slice_get_within (xs ++ x ∷ []) i y at in
+    let value = get_or_from_slice_get (xs ++ x ∷ []) i y y at in
+    let l = length-append xs (x ∷ []) in
+    let cases : (i < length xs) ⊎ (i ≡ length xs) = grind arith in
+    elim cases [
+      | inl old ↦ inl (slice_get-get_or xs i y old
+          ∙ ap Some (sym (get_or_append_left xs (x ∷ []) y i old) ∙ value))
+      | inr e ↦ inr (
+        e,
+        sym (get_or-append_seam xs x [] y)
+            ∙ ap (λ k. slice_index_or (xs ++ x ∷ []) k y) (sym e) ∙ value,
+      )
+    ]
 
-      no_step : (i : ℕ) (byte : Option ℕ) (j : ℕ) → HasStep bare i byte j → ⊥
-      no_step i None j step = (let w = step.among.1 in omega arith)
-      no_step i (Some byte) j step = (let w = step.among.1 in omega arith)
+-- Keys that were met keep their places.
+earlier : {K : Type 0} (keys more : List K) (i : ℕ) (key : K) → Extends keys more → i < length keys
+    → slice_get more i ≡ Some key → slice_get keys i ≡ Some key
+earlier keys more i key extends within here = elim (slice_get_cases keys i).1 [
+  | inl found ↦ (let e = extends i found.0 found.2 in cc)
+  | inr past ↦ absurd (let w = past.0 in omega arith)
+]
 
-  pub moved : (keys more : List K) (m mid n : Steps) (count number : ℕ) (choice : Choice) (key : K) (move : Move K)
-      → Follows IsKey g start keys m count (choice_number choice) → slice_get keys count ≡ Some key
-      → g.moves key choice ≡ Some move
-      → IsKey move.to → IsMet keys move.to more number → mid ≡ record m { states = length more }
-      → AddsStep mid n count move.byte number → IsChoice choice
-      → Follows IsKey g start more n count (choice_number choice + 1)
-  moved keys more m mid n count number choice key move before at moves is met grown added below = record {
-    states = ap (λ (x : Steps). x.states) same;
-    starts = ap (λ (x : Steps). x.starts) same ∙ before.starts;
-    first = met.extends 0 start before.first;
-    proper = λ i other here. elim (met.only i other here)
-        [ inl old ↦ before.proper i other old | inr e ↦ rw e is ];
-    leads = λ i byte j step. elim (added.only i byte j step) [
-      | inl old ↦ later (before.leads i byte j
-          (same_steps mid m (ap (λ (x : Steps). x.silent) grown) (ap (λ (x : Steps). x.reading) grown) i byte j old))
-      | inr own ↦ rw (own.0, own.1, own.2) (record {
-        from = key;
-        to = move.to;
-        from_is = met.extends count key at;
-        to_is = stored;
-        leads = record { choice = choice; is = below; move = moves };
-      })
+pub same_extends : {K : Type 0} (keys : List K) → Extends keys keys
+same_extends keys i key at = at
+
+pub met_keys : {K : Type 0} (IsKey : K → Type 0) (keys more : List K) (key : K) (number : ℕ) → AreKeys IsKey keys
+    → IsMet keys key more number → IsKey key → AreKeys IsKey more
+met_keys IsKey keys more key number are met is i other at = elim (met.only i other at)
+    [ inl old ↦ are i other old | inr e ↦ rw e is ]
+
+module _ {K : Type 0} (g : GraphOf K) where
+  pub no_steps : (keys : List K) (key : K) → AreSteps g keys key 0 []
+  no_steps keys key = record {
+    sound = λ byte number has. absurd (let w = has.1.1 in omega arith);
+    complete = λ choice move is below at. absurd (omega arith);
+  }
+
+  steps_later : (keys more : List K) (key : K) (choices : ℕ) (steps : List Step) → Extends keys more
+      → AreSteps g keys key choices steps → AreSteps g more key choices steps
+  steps_later keys more key choices steps extends is = record {
+    sound = λ byte number has. let to = is.sound byte number has in (to.0, extends number to.0 to.1, to.2);
+    complete = λ choice move a b at.
+        let found = is.complete choice move a b at in (found.0, extends found.0 move.to found.1, found.2);
+  }
+
+  -- One more choice leads to a key, or nowhere.
+  pub steps_more : (keys more : List K) (key : K) (choice : Choice) (move : Move K) (steps next : List Step)
+      (number : ℕ) → AreSteps g keys key (choice_number choice) steps → IsChoice choice
+      → g.moves key choice ≡ Some move → IsMet keys move.to more number → AddsStep steps next move.byte number
+      → AreSteps g more key (choice_number choice + 1) next
+  steps_more keys more key choice move steps next number before is leads met adds = record {
+    sound = λ byte j has. elim ((adds byte j).0 has) [
+      | inl old ↦ let to = before.sound byte j old in (to.0, met.extends j to.0 to.1, to.2)
+      | inr own ↦ rw (own.0, own.1) (move.to, met.stored, record { choice = choice; is = is; move = leads })
     ];
-    finals = λ i among.
-        let last = before.finals i (rw finals at among) in (last.0, met.extends i last.0 last.1, last.2);
-    moves = λ i c other way front small here is_way.
-        let cases : IsBefore count (choice_number choice) i (choice_number c)
-        ⊎ ((i ≡ count) × (choice_number c ≡ choice_number choice)) = grind arith in
+    complete = λ c other is_c below at.
+        let n = choice_number choice in
+        let cases : (choice_number c < n) ⊎ (choice_number c ≡ n) = grind arith in
         elim cases [
           | inl old ↦
-              let within : i < length keys = elim old [
-                | inl less ↦ (let w = slice_get_within keys count key at in omega arith)
-                | inr own ↦ (let w = slice_get_within keys count key at in let e = own.0 in omega arith)
-              ] in
-              let before_here : slice_get keys i ≡ Some other = earlier i other within here in
-              has_later i way (before.moves i c other way old small before_here is_way)
-          | inr own ↦
-              let e : other ≡ key =
-              (let h = rw own.0 at here in let k = met.extends count key at in cc) in
-              let f : way ≡ move = (let h = rw (e, same_choice c choice small below own.1) at is_way in cc) in
-              rw (own.0, f) (record { number = number; is = stored; step = added.adds })
+              let found = before.complete c other is_c old at in
+              (found.0, met.extends found.0 other.to found.1, (adds other.byte found.0).1 (inl found.2))
+          | inr e ↦
+              let same : move ≡ other = (let h = rw (same_choice c choice is_c is e) at at in cc) in
+              rw (← same) (number, met.stored, (adds move.byte number).1 (inr (refl, refl)))
         ];
-    final = λ i other less here final. rw finals (before.final i other less
-        (earlier i other (let w = slice_get_within keys count key at in omega arith) here) final);
   }
-    where
-      same : n ≡ record m { states = length more; reading = n.reading; silent = n.silent }
-      same = cc (added.same, grown)
 
-      finals : n.finals ≡ m.finals
-      finals = ap (λ (x : Steps). x.finals) same
+  pub steps_same : (keys : List K) (key : K) (choice : Choice) (steps : List Step)
+      → AreSteps g keys key (choice_number choice) steps → IsChoice choice → g.moves key choice ≡ None
+      → AreSteps g keys key (choice_number choice + 1) steps
+  steps_same keys key choice steps before is none = record {
+    sound = before.sound;
+    complete = λ c other is_c below at.
+        let n = choice_number choice in
+        let cases : (choice_number c < n) ⊎ (choice_number c ≡ n) = grind arith in
+        elim cases [
+          | inl old ↦ before.complete c other is_c old at
+          | inr e ↦ absurd (let h = rw (same_choice c choice is_c is e) at at in cc)
+        ];
+  }
 
-      stored : slice_get more number ≡ Some move.to
-      stored = met.stored
+  module _ (IsKey : K → Type 0) (start : K) where
+    pub begun : (keys : List K) (m : Machine) (number : ℕ) → IsKey start → IsMet [] start keys number
+        → m.steps.items ≡ [] → m.finals.items ≡ [] → Follows IsKey g start keys m 0
+    begun keys m number is met steps finals = record {
+      first = first_key [] keys start number refl met;
+      proper = λ i key at. elim (met.only i key at) [ inl none ↦ absurd (cc) | inr e ↦ rw e is ];
+      within = omega arith;
+      states = ap length steps;
+      marks = ap length finals;
+      steps = λ i key own at row. absurd (let none = rw steps at row in cc);
+      final = λ i key below at. absurd (omega arith);
+    }
 
-      later : {i j : ℕ} {byte : Option ℕ} → LeadsAt g keys i byte j → LeadsAt g more i byte j
-      later {i} {j} is = record {
-        from = is.from;
-        to = is.to;
-        from_is = met.extends i is.from is.from_is;
-        to_is = met.extends j is.to is.to_is;
-        leads = is.leads;
-      }
+    pub follows_more : (keys more : List K) (m n : Machine) (count : ℕ) (key : K) (own : Vec Step Global)
+        (final : Bool) → Follows IsKey g start keys m count → slice_get keys count ≡ Some key
+        → AreKeys IsKey more → Extends keys more → AreSteps g more key 258 own.items → final ≡ g.is_final key
+        → n.steps.items ≡ m.steps.items ++ own ∷ [] → n.finals.items ≡ m.finals.items ++ final ∷ []
+        → Follows IsKey g start more n (count + 1)
+    follows_more keys more m n count key own final before at proper extends are is_final steps finals = record {
+      first = extends 0 start before.first;
+      proper = proper;
+      within = (let w = slice_get_within more count key (extends count key at) in omega arith);
+      states = (let l = length-append m.steps.items (own ∷ []) in let b = before.states in rw steps (omega arith));
+      marks = (let l = length-append m.finals.items (final ∷ []) in let b = before.marks in rw finals (omega arith));
+      steps = λ i other row here at_row. elim (got_push m.steps.items own row i (rw steps at at_row)) [
+        | inl old ↦
+            let w = slice_get_within m.steps.items i row old in
+            let b = before.states in
+            let f = before.within in
+            steps_later keys more other 258 row.items extends
+            (before.steps i other row (earlier keys more i other extends (omega arith) here) old)
+        | inr new ↦
+            let e : other ≡ key =
+            (let h = rw (new.0, before.states) at here in let k = extends count key at in cc) in
+            rw (e, ← new.1) are
+      ];
+      final = λ i other below here.
+          let f = before.within in
+          let cases : (i < count) ⊎ (i ≡ count) = grind arith in
+          elim cases [
+            | inl old ↦ rw finals (get_or_append_left m.finals.items (final ∷ []) false i
+                (let b = before.marks in omega arith)
+                ∙ before.final i other old (earlier keys more i other extends (omega arith) here))
+            | inr e ↦
+                let same : other ≡ key = (let h = rw e at here in let k = extends count key at in cc) in
+                rw (finals, e, ← before.marks, same) (get_or-append_seam m.finals.items final [] false ∙ is_final)
+          ];
+    }
 
-      earlier : (i : ℕ) (other : K) → i < length keys → slice_get more i ≡ Some other → slice_get keys i
-          ≡ Some other
-      earlier i other within here = elim (slice_get_cases keys i).1 [
-        | inl found ↦ (let e = met.extends i found.0 found.2 in cc)
-        | inr past ↦ absurd (let w = past.0 in omega arith)
+    module _ (keys : List K) (m : Machine) (count : ℕ) (is : Follows IsKey g start keys m count)
+        (all : length keys ≤ count) where
+      leads_of : (i : ℕ) (key : K) (byte : Option ℕ) (j : ℕ) → slice_get keys i ≡ Some key → Goes m i byte j
+          → (to : K) × (slice_get keys j ≡ Some to) × Leads g key byte to
+      leads_of i key byte j at goes = (is.steps i key goes.0 at goes.1).sound byte j goes.2
+
+      goes_of : (i : ℕ) (key : K) (byte : Option ℕ) (to : K) → slice_get keys i ≡ Some key
+          → Leads g key byte to → (j : ℕ) × (slice_get keys j ≡ Some to) × Goes m i byte j
+      goes_of i key byte to at leads = elim (slice_get_cases m.steps.items i).1 [
+        | inl row ↦
+            let found = (is.steps i key row.0 at row.2).complete leads.choice (record { byte = byte; to = to }) leads.is
+            (number_below leads.choice leads.is) leads.move in
+            (found.0, found.1, (row.0, row.2, found.2))
+        | inr past ↦ absurd
+            (let w = slice_get_within keys i key at in let p = past.0 in let s = is.states in omega arith)
       ]
+        where
+          number_below : (choice : Choice) → IsChoice choice → choice_number choice < 258
+          number_below (Byte byte) below = omega arith
+          number_below One below = omega arith
+          number_below Other below = omega arith
 
-      has_later : (i : ℕ) (way : Move K) → HasMove keys m i way → HasMove more n i way
-      has_later i way has = record {
-        number = has.number;
-        is = met.extends has.number way.to has.is;
-        step = added.keeps i way.byte has.number (same_steps m mid (ap (λ (x : Steps). x.silent) (sym grown))
-            (ap (λ (x : Steps). x.reading) (sym grown)) i way.byte has.number has.step);
-      }
+      final_of : (i : ℕ) (key : K) → slice_get keys i ≡ Some key
+          → slice_index_or m.finals.items i false ≡ g.is_final key
+      final_of i key at = is.final i key (let w = slice_get_within keys i key at in omega arith) at
 
-  pub stayed : (keys : List K) (m : Steps) (count : ℕ) (choice : Choice) (key : K)
-      → Follows IsKey g start keys m count (choice_number choice) → IsChoice choice → slice_get keys count
-      ≡ Some key → g.moves key choice ≡ None → Follows IsKey g start keys m count (choice_number choice + 1)
-  stayed keys m count choice key before is at none = record {
-    states = before.states;
-    starts = before.starts;
-    first = before.first;
-    proper = before.proper;
-    leads = before.leads;
-    finals = before.finals;
-    moves = λ i c other move front below here moves.
-        let cases : IsBefore count (choice_number choice) i (choice_number c)
-        ⊎ ((i ≡ count) × (choice_number c ≡ choice_number choice)) = grind arith in
-        elim cases [
-          | inl old ↦ before.moves i c other move old below here moves
-          | inr own ↦ absurd (let e : other ≡ key = (let h = rw own.0 at here in cc) in
-              let f = rw (e, same_choice c choice below is own.1) at moves in cc)
-        ];
-    final = before.final;
-  }
+      to_way : {i : ℕ} {text : List ℕ} (key : K) → slice_get keys i ≡ Some key → PathToFinal m i text
+          → Way g key text
+      to_way {i} key at (path_ends final) = ends (sym (final_of i key at) ∙ final)
+      to_way {i} key at (path_passes {next = next} goes path) =
+          let to = leads_of i key None next at goes in
+          passes to.2 (to_way to.0 to.1 path)
+      to_way {i} key at (path_reads {next = next} {byte = byte} goes path) =
+          let to = leads_of i key (Some byte) next at goes in
+          reads to.2 (to_way to.0 to.1 path)
 
-  pub ended : (keys : List K) (m n : Steps) (count : ℕ) (key : K) → Follows IsKey g start keys m count 258
-      → slice_get keys count ≡ Some key → g.is_final key ≡ true
-      → n ≡ record m { finals = m.finals ++ count ∷ [] } → Follows IsKey g start keys n (count + 1) 0
-  ended keys m n count key before at final new =
-      rw new (record {
-        states = before.states;
-        starts = before.starts;
-        first = before.first;
-        proper = before.proper;
-        leads = λ i byte j step. before.leads i byte j (same_steps _ m refl refl i byte j step);
-        finals = λ i among. elim (Contains-push_cases m.finals count i among)
-            [ inl old ↦ before.finals i old | inr e ↦ (key, rw (← e) at, final) ];
-        moves = λ i choice other move front below here moves.
-            let has = before.moves i choice other move (grind arith) below here moves in
-            record {
-              number = has.number;
-              is = has.is;
-              step = same_steps m _ refl refl i move.byte has.number
-                  has.step;
-            };
-        final = λ i other less here is.
-            let cases : (i < count) ⊎ (count ≡ i) = grind arith in
-            elim cases [
-              | inl old ↦ Contains-append_left m.finals (count ∷ []) i (before.final i other old here is)
-              | inr e ↦ rw (← e) (Contains-push m.finals count)
+      from_way : {key : K} {text : List ℕ} (i : ℕ) → slice_get keys i ≡ Some key → Way g key text
+          → PathToFinal m i text
+      from_way {key} i at (ends final) = path_ends (final_of i key at ∙ final)
+      from_way {key} i at (passes {to = to} leads way) =
+          let goes = goes_of i key None to at leads in
+          path_passes goes.2 (from_way goes.0 goes.1 way)
+      from_way {key} i at (reads {to = to} {byte = byte} leads way) =
+          let goes = goes_of i key (Some byte) to at leads in
+          path_reads goes.2 (from_way goes.0 goes.1 way)
+
+      pub reads_ways : ReadsWays g start m
+      reads_ways text = (to_way start is.first, from_way 0 is.first)
+
+      pub is_machine : IsMachine m
+      is_machine = record {
+        some = (let w = slice_get_within keys 0 start is.first in let s = is.states in omega arith);
+        finals = is.marks ∙ sym is.states;
+        within = λ i byte j goes.
+            let w = slice_get_within m.steps.items i goes.0 goes.1 in
+            let s = is.states in
+            let f = is.within in
+            elim (slice_get_cases keys i).1 [
+              | inl key ↦
+                  let to = leads_of i key.0 byte j key.2 goes in
+                  let t = slice_get_within keys j to.0 to.1 in
+                  omega arith
+              | inr past ↦ absurd (let p = past.0 in omega arith)
             ];
-      })
-
-  pub goes_by : (keys : List K) (m : Steps) (count : ℕ) (key : K) → Follows IsKey g start keys m count 258
-      → slice_get keys count ≡ Some key → (g.is_final key ≡ true → ⊥)
-      → Follows IsKey g start keys m (count + 1) 0
-  goes_by keys m count key before at isnt = record {
-    states = before.states;
-    starts = before.starts;
-    first = before.first;
-    proper = before.proper;
-    leads = before.leads;
-    finals = before.finals;
-    moves = λ i choice other move front below. before.moves i choice other move (grind arith) below;
-    final = λ i other less here is.
-        let cases : (i < count) ⊎ (count ≡ i) = grind arith in
-        elim cases [
-          | inl old ↦ before.final i other old here is
-          | inr e ↦ absurd (isnt (let same : other ≡ key = (let h = rw (← e) at here in cc) in rw same at is))
-        ];
-  }
-
-  module _ (keys : List K) (m : Steps) (count : ℕ) (is : Follows IsKey g start keys m count 0)
-      (all : length keys ≤ count) where
-    to_way : {i : ℕ} {text : List ℕ} (key : K) → slice_get keys i ≡ Some key → PathToFinal m i text
-        → Way g key text
-    to_way {i} key at (path_ends final) =
-        let found = is.finals i final in
-        let e : found.0 ≡ key = cc in
-        ends (rw (← e) found.2)
-    to_way {i} key at (silently {next = next} step path) =
-        let found = is.leads i None next step in
-        let e : found.from ≡ key = cc in
-        passes (rw e at found.leads) (to_way found.to found.to_is path)
-    to_way {i} key at (by_byte {next = next} {byte = byte} step path) =
-        let found = is.leads i (Some byte) next step in
-        let e : found.from ≡ key = cc in
-        reads (rw e at found.leads) (to_way found.to found.to_is path)
-
-    move_of : (i : ℕ) (key : K) (byte : Option ℕ) (to : K) → slice_get keys i ≡ Some key → Leads g key byte to
-        → HasMove keys m i (record { byte = byte; to = to })
-    move_of i key byte to at leads =
-        is.moves i leads.choice key (record { byte = byte; to = to })
-        (inl (let w = slice_get_within keys i key at in omega arith)) leads.is at leads.move
-
-    from_way : {key : K} {text : List ℕ} (i : ℕ) → slice_get keys i ≡ Some key → Way g key text
-        → PathToFinal m i text
-    from_way {key} i at (ends final) =
-        path_ends (is.final i key (let w = slice_get_within keys i key at in omega arith) at final)
-    from_way {key} i at (passes {to = to} leads way) =
-        let move = move_of i key None to at leads in
-        silently move.step (from_way move.number move.is way)
-    from_way {key} i at (reads {to = to} {byte = byte} leads way) =
-        let move = move_of i key (Some byte) to at leads in
-        by_byte move.step (from_way move.number move.is way)
-
-    pub reads_ways : ReadsWays g start m
-    reads_ways text = (
-      (λ path.
-          let only = rw is.starts at path.among in
-          let begins : 0 ≡ path.start = elim (Contains-push_cases [] 0 path.start only)
-          [ inl none ↦ absurd (let w = none.1 in omega arith) | inr e ↦ e ] in
-          to_way start (rw begins at is.first) path.path),
-      (λ way. record {
-        start = 0;
-        among = rw is.starts (Contains-push [] 0);
-        path = from_way 0 is.first way;
-      }),
-    )
+      }

@@ -19,5 +19,5 @@ pub mod Replaced
 pub mod Merged
 pub mod Alone
 pub mod Found
-pub mod Growing
 pub mod Following
+pub mod Steps

@@ -1,13 +1,16 @@
 -- Graphs: a key leads to others by its choices, of which each may read a byte on the way.
-use Rattle.std.specs.Prelude.{◌≡◌, ℕ, ◌<◌, ◌⊎◌, ◌↔◌, IsTrue, List, [], ◌∷◌, length}
-use Rattle.std.specs.Prelude.{slice_get, Bool, true, Option, None, Some}
-use Rattle.std.specs.List.{Contains}
+use Rattle.std.specs.Prelude.{◌≡◌, ℕ, ◌<◌, ◌≤◌, ◌↔◌, IsTrue, List, [], ◌∷◌, length}
+use Rattle.std.specs.Prelude.{slice_get}
+use Rattle.std.specs.Prelude.{slice_index_or, Bool, true, false, Option, None, Some, Vec}
+use Rattle.std.specs.declared.alloc.Global.{Global}
 use Rattle.hc_dfa.specs.Automata.{Automaton, accepts}
-use Rattle.hc_dfa.specs.Machines.{Steps, HasPath, HasStep}
+use Rattle.hc_dfa.specs.Machines.{HasStep, PathToFinal}
 use Rattle.hc_dfa.specs.Texts.{IsText}
 use Rattle.hc_dfa.specs.declared.graphs.Choice.{Choice}
 use Rattle.hc_dfa.specs.declared.graphs.Choice.TheVariants.{Byte, One, Other}
 use Rattle.hc_dfa.specs.declared.graphs.Move.{Move}
+use Rattle.hc_dfa.specs.declared.machine.Machine.{Machine}
+use Rattle.hc_dfa.specs.declared.machine.Step.{Step}
 
 -- The place of a choice in their order.
 abbrev pub choice_number : Choice → ℕ
@@ -40,45 +43,34 @@ pub data Way {K : Type 0} (g : GraphOf K) : K → List ℕ → Type 0 where
       → Way g key (byte ∷ text)
 
 -- The machine reads the texts on the ways from the key.
-abbrev pub ReadsWays : {K : Type 0} → GraphOf K → K → Steps → Type 0
-ReadsWays {K} g first m = (text : List ℕ) → HasPath m text ↔ Way g first text
+abbrev pub ReadsWays : {K : Type 0} → GraphOf K → K → Machine → Type 0
+ReadsWays {K} g first m = (text : List ℕ) → PathToFinal m 0 text ↔ Way g first text
 
 -- The automaton accepts them, of all texts of bytes.
 abbrev pub AcceptsWays : {K : Type 0} → GraphOf K → K → Automaton → Type 0
 AcceptsWays {K} g first a = (text : List ℕ) → IsText text → IsTrue (accepts a text) ↔ Way g first text
 
--- The numbers of two keys of which the first leads to the second.
-pub record LeadsAt {K : Type 0} (g : GraphOf K) (keys : List K) (i : ℕ) (byte : Option ℕ) (j : ℕ) : Type 0 where
-  pub from : K
-  pub to : K
-  pub from_is : slice_get keys i ≡ Some from
-  pub to_is : slice_get keys j ≡ Some to
-  pub leads : Leads g from byte to
+abbrev pub AreKeys : {K : Type 0} → (K → Type 0) → List K → Type 0
+AreKeys {K} IsKey keys = (i : ℕ) (key : K) → slice_get keys i ≡ Some key → IsKey key
 
--- The state has a step to the key that the move leads to.
-pub record HasMove {K : Type 0} (keys : List K) (m : Steps) (i : ℕ) (move : Move K) : Type 0 where
-  pub number : ℕ
-  pub is : slice_get keys number ≡ Some move.to
-  pub step : HasStep m i move.byte number
-
--- The choice is one of the first keys', or of the first choices of the key behind them.
-abbrev pub IsBefore : ℕ → ℕ → ℕ → ℕ → Type 0
-IsBefore count choices i choice = (i < count) ⊎ ((i ≡ count) × (choice < choices))
-
--- Each key is a state of the machine. Its steps are moves of the graph, and it has those of the first keys, and of the
--- first choices of the key behind them.
-pub record Follows {K : Type 0} (IsKey : K → Type 0) (g : GraphOf K) (start : K) (keys : List K) (m : Steps)
-    (count choices : ℕ) :
+-- The steps lead to the numbers of those keys to which the first choices of a key lead.
+pub record AreSteps {K : Type 0} (g : GraphOf K) (keys : List K) (key : K) (choices : ℕ) (steps : List Step) :
     Type 0 where
-  pub states : m.states ≡ length keys
-  pub starts : m.starts ≡ 0 ∷ []
+  pub sound : (byte : Option ℕ) (number : ℕ) → HasStep steps byte number
+      → (to : K) × (slice_get keys number ≡ Some to) × Leads g key byte to
+  pub complete : (choice : Choice) (move : Move K) → IsChoice choice → choice_number choice < choices
+      → g.moves key choice ≡ Some move
+      → (number : ℕ) × (slice_get keys number ≡ Some move.to) × HasStep steps move.byte number
+
+-- So many of the keys are states of the machine, with their steps and marks.
+pub record Follows {K : Type 0} (IsKey : K → Type 0) (g : GraphOf K) (start : K) (keys : List K) (m : Machine)
+    (count : ℕ) : Type 0 where
   pub first : slice_get keys 0 ≡ Some start
-  pub proper : (i : ℕ) (key : K) → slice_get keys i ≡ Some key → IsKey key
-  pub leads : (i : ℕ) (byte : Option ℕ) (j : ℕ) → HasStep m i byte j → LeadsAt g keys i byte j
-  pub finals : (i : ℕ) → Contains m.finals i → (key : K) × (slice_get keys i ≡ Some key)
-      × (g.is_final key ≡ true)
-  pub moves : (i : ℕ) (choice : Choice) (key : K) (move : Move K) → IsBefore count choices i (choice_number choice)
-      → IsChoice choice
-      → slice_get keys i ≡ Some key → g.moves key choice ≡ Some move → HasMove keys m i move
-  pub final : (i : ℕ) (key : K) → i < count → slice_get keys i ≡ Some key → g.is_final key ≡ true
-      → Contains m.finals i
+  pub proper : AreKeys IsKey keys
+  pub within : count ≤ length keys
+  pub states : length m.steps.items ≡ count
+  pub marks : length m.finals.items ≡ count
+  pub steps : (i : ℕ) (key : K) (steps : Vec Step Global) → slice_get keys i ≡ Some key
+      → slice_get m.steps.items i ≡ Some steps → AreSteps g keys key 258 steps.items
+  pub final : (i : ℕ) (key : K) → i < count → slice_get keys i ≡ Some key
+      → slice_index_or m.finals.items i false ≡ g.is_final key

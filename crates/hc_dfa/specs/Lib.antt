@@ -10,5 +10,4 @@ pub mod Machines
 pub mod Pairs
 pub mod Sets
 pub mod Singles
-pub mod Spans
 pub mod Texts

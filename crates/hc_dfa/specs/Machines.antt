@@ -1,79 +1,66 @@
--- Machines whose steps read a byte or are silent, and may lead from a state to many.
-use Rattle.std.specs.Prelude.{◌≡◌, ℕ, ◌+◌, ◌<◌, ◌≤◌, ◌^◌, ◌⊎◌, ◌↔◌, IsTrue, List}
-use Rattle.std.specs.Prelude.{[], ◌∷◌, Option, None, Some}
-use Rattle.std.specs.List.{All, Contains}
+-- Machines whose steps read a byte or nothing, and may lead from a state to many.
+use Rattle.std.specs.Prelude.{◌≡◌, ℕ, ◌<◌, ◌≤◌, ◌⊎◌, ◌↔◌, IsTrue, List, [], ◌∷◌}
+use Rattle.std.specs.Prelude.{length, slice_get}
+use Rattle.std.specs.Prelude.{slice_index_or, true, false, Option, None, Some, Vec}
+use Rattle.std.specs.List.{Contains}
+use Rattle.std.specs.declared.alloc.Global.{Global}
 use Rattle.hc_dfa.specs.Automata.{Automaton, accepts}
 use Rattle.hc_dfa.specs.Texts.{IsText}
-use Rattle.hc_dfa.specs.declared.machine.ReadingStep.{ReadingStep}
-use Rattle.hc_dfa.specs.declared.machine.SilentStep.{SilentStep}
+use Rattle.hc_dfa.specs.declared.machine.Bytes.{Bytes}
+use Rattle.hc_dfa.specs.declared.machine.Machine.{Machine}
+use Rattle.hc_dfa.specs.declared.machine.Step.{Step}
 
--- A machine by its lists. Its states are the numbers below `states`.
-pub record Steps : Type 0 where
-  pub states : ℕ
-  pub reading : List ReadingStep
-  pub silent : List SilentStep
-  pub starts : List ℕ
-  pub finals : List ℕ
+-- A step past nothing is one by no byte, and one past bytes is one by each of them.
+abbrev pub Reads : Option Bytes → Option ℕ → Type 0
+Reads None None = Unit {0}
+Reads None (Some byte) = ⊥
+Reads (Some bytes) None = ⊥
+Reads (Some bytes) (Some byte) = (bytes.low ≤ byte) × (byte ≤ bytes.high)
 
-abbrev pub steps_of : ℕ → List ReadingStep → List SilentStep → List ℕ → List ℕ → Steps
-steps_of states reading silent starts finals =
-    record { states = states; reading = reading; silent = silent; starts = starts; finals = finals }
+-- The step leads to a state past this byte, or past none.
+abbrev pub LeadsBy : Step → Option ℕ → ℕ → Type 0
+LeadsBy step byte to = Reads step.bytes byte × (step.to ≡ to)
 
--- Each step is between states of the machine, and so are the starts and the finals.
-pub record IsMachine (m : Steps) : Type 0 where
-  pub few : m.states < 2 ^ 32
-  pub reading : All (λ (step : ReadingStep). (step.from < m.states) × (step.to < m.states)) m.reading
-  pub silent : All (λ (step : SilentStep). (step.from < m.states) × (step.to < m.states)) m.silent
-  pub starts : All (λ (state : ℕ). state < m.states) m.starts
-  pub finals : All (λ (state : ℕ). state < m.states) m.finals
+-- It leads so alone.
+abbrev pub IsOneStep : Step → Option ℕ → ℕ → Type 0
+IsOneStep step byte to = (b : Option ℕ) (j : ℕ) → LeadsBy step b j ↔ ((b ≡ byte) × (j ≡ to))
 
--- Some reading step leads from a state to a state by this byte.
-pub record Reads (m : Steps) (from byte to : ℕ) : Type 0 where
-  pub step : ReadingStep
-  pub among : Contains m.reading step
-  pub leaves : step.from ≡ from
-  pub low : step.low ≤ byte
-  pub high : byte ≤ step.high
-  pub enters : step.to ≡ to
+-- The second step leads as the first, and so.
+abbrev pub Grows : Step → Option ℕ → ℕ → Step → Type 0
+Grows step byte to more =
+    (b : Option ℕ) (j : ℕ) → LeadsBy more b j ↔ (LeadsBy step b j ⊎ ((b ≡ byte) × (j ≡ to)))
 
--- Some silent step leads from a state to a state.
-pub record IsSilent (m : Steps) (from to : ℕ) : Type 0 where
-  pub step : SilentStep
-  pub among : Contains m.silent step
-  pub leaves : step.from ≡ from
-  pub enters : step.to ≡ to
+-- A step of the list leads so.
+abbrev pub HasStep : List Step → Option ℕ → ℕ → Type 0
+HasStep steps byte to = (step : Step) × Contains steps step × LeadsBy step byte to
 
--- A step of the machine, past a byte or none.
-abbrev pub HasStep : Steps → ℕ → Option ℕ → ℕ → Type 0
-HasStep m from None to = IsSilent m from to
-HasStep m from (Some byte) to = Reads m from byte to
+-- The steps of the second list lead as those of the first, and so.
+abbrev pub AddsStep : List Step → List Step → Option ℕ → ℕ → Type 0
+AddsStep steps more byte to =
+    (b : Option ℕ) (j : ℕ) → HasStep more b j ↔ (HasStep steps b j ⊎ ((b ≡ byte) × (j ≡ to)))
 
--- The second machine is the first with a step.
-pub record AddsStep (m n : Steps) (from : ℕ) (byte : Option ℕ) (to : ℕ) : Type 0 where
-  pub same : n ≡ record m { reading = n.reading; silent = n.silent }
-  pub keeps : (i : ℕ) (b : Option ℕ) (j : ℕ) → HasStep m i b j → HasStep n i b j
-  pub adds : HasStep n from byte to
-  pub only : (i : ℕ) (b : Option ℕ) (j : ℕ) → HasStep n i b j → HasStep m i b j
-      ⊎ ((i ≡ from) × (b ≡ byte) × (j ≡ to))
+-- A step of this state leads so.
+abbrev pub Goes : Machine → ℕ → Option ℕ → ℕ → Type 0
+Goes m from byte to = (steps : Vec Step Global) × (slice_get m.steps.items from ≡ Some steps)
+    × HasStep steps.items byte to
 
--- The byte behind the last one of the step leads as the step does.
-abbrev pub GoesOn : ReadingStep → ℕ → ℕ → ℕ → Type 0
-GoesOn step from byte to = (step.from ≡ from) × (step.high + 1 ≡ byte) × (step.to ≡ to) × (step.low ≤ byte)
+abbrev pub IsFinal : Machine → ℕ → Type 0
+IsFinal m state = slice_index_or m.finals.items state false ≡ true
 
--- A path from a state to a final one: its silent steps read nothing, its reading steps the text.
-pub data PathToFinal (m : Steps) : ℕ → List ℕ → Type 0 where
-  ends : {state : ℕ} → Contains m.finals state → PathToFinal m state []
-  silently : {state next : ℕ} {text : List ℕ} → IsSilent m state next → PathToFinal m next text
+-- There is a state, each has its mark, and each step leads to one.
+pub record IsMachine (m : Machine) : Type 0 where
+  pub some : 0 < length m.steps.items
+  pub finals : length m.finals.items ≡ length m.steps.items
+  pub within : (from : ℕ) (byte : Option ℕ) (to : ℕ) → Goes m from byte to → to < length m.steps.items
+
+-- The text is read on a path from a state to a final one.
+pub data PathToFinal (m : Machine) : ℕ → List ℕ → Type 0 where
+  ends : {state : ℕ} → IsFinal m state → PathToFinal m state []
+  passes : {state next : ℕ} {text : List ℕ} → Goes m state None next → PathToFinal m next text
       → PathToFinal m state text
-  by_byte : {state next byte : ℕ} {text : List ℕ} → Reads m state byte next → PathToFinal m next text
+  reads : {state next byte : ℕ} {text : List ℕ} → Goes m state (Some byte) next → PathToFinal m next text
       → PathToFinal m state (byte ∷ text)
 
--- Some path from a start to a final state reads the text.
-pub record HasPath (m : Steps) (text : List ℕ) : Type 0 where
-  pub start : ℕ
-  pub among : Contains m.starts start
-  pub path : PathToFinal m start text
-
--- The automaton accepts exactly the texts that some path from a start to a final state reads.
-abbrev pub AcceptsPathsOf : Steps → Automaton → Type 0
-AcceptsPathsOf m a = (text : List ℕ) → IsText text → IsTrue (accepts a text) ↔ HasPath m text
+-- The automaton accepts the texts on the paths from the first state.
+abbrev pub AcceptsPaths : Machine → Automaton → Type 0
+AcceptsPaths m a = (text : List ℕ) → IsText text → IsTrue (accepts a text) ↔ PathToFinal m 0 text

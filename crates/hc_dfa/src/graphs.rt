@@ -1,13 +1,16 @@
-ghost use Rattle.std.specs.Prelude.{◌≡◌, ℕ, ◌+◌, ◌<◌, ◌≤◌, IfOk, IfSome, OnOk, Some, length};
-ghost use Rattle.std.specs.Prelude.{slice_get, true};
-ghost use Rattle.hc_dfa.specs.Explored.{IsMet};
-ghost use Rattle.hc_dfa.specs.Graphs.{AcceptsWays, Follows, GraphOf, IsChoice, ReadsWays, choice_number};
+ghost use Rattle.std.specs.Prelude.{◌≡◌, ◌<◌, IfOk, IfSome, OnOk, true};
+ghost use Rattle.hc_dfa.specs.Explored.{Extends};
+ghost use Rattle.hc_dfa.specs.Graphs.{AcceptsWays, AreKeys, AreSteps, Follows, GraphOf, IsChoice, ReadsWays};
+ghost use Rattle.hc_dfa.specs.Graphs.{choice_number};
+ghost use Rattle.hc_dfa.specs.Machines.{IsMachine};
 ghost use Rattle.hc_dfa.specs.declared.graphs.Move.{Move};
 
+use crate::Dfa;
+use crate::determinize::determinized;
 use crate::exploring::{Walk, explore};
+use crate::machine::{Machine, Step, add_step};
 use crate::numbers::number_of;
 use crate::reduced::reduce;
-use crate::{Dfa, Machine};
 use hc_base::NoMemory;
 use indexmap::IndexSet;
 use std::alloc::Global;
@@ -66,13 +69,13 @@ pub trait Graph {
     ghost same: { (x y : Self.Key) → Self.Key.eq x y ≡ true → x ≡ y };
 }
 
-/// The least automaton that accepts the texts of a key.
+/// The automaton that accepts the texts of a key, reduced.
 pub fn automaton<G: Graph>(alloc: Global, graph: &G, first: G::Key) -> Result<Dfa, NoMemory>
     requires { G.is_key graph.now first }
     ensures { IfOk result (AcceptsWays (G.graph graph.now) first) }
 {
     let machine = machine_of(alloc, graph, first)?;
-    let made = machine.determinize(alloc)?;
+    let made = determinized(alloc, &machine)?;
     let reduced = reduce(alloc, &made)?;
     Ok(reduced)
 }
@@ -80,19 +83,31 @@ pub fn automaton<G: Graph>(alloc: Global, graph: &G, first: G::Key) -> Result<Df
 /// The machine that reads the texts of a key. Its states are the keys that are met from it on.
 fn machine_of<G: Graph>(alloc: Global, graph: &G, first: G::Key) -> Result<Machine, NoMemory>
     requires { G.is_key graph.now first }
-    ensures { IfOk result (ReadsWays (G.graph graph.now) first) }
+    ensures machine { IfOk result IsMachine }
+    ensures ways { IfOk result (ReadsWays (G.graph graph.now) first) }
 {
-    let mut machine = Machine::new(alloc, 0);
+    let mut machine = Machine {
+        steps: Vec::new(alloc),
+        finals: Vec::new(alloc),
+    };
     let mut keys = IndexSet::new(alloc);
-    let start = met(&mut machine, &mut keys, first)?;
-    machine.add_start(start)?;
-    explore(&Moves { graph, first }, &mut machine, &mut keys)?;
+    number_of(&mut keys, first)?;
+    explore(
+        &Moves {
+            alloc,
+            graph,
+            first,
+        },
+        &mut machine,
+        &mut keys,
+    )?;
     Ok(machine)
 }
 
 /// The walk over a graph that gathers its machine.
 #[derive(Drop)]
 struct Moves<'a, G: Graph> {
+    alloc: Global,
     graph: &'a G,
     first: G::Key,
 }
@@ -102,8 +117,8 @@ impl<'a, G: Graph> Walk for Moves<'a, G> {
 
     type Gathered = Machine;
 
-    ghost has_followed = { λ w m keys count. Follows (G.is_key w.graph.now)
-        (G.graph w.graph.now) w.first keys m count 0 };
+    ghost has_followed = { λ w m keys count. Follows (G.is_key w.graph.now) (G.graph w.graph.now) w.first keys m
+        count };
 
     fn follow(
         &self,
@@ -112,65 +127,34 @@ impl<'a, G: Graph> Walk for Moves<'a, G> {
         number: u32,
     ) -> Result<(), NoMemory> {
         let key = keys.as_slice()[number as usize];
-        add_moves(self, machine, keys, number, key)?;
-        if self.graph.is_final(key) {
-            machine.add_final(number)?;
-        }
+        machine
+            .steps
+            .push(steps_of(self.alloc, self.graph, keys, key)?)?;
+        machine.finals.push(self.graph.is_final(key))?;
         Ok(())
     }
 }
 
-/// Adds the steps of a key.
-fn add_moves<'a, G: Graph>(
-    walk: &Moves<'a, G>,
-    machine: &mut Machine,
+/// The steps of a key. The keys that they lead to are added to those that are met.
+fn steps_of<G: Graph>(
+    alloc: Global,
+    graph: &G,
     keys: &mut IndexSet<G::Key>,
-    number: u32,
     key: G::Key,
-) -> Result<(), NoMemory>
-    requires before { Follows (G.is_key walk.now.graph.now) (G.graph walk.now.graph.now) walk.now.first
-        keys.old.keys machine.old number 0 }
-    requires key { slice_get keys.old.keys number ≡ Some key }
-    ensures after { OnOk result
-        (Follows (G.is_key walk.now.graph.now) (G.graph walk.now.graph.now) walk.now.first keys.new.keys
-        machine.new number 258) }
-    ensures key { OnOk result (slice_get keys.new.keys number ≡ Some key) }
+) -> Result<Vec<Step>, NoMemory>
+    requires proper { AreKeys (G.is_key graph.now) keys.old.keys }
+    requires key { G.is_key graph.now key }
+    ensures proper { OnOk result (AreKeys (G.is_key graph.now) keys.new.keys) }
+    ensures extends { OnOk result (Extends keys.old.keys keys.new.keys) }
+    ensures steps { IfOk result (λ steps. AreSteps (G.graph graph.now) keys.new.keys key 258 steps.items) }
 {
+    let mut steps = Vec::new(alloc);
     for choice in 0..CHOICES {
-        let Some(step) = walk.graph.step(key, choice_at(choice)) else {
+        let Some(step) = graph.step(key, choice_at(choice)) else {
             continue;
         };
-        let to = met(machine, keys, step.to)?;
-        machine.add_move(number, step.byte, to)?;
+        let to = number_of(keys, step.to)?;
+        add_step(&mut steps, step.byte, to)?;
     }
-    Ok(())
-}
-
-/// The number of a key, which is a state of the machine.
-fn met<K: Copy + Eq + Hash + Drop>(
-    machine: &mut Machine,
-    keys: &mut IndexSet<K>,
-    key: K,
-) -> Result<u32, NoMemory>
-    requires same { (x y : K) → K.eq x y ≡ true → x ≡ y }
-    requires states { machine.old.states ≡ length keys.old.keys }
-    ensures number { IfOk result (λ number. IsMet keys.old.keys key keys.new.keys number) }
-    ensures machine { OnOk result (machine.new ≡ record machine.old { states = length keys.new.keys }) }
-{
-    let number = number_of(keys, key)?;
-    grow(machine, keys.len())?;
-    Ok(number)
-}
-
-/// A state for a new key.
-fn grow(machine: &mut Machine, keys: usize) -> Result<(), NoMemory>
-    requires least { machine.old.states ≤ keys }
-    requires most { keys ≤ machine.old.states + 1 }
-    ensures { OnOk result (machine.new ≡ record machine.old { states = keys }) }
-{
-    if machine.states() as usize == keys {
-        return Ok(());
-    }
-    machine.add_state()?;
-    Ok(())
+    Ok(steps)
 }

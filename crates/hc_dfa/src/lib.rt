@@ -1,10 +1,11 @@
 //! Deterministic automata over bytes, as sets of texts.
 //!
-//! Not used by the program yet: deterministic automata as sets of texts. `determinize` accepts exactly what a path
-//! of the machine reads; `product`, `complement` and `byte_image` accept exactly the sets that their names say,
-//! `single` one text alone, and `reduce` what it is given; `least` is the first of the shortest texts, or there is
-//! none; `included` says yes, or has the least text that is outside; `first_members` gives the first texts in
-//! order.
+//! Not used by the program yet: deterministic automata as sets of texts. `product`, `complement` and `byte_image`
+//! accept exactly the sets that their names say, `single` one text alone, and `reduce` what it is given; `least` is
+//! the first of the shortest texts, or there is none; `included` says yes, or has the least text that is outside;
+//! `first_members` gives the first texts in order. `automaton` accepts exactly the texts on the ways of a graph;
+//! `explore` follows each key that is met, once, `table_of` makes a table of keys that each byte leads on from, and
+//! `settle` goes over a state until a pass leaves it.
 #![tactic(auto)]
 
 mod classes;
@@ -24,7 +25,6 @@ mod products;
 mod reduced;
 mod rows;
 mod settling;
-mod spans;
 mod subsets;
 
 pub use dfa::{Dfa, complement};
@@ -34,7 +34,6 @@ pub use graphs::{Choice, Graph, Move, automaton};
 pub use image::byte_image;
 pub use include::{Inclusion, included};
 pub use leasts::least;
-pub use machine::{Machine, ReadingStep, SilentStep};
 pub use member::Member;
 pub use products::{Keep, product};
 pub use reduced::reduce;

@@ -1,28 +1,25 @@
 -- One row more.
 use Rattle.std.proofs.Common.{◌≡◌, ℕ, zero, suc, ◌+◌, ◌-◌, ◌<◌, ◌≤◌, List, [], ◌∷◌}
 use Rattle.std.proofs.Common.{◌++◌, length, take, drop, get_or, slice_range, true, refl, ap, ◌∙◌, sym, subst}
-use Rattle.std.proofs.Common.{arith, ◌&&◌, nat_eq}
-use Rattle.std.specs.Cmp.Lexicographic.{pointwise}
+use Rattle.std.proofs.Common.{arith}
 use Rattle.std.specs.Str.{IsCharBoundary, IsUtf8, bytes_eq}
-use Rattle.std.proofs.lemmas.Bool.{and_parts}
 use Rattle.std.proofs.lemmas.Str.{IsCharBoundary-from_take, IsUtf8-append}
 use Rattle.std.proofs.Math.Seq.{drop-append_seam, take-append_seam}
 use Rattle.std.proofs.lemmas.Slice.Eq.{bytes_eq-Decides}
 use Rattle.std.proofs.lemmas.List.{append_assoc, append-nil, drop-append-le, get_or_append_left, get_or_push}
 use Rattle.std.proofs.lemmas.List.{length-append, length-drop, take-append-le, take_all}
 use Rattle.hc_model.specs.declared.entry.Entry.{Entry}
-use Rattle.hc_flat.specs.EntriesView.{EndsWith, Fit, IsCut, IsFilled, frame_at, frame_of, is_frame, is_last, row_behind}
+use Rattle.hc_flat.specs.EntriesView.{EndsWith, Fit, IsCut, IsFilled, file_at, is_last, row_behind}
 use Rattle.hc_flat.specs.EntriesView.{row_seen, rows_seen}
 use Rattle.hc_flat.specs.declared.entries.EntryRow.{EntryRow}
-use Rattle.hc_flat.specs.declared.entries.Frame.{Frame}
 
 range_stays : {X : Type 0} (xs ys : List X) (a b : ℕ) → a ≤ b → b ≤ length xs → slice_range (xs ++ ys) a b
     ≡ slice_range xs a b
 range_stays xs ys a b order within =
     rw (drop-append-le a xs ys (omega arith)) (take-append-le (b - a) (drop a xs) ys (omega (arith, length-drop a xs)))
 
--- Rows that are filled stay what they are when more frames and texts come.
-module _ (frames more : List Frame) (texts t : List ℕ) where
+-- Rows that are filled stay what they are when more files and texts come.
+module _ (files more : List (List ℕ)) (texts t : List ℕ) where
   cut_stays : (at : ℕ) → IsCut texts at → IsCut (texts ++ t) at
   cut_stays at cut =
       record {
@@ -30,57 +27,57 @@ module _ (frames more : List Frame) (texts t : List ℕ) where
         front = subst IsUtf8 (sym (take-append-le at texts t cut.within)) cut.front;
       }
 
-  row_stays : (row : EntryRow) → IsFilled frames texts row → row_seen (frames ++ more) (texts ++ t) row
-      ≡ row_seen frames texts row
+  row_stays : (row : EntryRow) → IsFilled files texts row → row_seen (files ++ more) (texts ++ t) row
+      ≡ row_seen files texts row
   row_stays row is =
       rw (
-        get_or_append_left frames more (frame_of [] []) row.frame is.frame,
+        get_or_append_left files more [] row.file is.file,
         range_stays texts t row.name row.rest is.in_order.0 is.rest.within,
         range_stays texts t row.rest row.end is.in_order.1 is.end.within,
       ) refl
 
-  filled_stays : (row : EntryRow) → IsFilled frames texts row → IsFilled (frames ++ more) (texts ++ t) row
+  filled_stays : (row : EntryRow) → IsFilled files texts row → IsFilled (files ++ more) (texts ++ t) row
   filled_stays row is = record {
-    frame = omega (arith, is.frame, length-append frames more);
+    file = omega (arith, is.file, length-append files more);
     name = cut_stays row.name is.name;
     rest = cut_stays row.rest is.rest;
     end = cut_stays row.end is.end;
     in_order = is.in_order;
   }
 
-  fit_with : (rows : List EntryRow) (row : EntryRow) → Fit frames texts rows
-      → IsFilled (frames ++ more) (texts ++ t) row → Fit (frames ++ more) (texts ++ t) (rows ++ row ∷ [])
+  fit_with : (rows : List EntryRow) (row : EntryRow) → Fit files texts rows
+      → IsFilled (files ++ more) (texts ++ t) row → Fit (files ++ more) (texts ++ t) (rows ++ row ∷ [])
   fit_with [] row fit is = (is, tt)
   fit_with (first ∷ rows) row fit is = (filled_stays first fit.0, fit_with rows row fit.1 is)
 
-  seen_with : (rows : List EntryRow) (row : EntryRow) → Fit frames texts rows
-      → rows_seen (frames ++ more) (texts ++ t) (rows ++ row ∷ []) ≡ rows_seen frames texts rows ++ row_seen
-      (frames ++ more) (texts ++ t) row ∷ []
+  seen_with : (rows : List EntryRow) (row : EntryRow) → Fit files texts rows
+      → rows_seen (files ++ more) (texts ++ t) (rows ++ row ∷ []) ≡ rows_seen files texts rows ++ row_seen
+      (files ++ more) (texts ++ t) row ∷ []
   seen_with [] row fit = refl
   seen_with (first ∷ rows) row fit =
-      rw (row_stays first fit.0) (ap (λ entries. row_seen frames texts first ∷ entries) (seen_with rows row fit.1))
+      rw (row_stays first fit.0) (ap (λ entries. row_seen files texts first ∷ entries) (seen_with rows row fit.1))
 
 pub boundary : (texts : List ℕ) (at : ℕ) → IsUtf8 texts → IsCut texts at → IsCharBoundary texts at
 boundary texts at valid cut = IsCharBoundary-from_take texts at valid cut.within cut.front
 
 -- ---- one row
 
-module _ (frames : List Frame) (texts : List ℕ) where
-  pub filled_at : (rows : List EntryRow) (at : ℕ) (d : EntryRow) → at < length rows → Fit frames texts rows
-      → IsFilled frames texts (get_or rows at d)
+module _ (files : List (List ℕ)) (texts : List ℕ) where
+  pub filled_at : (rows : List EntryRow) (at : ℕ) (d : EntryRow) → at < length rows → Fit files texts rows
+      → IsFilled files texts (get_or rows at d)
   filled_at [] at d within fit = absurd (omega (arith, within))
   filled_at (row ∷ rows) zero d within fit = fit.0
   filled_at (row ∷ rows) (suc at) d within fit = filled_at rows at d (omega arith) fit.1
 
-  pub seen_at : (rows : List EntryRow) (at : ℕ) (d : EntryRow) → at < length (rows_seen frames texts rows)
-      → drop at (rows_seen frames texts rows) ≡ row_seen frames texts (get_or rows at d) ∷ drop (at + 1)
-      (rows_seen frames texts rows)
+  pub seen_at : (rows : List EntryRow) (at : ℕ) (d : EntryRow) → at < length (rows_seen files texts rows)
+      → drop at (rows_seen files texts rows) ≡ row_seen files texts (get_or rows at d) ∷ drop (at + 1)
+      (rows_seen files texts rows)
   seen_at [] at d within = absurd (omega (arith, within))
   seen_at (row ∷ rows) zero d within = refl
   seen_at (row ∷ rows) (suc at) d within =
       let next : suc (at + 1) ≡ suc at + 1 = omega arith in
       seen_at rows at d (omega arith)
-      ∙ ap (λ n. row_seen frames texts (get_or rows at d) ∷ drop n (rows_seen frames texts (row ∷ rows)))
+      ∙ ap (λ n. row_seen files texts (get_or rows at d) ∷ drop n (rows_seen files texts (row ∷ rows)))
       next
 
 -- ---- one row more
@@ -92,10 +89,10 @@ own_range all xs ys zs a b cut from to =
     ∙ ap (λ all. take (length ys) (drop (length xs) all)) cut
     ∙ ap (take (length ys)) (drop-append_seam xs (ys ++ zs)) ∙ take-append_seam ys zs
 
--- The row of an entry of the last frame, behind all texts.
-module _ (frames : List Frame) (texts : List ℕ) (entry : Entry) where
-  own_row : frame_at frames (length frames - 1) ≡ frame_of entry.spot.place.file entry.within
-      → row_seen frames (texts ++ (entry.name ++ entry.rest)) (row_behind (length frames) (length texts) entry)
+-- The row of an entry of the last file, behind all texts.
+module _ (files : List (List ℕ)) (texts : List ℕ) (entry : Entry) where
+  own_row : file_at files (length files - 1) ≡ entry.spot.place.file
+      → row_seen files (texts ++ (entry.name ++ entry.rest)) (row_behind (length files) (length texts) entry)
       ≡ entry
   own_row last = rw (
     last,
@@ -108,10 +105,10 @@ module _ (frames : List Frame) (texts : List ℕ) (entry : Entry) where
         refl,
   ) refl
 
-  own_filled : 0 < length frames → IsUtf8 texts → IsUtf8 entry.name → IsUtf8 entry.rest
-      → IsFilled frames (texts ++ (entry.name ++ entry.rest)) (row_behind (length frames) (length texts) entry)
+  own_filled : 0 < length files → IsUtf8 texts → IsUtf8 entry.name → IsUtf8 entry.rest
+      → IsFilled files (texts ++ (entry.name ++ entry.rest)) (row_behind (length files) (length texts) entry)
   own_filled some valid name rest = record {
-    frame = omega (arith, some);
+    file = omega (arith, some);
     name = record {
       within = omega (arith, all);
       front = subst IsUtf8 (sym (take-append_seam texts (entry.name ++ entry.rest))) valid;
@@ -136,22 +133,22 @@ module _ (frames : List Frame) (texts : List ℕ) (entry : Entry) where
       all : length (texts ++ (entry.name ++ entry.rest)) ≡ length texts + length entry.name + length entry.rest
       all = length-append texts (entry.name ++ entry.rest) ∙ omega (arith, length-append entry.name entry.rest)
 
-module _ (frames later : List Frame) (rows : List EntryRow) (row : EntryRow) (texts : List ℕ) (entry : Entry)
-    (fit : Fit frames texts rows)
-    (ends : EndsWith (frame_of entry.spot.place.file entry.within) frames later)
+module _ (files later : List (List ℕ)) (rows : List EntryRow) (row : EntryRow) (texts : List ℕ) (entry : Entry)
+    (fit : Fit files texts rows)
+    (ends : EndsWith entry.spot.place.file files later)
     (is : row ≡ row_behind (length later) (length texts) entry) where
   pub seen_one_more : rows_seen later (texts ++ entry.name ++ entry.rest) (rows ++ row ∷ [])
-      ≡ rows_seen frames texts rows ++ entry ∷ []
+      ≡ rows_seen files texts rows ++ entry ∷ []
   seen_one_more =
       let seen : rows_seen later (texts ++ (entry.name ++ entry.rest)) (rows ++ row ∷ [])
-      ≡ rows_seen frames texts rows ++ row_seen later (texts ++ (entry.name ++ entry.rest)) row ∷ [] =
+      ≡ rows_seen files texts rows ++ row_seen later (texts ++ (entry.name ++ entry.rest)) row ∷ [] =
       subst (λ l. rows_seen l (texts ++ (entry.name ++ entry.rest)) (rows ++ row ∷ [])
-      ≡ rows_seen frames texts rows ++ row_seen l (texts ++ (entry.name ++ entry.rest)) row ∷ [])
-      (sym ends.longer) (seen_with frames ends.more texts (entry.name ++ entry.rest) rows row fit) in
+      ≡ rows_seen files texts rows ++ row_seen l (texts ++ (entry.name ++ entry.rest)) row ∷ [])
+      (sym ends.longer) (seen_with files ends.more texts (entry.name ++ entry.rest) rows row fit) in
       let own : row_seen later (texts ++ (entry.name ++ entry.rest)) row ≡ entry =
       ap (row_seen later (texts ++ (entry.name ++ entry.rest))) is ∙ own_row later texts entry ends.last in
       ap (λ t. rows_seen later t (rows ++ row ∷ [])) (append_assoc texts entry.name entry.rest) ∙ seen
-      ∙ ap (λ last. rows_seen frames texts rows ++ last ∷ []) own
+      ∙ ap (λ last. rows_seen files texts rows ++ last ∷ []) own
 
   pub fit_one_more : IsUtf8 texts → IsUtf8 entry.name → IsUtf8 entry.rest
       → Fit later (texts ++ entry.name ++ entry.rest) (rows ++ row ∷ [])
@@ -161,33 +158,29 @@ module _ (frames later : List Frame) (rows : List EntryRow) (row : EntryRow) (te
       (own_filled later texts entry ends.some valid name rest) in
       subst (λ t. Fit later t (rows ++ row ∷ [])) (sym (append_assoc texts entry.name entry.rest))
       (subst (λ l. Fit l (texts ++ (entry.name ++ entry.rest)) (rows ++ row ∷ [])) (sym ends.longer)
-      (fit_with frames ends.more texts (entry.name ++ entry.rest) rows row fit
+      (fit_with files ends.more texts (entry.name ++ entry.rest) rows row fit
       (subst (λ l. IsFilled l (texts ++ (entry.name ++ entry.rest)) row) ends.longer filled)))
 
--- ---- frames
+-- ---- files
 
-pub same_frames : (file within : List ℕ) (frames : List Frame) → is_last frames file within ≡ true
-    → EndsWith (frame_of file within) frames frames
-same_frames file within [] is = cc
-same_frames file within (first ∷ frames) is =
-    let count : length (first ∷ frames) - 1 ≡ length frames = omega arith in
-    let last = frame_at (first ∷ frames) (length frames) in
-    let both = and_parts (bytes_eq last.file file) (pointwise nat_eq last.within within) is in
+pub same_files : (file : List ℕ) (files : List (List ℕ)) → is_last files file ≡ true → EndsWith file files files
+same_files file [] is = cc
+same_files file (first ∷ files) is =
+    let count : length (first ∷ files) - 1 ≡ length files = omega arith in
     record {
       more = [];
-      longer = sym (append-nil (first ∷ frames));
+      longer = sym (append-nil (first ∷ files));
       some = omega arith;
-      last = ap (frame_at (first ∷ frames)) count ∙ ap (λ file. frame_of file last.within)
-          ((bytes_eq-Decides last.file file).0 both.0)
-          ∙ ap (frame_of file) ((bytes_eq-Decides last.within within).0 both.1);
+      last = ap (file_at (first ∷ files)) count ∙
+          (bytes_eq-Decides (file_at (first ∷ files) (length files)) file).0 is;
     }
 
-pub one_more_frame : (frame : Frame) (frames : List Frame) → EndsWith frame frames (frames ++ frame ∷ [])
-one_more_frame frame frames =
-    let longer : length (frames ++ frame ∷ []) ≡ length frames + 1 = length-append frames (frame ∷ []) in
+pub one_more_file : (file : List ℕ) (files : List (List ℕ)) → EndsWith file files (files ++ file ∷ [])
+one_more_file file files =
+    let longer : length (files ++ file ∷ []) ≡ length files + 1 = length-append files (file ∷ []) in
     record {
-      more = frame ∷ [];
+      more = file ∷ [];
       longer = refl;
       some = omega (arith, longer);
-      last = get_or_push frames frame (frame_of [] []) (length (frames ++ frame ∷ []) - 1) (omega (arith, longer));
+      last = get_or_push files file [] (length (files ++ file ∷ []) - 1) (omega (arith, longer));
     }

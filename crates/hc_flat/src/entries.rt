@@ -1,7 +1,7 @@
 ghost use Rattle.std.specs.Prelude.{◌≡◌, ◌+◌, ◌∷◌, ◌++◌, []};
 ghost use Rattle.std.specs.Prelude.{◌<◌, drop, length, string_bytes, IfOk};
 ghost use Rattle.std.specs.Str.{IsUtf8};
-ghost use Rattle.hc_flat.specs.EntriesView.{EndsWith, IsFilled, close_of, entry_of, frame_of, is_frame};
+ghost use Rattle.hc_flat.specs.EntriesView.{EndsWith, IsFilled, close_of, entry_of};
 ghost use Rattle.hc_flat.specs.EntriesView.{is_last, row_behind, row_seen, spot_at};
 
 use hc_base::{List, NoMemory, Span, Text};
@@ -13,23 +13,17 @@ use std::marker::Model;
 /// another, so that a long list needs little more memory than its texts.
 #[derive(Drop)]
 pub struct Entries {
-    frames: List<Frame>,
+    /// The files, each once for entries of it that stand behind one another.
+    files: List<Text>,
     rows: Vec<EntryRow>,
     /// The name of each entry and what follows it.
     texts: String,
 }
 
-/// What entries behind one another share: their file, and the places of the openings around them.
-#[derive(Drop)]
-pub(crate) struct Frame {
-    file: Text,
-    within: List<u32>,
-}
-
-/// An entry: the number of its frame, its line, its span and form, and where its texts stand.
+/// An entry: the number of its file, its line, its span and form, and where its texts stand.
 #[derive(Clone, Copy)]
 pub(crate) struct EntryRow {
-    frame: u32,
+    file: u32,
     line: u32,
     span: Span,
     form: EntryForm,
@@ -49,8 +43,6 @@ pub struct EntryView<'e> {
     /// The name of the directive or of the section, and what follows it.
     pub name: &'e str,
     pub rest: &'e str,
-    /// The places, in the list of all entries, of the openings around it, the outermost first.
-    pub within: &'e [u32],
 }
 
 impl Model for Entries {
@@ -60,9 +52,9 @@ impl Model for Entries {
 
     ghost Value = { List model.Entry };
 
-    ghost view = { λ e. rows_seen e.frames (string_bytes e.texts) e.rows.items };
+    ghost view = { λ e. rows_seen e.files (string_bytes e.texts) e.rows.items };
 
-    ghost invariant = { λ e. Fit e.frames (string_bytes e.texts) e.rows.items };
+    ghost invariant = { λ e. Fit e.files (string_bytes e.texts) e.rows.items };
 }
 
 impl Entries {
@@ -71,14 +63,14 @@ impl Entries {
         ensures { result ≡ [] }
     {
         Entries {
-            frames: List::new(alloc),
+            files: List::new(alloc),
             rows: Vec::new(alloc),
             texts: String::new(alloc),
         }
     }
 
     pub fn allocator(&self) -> Global {
-        self.frames.allocator()
+        self.files.allocator()
     }
 
     /// The same entries, with room for so many more, and for so many bytes of their texts, where there is
@@ -87,18 +79,14 @@ impl Entries {
         ensures { result ≡ self }
     {
         let Entries {
-            frames,
+            files,
             mut rows,
             mut texts,
         } = self;
         // Where there is none, each entry asks for its own.
         let _ = rows.reserve(more);
         let _ = texts.reserve(bytes);
-        Entries {
-            frames,
-            rows,
-            texts,
-        }
+        Entries { files, rows, texts }
     }
 
     /// How many entries there are.
@@ -114,22 +102,18 @@ impl Entries {
         requires { at < length self.now }
         ensures { drop at self.now ≡ entry_of result ∷ drop (at + 1) self.now }
     {
-        lent(self.frames.as_slice(), &self.texts, self.rows[at])
+        lent(self.files.as_slice(), &self.texts, self.rows[at])
     }
 
     /// The entries and one more.
     pub fn with(self, entry: EntryView<'_>) -> Result<Entries, NoMemory>
         ensures { IfOk result (λ later. later ≡ self ++ entry_of entry.entry ∷ []) }
     {
-        let Entries {
-            frames,
-            rows,
-            texts,
-        } = self;
-        let frames = with_frame(frames, entry.file, entry.within)?;
-        let row = row_of(frames.as_slice(), &texts, entry)?;
+        let Entries { files, rows, texts } = self;
+        let files = with_file(files, entry.file)?;
+        let row = row_of(files.as_slice(), &texts, entry)?;
         Ok(Entries {
-            frames,
+            files,
             rows: with_row(rows, row)?,
             texts: with_text(with_text(texts, entry.name)?, entry.rest)?,
         })
@@ -154,7 +138,6 @@ impl Entries {
         let opening = self.entry(place);
         let name = String::from_str(alloc, opening.name)?;
         let rest = String::from_str(alloc, opening.rest)?;
-        let within = opening.within.to_vec(alloc)?;
         self.with(EntryView {
             file,
             line,
@@ -162,7 +145,6 @@ impl Entries {
             form: EntryForm::Close,
             name: &name,
             rest: &rest,
-            within: &within,
         })
     }
 }
@@ -172,50 +154,37 @@ impl Clone for Entries {
 
     fn clone(&self) -> Result<Entries, NoMemory> {
         Ok(Entries {
-            frames: self.frames.copy()?,
+            files: self.files.copy()?,
             rows: self.rows.clone()?,
             texts: self.texts.clone()?,
         })
     }
 }
 
-impl Clone for Frame {
-    ghost is_clone = { λ frame copy. copy ≡ frame };
-
-    fn clone(&self) -> Result<Frame, NoMemory> {
-        Ok(Frame {
-            file: self.file.clone()?,
-            within: self.within.copy()?,
-        })
-    }
-}
-
 #[tactic(auto, using(crate::proofs::Rows::boundary))]
-fn lent<'e>(frames: &'e [Frame], texts: &'e str, row: EntryRow) -> EntryView<'e>
-    requires { IsFilled frames.now texts.now row }
-    ensures { entry_of result ≡ row_seen frames.now texts.now row }
+fn lent<'e>(files: &'e [Text], texts: &'e str, row: EntryRow) -> EntryView<'e>
+    requires { IsFilled files.now texts.now row }
+    ensures { entry_of result ≡ row_seen files.now texts.now row }
 {
-    let frame = &frames[row.frame as usize];
     EntryView {
-        file: &frame.file,
+        file: &files[row.file as usize],
         line: row.line,
         span: row.span,
         form: row.form,
         name: &texts[row.name as usize..row.rest as usize],
         rest: &texts[row.rest as usize..row.end as usize],
-        within: frame.within.as_slice(),
     }
 }
 
-// The row of an entry of the last frame, behind these texts.
-fn row_of(frames: &[Frame], texts: &str, entry: EntryView<'_>) -> Result<EntryRow, NoMemory>
-    requires { 0 < length frames.now }
-    ensures { IfOk result (λ row. row ≡ row_behind (length frames.now) (length texts.now) (entry_of entry.entry)) }
+// The row of an entry of the last file, behind these texts.
+fn row_of(files: &[Text], texts: &str, entry: EntryView<'_>) -> Result<EntryRow, NoMemory>
+    requires { 0 < length files.now }
+    ensures { IfOk result (λ row. row ≡ row_behind (length files.now) (length texts.now) (entry_of entry.entry)) }
 {
     let name = counted(texts.len())?;
     let rest = behind(name, entry.name.len())?;
     Ok(EntryRow {
-        frame: counted(frames.len() - 1)?,
+        file: counted(files.len() - 1)?,
         line: entry.line,
         span: entry.span,
         form: entry.form,
@@ -249,40 +218,25 @@ fn with_text(mut texts: String, text: &str) -> Result<String, NoMemory>
     Ok(texts)
 }
 
-// The frames with that of this file and these openings at the end.
-#[tactic(auto, using(crate::proofs::Rows::same_frames, crate::proofs::Rows::one_more_frame))]
-fn with_frame(mut frames: List<Frame>, file: &Text, within: &[u32]) -> Result<List<Frame>, NoMemory>
-    ensures { IfOk result (λ later. EndsWith (frame_of file.now within.now) frames later) }
+// The files with this one at the end.
+#[tactic(auto, using(crate::proofs::Rows::same_files, crate::proofs::Rows::one_more_file))]
+fn with_file(mut files: List<Text>, file: &Text) -> Result<List<Text>, NoMemory>
+    ensures { IfOk result (EndsWith file.now files) }
 {
-    if is_last(frames.as_slice(), file, within) {
-        return Ok(frames);
+    if is_last(files.as_slice(), file) {
+        return Ok(files);
     }
-    frames.push(frame_of(frames.allocator(), file, within)?)?;
-    Ok(frames)
+    files.push(file.clone()?)?;
+    Ok(files)
 }
 
-fn frame_of(alloc: Global, file: &Text, within: &[u32]) -> Result<Frame, NoMemory>
-    ensures { IfOk result (λ frame. frame ≡ frame_of file.now within.now) }
+fn is_last(files: &[Text], file: &Text) -> bool
+    ensures { result ≡ is_last files.now file.now }
 {
-    Ok(Frame {
-        file: file.clone()?,
-        within: List::from(within.to_vec(alloc)?),
-    })
-}
-
-fn is_last(frames: &[Frame], file: &Text, within: &[u32]) -> bool
-    ensures { result ≡ is_last frames.now file.now within.now }
-{
-    match frames.last() {
-        Some(last) => is_frame(last, file, within),
+    match files.last() {
+        Some(last) => last.as_bytes() == file.as_bytes(),
         None => false,
     }
-}
-
-fn is_frame(frame: &Frame, file: &Text, within: &[u32]) -> bool
-    ensures { result ≡ is_frame frame.now file.now within.now }
-{
-    frame.file.as_bytes() == file.as_bytes() && frame.within.as_slice() == within
 }
 
 /// More than a `u32` counts find no memory.

@@ -100,8 +100,8 @@ change_by reading line =
 abbrev pub spot_of : Path → Line → Spot
 spot_of file line = spot_at file line.number line.span
 
-abbrev pub entry_at : Spot → EntryForm → List ℕ → List ℕ → List ℕ → Entry
-entry_at spot form name rest within = record { spot = spot; form = form; name = name; rest = rest; within = within }
+abbrev pub entry_at : Spot → EntryForm → List ℕ → List ℕ → Entry
+entry_at spot form name rest = record { spot = spot; form = form; name = name; rest = rest }
 
 -- The innermost opening is closed.
 abbrev pub closed_at : Spot → Option ℕ → Reading → Reading
@@ -114,14 +114,14 @@ closed_at spot (Some place) reading = record reading {
 
 abbrev pub opened_at : Spot → List ℕ → Bool → Reading → Reading
 opened_at spot inside is_kept reading = record reading {
-  entries = reading.entries ++ entry_at spot Opening (name_of inside) (behind_name inside) reading.openings ∷ [];
+  entries = reading.entries ++ entry_at spot Opening (name_of inside) (behind_name inside) ∷ [];
   openings = reading.openings ++ length reading.entries ∷ [];
   dropped = if is_kept then 0 else 1;
 }
 
 abbrev pub kept_at : Spot → List ℕ → Says → Reading → Reading
 kept_at spot text says reading = record reading {
-  entries = reading.entries ++ entry_at spot Directive (name_in text) (rest_in text) reading.openings ∷ [];
+  entries = reading.entries ++ entry_at spot Directive (name_in text) (rest_in text) ∷ [];
   defines = with_define reading.defines says;
   modules = with_module reading.modules says;
   root = with_root reading.root says;

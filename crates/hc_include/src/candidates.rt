@@ -1,9 +1,8 @@
 ghost use Rattle.std.specs.Prelude.{◌≡◌, ◌∷◌, ◌++◌, [], IfOk, filter, map};
 ghost use Rattle.hc_base.specs.Gives.{Gives};
-ghost use Rattle.hc_steps.specs.Ran.{Ran};
-ghost use Rattle.hc_steps.specs.Run.{run};
+ghost use Rattle.hc_steps.specs.Ran.{Takes};
 ghost use Rattle.hc_steps.specs.Shown.{shown_by};
-ghost use Rattle.hc_steps.specs.Step.{Found, in_order};
+ghost use Rattle.hc_steps.specs.Step.{in_order};
 ghost use Rattle.hc_model.specs.World.{root};
 ghost use Rattle.hc_include.specs.Include.{components_from, components_of, followed, in_directory, is_some_byte};
 ghost use Rattle.hc_include.specs.Include.{is_there, matches, parts_of, paths_among, paths_of, texts_of};
@@ -72,7 +71,7 @@ pub(crate) fn paths_of(
     log: &mut Log,
     components: &List<Component>,
 ) -> Result<List<Text>, Fault<AtByte>>
-    ensures { Ran result log.old log.new (run (paths_of components.now) (shown_by world.now.files)) }
+    ensures { Takes result log (paths_of components.now) (shown_by world.now.files) }
 {
     let paths = at_root(log.allocator())?;
     followed_on(world, log, paths, components.as_slice())
@@ -85,7 +84,7 @@ fn followed_on(
     mut paths: List<Text>,
     components: &[Component],
 ) -> Result<List<Text>, Fault<AtByte>>
-    ensures { Ran result log.old log.new (run (in_order followed paths components.now) (shown_by world.now.files)) }
+    ensures { Takes result log (in_order followed paths components.now) (shown_by world.now.files) }
 {
     for component in components {
         paths = followed(world, log, paths, component)?;
@@ -108,7 +107,7 @@ fn followed(
     paths: List<Text>,
     component: &Component,
 ) -> Result<List<Text>, Fault<AtByte>>
-    ensures { Ran result log.old log.new (run (followed paths component.now) (shown_by world.now.files)) }
+    ensures { Takes result log (followed paths component.now) (shown_by world.now.files) }
 {
     match component {
         Component::Name(name) => Ok(below_each(log.allocator(), paths.as_slice(), name)?),
@@ -147,8 +146,7 @@ fn names_of(
     glob: &Regex,
     directories: &[Text],
 ) -> Result<List<Text>, Fault<AtByte>>
-    ensures { Ran result log.old log.new
-        (run (in_order (with_names glob.now) [] directories.now) (shown_by world.now.files)) }
+    ensures { Takes result log (in_order (with_names glob.now) [] directories.now) (shown_by world.now.files) }
 {
     let mut paths = List::new(log.allocator());
     for directory in directories {
@@ -165,7 +163,7 @@ fn with_names(
     paths: List<Text>,
     directory: &Text,
 ) -> Result<List<Text>, Fault<AtByte>>
-    ensures { Ran result log.old log.new (run (with_names glob.now paths directory.now) (shown_by world.now.files)) }
+    ensures { Takes result log (with_names glob.now paths directory.now) (shown_by world.now.files) }
 {
     let names = names_at(world, log, directory.as_bytes())?;
     Ok(with_matching(log.allocator(), paths, glob, directory, names)?)
@@ -212,7 +210,7 @@ pub(crate) fn texts_of(
     log: &mut Log,
     paths: &List<Text>,
 ) -> Result<Candidates, Fault<AtByte>>
-    ensures { Ran result log.old log.new (run (texts_of paths.now) (shown_by world.now.files)) }
+    ensures { Takes result log (texts_of paths.now) (shown_by world.now.files) }
 {
     let among = Candidates {
         files: List::new(log.allocator()),
@@ -228,7 +226,7 @@ fn texts_on(
     mut among: Candidates,
     paths: &[Text],
 ) -> Result<Candidates, Fault<AtByte>>
-    ensures { Ran result log.old log.new (run (in_order with_text among paths.now) (shown_by world.now.files)) }
+    ensures { Takes result log (in_order with_text among paths.now) (shown_by world.now.files) }
 {
     for path in paths {
         among = with_text(world, log, among, path)?;
@@ -243,7 +241,7 @@ fn with_text(
     among: Candidates,
     path: &Text,
 ) -> Result<Candidates, Fault<AtByte>>
-    ensures { Ran result log.old log.new (run (with_text among path.now) (shown_by world.now.files)) }
+    ensures { Takes result log (with_text among path.now) (shown_by world.now.files) }
 {
     let found = text_at(world, log, path.as_bytes())?;
     Ok(with_found(among, path, &found)?)

@@ -1,7 +1,6 @@
 ghost use Rattle.std.specs.Prelude.{◌≡◌, IfOk};
 ghost use Rattle.hc_base.specs.Gives.{Gives};
-ghost use Rattle.hc_steps.specs.Ran.{Ran};
-ghost use Rattle.hc_steps.specs.Run.{run};
+ghost use Rattle.hc_steps.specs.Ran.{Takes};
 ghost use Rattle.hc_steps.specs.Shown.{shown_by};
 ghost use Rattle.hc_include.specs.Lines.{change_by, directive_read, dropping, files_behind, files_said};
 ghost use Rattle.hc_include.specs.Lines.{is_too_long, kept_line, opening_read, said_by};
@@ -132,8 +131,7 @@ pub(crate) fn files_behind(
     root: &Option<Utf8>,
     change: &Change,
 ) -> Result<List<Text>, Fault<AtByte>>
-    ensures { Ran result log.old log.new
-        (run (files_behind around.now root.now change.now) (shown_by world.now.files)) }
+    ensures { Takes result log (files_behind around.now root.now change.now) (shown_by world.now.files) }
 {
     match change {
         Change::Keeps { says, .. } => files_said(world, log, around, root, says),
@@ -149,8 +147,7 @@ fn files_said(
     root: &Option<Utf8>,
     says: &Says,
 ) -> Result<List<Text>, Fault<AtByte>>
-    ensures { Ran result log.old log.new
-        (run (files_said around.now root.now says.now) (shown_by world.now.files)) }
+    ensures { Takes result log (files_said around.now root.now says.now) (shown_by world.now.files) }
 {
     match says {
         Says::Includes { optional, path } => {

@@ -1,5 +1,5 @@
 ghost use Rattle.std.specs.Prelude.{◌≡◌, ℕ, IfOk, Ok};
-ghost use Rattle.hc_steps.specs.Ran.{Logged, Ran};
+ghost use Rattle.hc_steps.specs.Ran.{Logged, Ran, Takes};
 ghost use Rattle.hc_steps.specs.Run.{run};
 ghost use Rattle.hc_steps.specs.Shown.{shown_by};
 ghost use Rattle.hc_steps.specs.Step.{Shown, ends, in_order};
@@ -32,8 +32,7 @@ pub(crate) fn read_file<L: Ledger>(
     around: &Around,
     reading: Reading,
 ) -> Result<Reading, Fault<Stopped>>
-    ensures read { Ran result log.old log.new
-        (run (file_read around.now (inner around.now) reading) (shown_by world.now.files)) }
+    ensures read { Takes result log (file_read around.now (inner around.now) reading) (shown_by world.now.files) }
     ensures bytes { Counts result bytes.old bytes.new reading.bytes }
 {
     let found: Result<FoundText, Fault<Stopped>> = text_at(world, log, around.file.as_bytes());
@@ -53,9 +52,8 @@ fn read_found<L: Ledger>(
     reading: Reading,
     found: &FoundText,
 ) -> Result<Reading, Fault<Stopped>>
-    ensures read { Ran result log.old log.new
-        (run (text_read around.now (inner around.now) reading found.now.kind found.now.text)
-        (shown_by world.now.files)) }
+    ensures read { Takes result log (text_read around.now (inner around.now) reading found.now.kind found.now.text)
+        (shown_by world.now.files) }
     ensures bytes { Counts result bytes.old bytes.new reading.bytes }
 {
     let Some(text) = found.text() else {
@@ -75,9 +73,9 @@ fn read_text<L: Ledger>(
     reading: Reading,
     text: &str,
 ) -> Result<Reading, Fault<Stopped>>
-    ensures read { Ran result log.old log.new
-        (run (lines_read around.now (inner around.now) (having_read text.now reading)
-        (ruled_lines reading.setting.kind text.now)) (shown_by world.now.files)) }
+    ensures read { Takes result log
+        (lines_read around.now (inner around.now) (having_read text.now reading)
+        (ruled_lines reading.setting.kind text.now)) (shown_by world.now.files) }
     ensures bytes { Counts result bytes.old bytes.new reading.bytes }
 {
     let kind = reading.setting.kind;
@@ -140,8 +138,8 @@ fn read_lines<L: Ledger>(
     mut reading: Reading,
     lines: &[Line],
 ) -> Result<Reading, Fault<Stopped>>
-    ensures read { Ran result log.old log.new
-        (run (in_order (line_read around.now (inner around.now)) reading lines.now) (shown_by world.now.files)) }
+    ensures read { Takes result log (in_order (line_read around.now (inner around.now)) reading lines.now)
+        (shown_by world.now.files) }
     ensures bytes { Counts result bytes.old bytes.new reading.bytes }
 {
     for line in lines {
@@ -161,8 +159,8 @@ fn read_line<L: Ledger>(
     reading: Reading,
     line: &Line,
 ) -> Result<Reading, Fault<Stopped>>
-    ensures read { Ran result log.old log.new
-        (run (line_read around.now (inner around.now) reading line.now) (shown_by world.now.files)) }
+    ensures read { Takes result log (line_read around.now (inner around.now) reading line.now)
+        (shown_by world.now.files) }
     ensures bytes { Counts result bytes.old bytes.new reading.bytes }
 {
     match change_by(log.allocator(), &reading, line) {
@@ -184,8 +182,8 @@ fn read_behind<L: Ledger>(
     line: &Line,
     change: Change,
 ) -> Result<Reading, Fault<Stopped>>
-    ensures read { Ran result log.old log.new
-        (run (behind_change around.now (inner around.now) reading line.now (Ok change)) (shown_by world.now.files)) }
+    ensures read { Takes result log (behind_change around.now (inner around.now) reading line.now (Ok change))
+        (shown_by world.now.files) }
     ensures bytes { Counts result bytes.old bytes.new reading.bytes }
 {
     let files = match files_behind(world, log, around, &reading.root, &change) {
@@ -208,8 +206,7 @@ fn read_files<L: Ledger>(
     mut reading: Reading,
     files: &[Text],
 ) -> Result<Reading, Fault<Stopped>>
-    ensures read { Ran result log.old log.new
-        (run (in_order (inner around.now) reading files.now) (shown_by world.now.files)) }
+    ensures read { Takes result log (in_order (inner around.now) reading files.now) (shown_by world.now.files) }
     ensures bytes { Counts result bytes.old bytes.new reading.bytes }
 {
     if around.room == 0 {

@@ -2,8 +2,7 @@ ghost use Rattle.std.specs.Prelude.{◌≡◌, ◌++◌, ◌∷◌, IfOk, Ok};
 ghost use Rattle.std.specs.List.{list_any};
 ghost use Rattle.hc_base.specs.Bytes.{slash};
 ghost use Rattle.hc_base.specs.Gives.{Gives};
-ghost use Rattle.hc_steps.specs.Ran.{Ran};
-ghost use Rattle.hc_steps.specs.Run.{run};
+ghost use Rattle.hc_steps.specs.Ran.{Takes};
 ghost use Rattle.hc_steps.specs.Shown.{shown_by};
 ghost use Rattle.hc_include.specs.Include.{below_root, components_at, files_among, files_named, include_files};
 ghost use Rattle.hc_include.specs.Include.{include_refusal, is_around, path_of};
@@ -33,8 +32,7 @@ pub(crate) fn include_files(
     root: &Option<Utf8>,
     path: &Utf8,
 ) -> Result<List<Text>, Fault<AtByte>>
-    ensures { Ran result log.old log.new
-        (run (include_files around.now optional root.now path.now) (shown_by world.now.files)) }
+    ensures { Takes result log (include_files around.now optional root.now path.now) (shown_by world.now.files) }
 {
     match components_at(log.allocator(), root, path) {
         Ok(components) => files_named(world, log, around, optional, &components),
@@ -50,8 +48,7 @@ fn files_named(
     optional: bool,
     components: &List<Component>,
 ) -> Result<List<Text>, Fault<AtByte>>
-    ensures { Ran result log.old log.new
-        (run (files_named around.now optional (Ok components.now)) (shown_by world.now.files)) }
+    ensures { Takes result log (files_named around.now optional (Ok components.now)) (shown_by world.now.files) }
 {
     let paths = paths_of(world, log, components)?;
     let among = texts_of(world, log, &paths)?;

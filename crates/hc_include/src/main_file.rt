@@ -1,6 +1,5 @@
 ghost use Rattle.std.specs.Prelude.{◌≡◌, ◌+◌, ◌≤◌, [], IfOk};
-ghost use Rattle.hc_steps.specs.Ran.{Ran};
-ghost use Rattle.hc_steps.specs.Run.{run};
+ghost use Rattle.hc_steps.specs.Ran.{Takes};
 ghost use Rattle.hc_steps.specs.Shown.{shown_by};
 ghost use Rattle.hc_include.specs.Counting.{Counts};
 ghost use Rattle.hc_include.specs.Flat.{begun, bytes_of, flat_at, flat_of, main_read, main_setting};
@@ -61,7 +60,7 @@ fn read_main<L: Ledger>(
     bytes: &mut Counter<L>,
     main: &Text,
 ) -> Result<Reading, Fault<Stopped>>
-    ensures read { Ran result log.old log.new (run (main_read main.now) (shown_by world.now.files)) }
+    ensures read { Takes result log (main_read main.now) (shown_by world.now.files) }
     ensures bytes { Counts result bytes.old bytes.new 0 }
 {
     let around = within(log.allocator(), DEEPEST, &[], main)?;

@@ -153,7 +153,6 @@ impl Reading {
             form: EntryForm::Opening,
             name,
             rest,
-            within: self.openings.as_slice(),
         })?;
         self.openings = self.openings.with(place)?;
         self.dropped = u32::from(!is_kept);
@@ -177,7 +176,6 @@ impl Reading {
             form: EntryForm::Directive,
             name,
             rest,
-            within: self.openings.as_slice(),
         })?;
         self.defines = with_define(self.defines, &says)?;
         self.modules = with_module(self.modules, &says)?;

@@ -1,53 +1,63 @@
--- Whether the text of a file of a group has stayed.
-use Rattle.std.proofs.Common.{◌≡◌, ◌&&◌, ℕ, ◌<◌, ◌≤◌, List, true, false, nat_le, Some, None, refl}
-use Rattle.std.proofs.Common.{ap, sym, ◌∙◌, true≢false, [], arith}
+-- Whether the text of a file has stayed.
+use Rattle.std.proofs.Common.{◌≡◌, List, [], Bool, true, false, Option, Some, None, IfNone, IfSome}
+use Rattle.std.proofs.Common.{option_and_then, refl, ap, sym, subst, ◌∙◌, if◌then◌else◌}
+use Rattle.std.specs.List.{Contains}
 use Rattle.std.specs.Map.{lookup}
-use Rattle.std.proofs.lemmas.Bool.Decides.{nat_tests}
-use Rattle.hc_htaccess.specs.Pairs.{same_allowed}
-use Rattle.hc_htaccess.proofs.Pairs.{is_for_Decides}
+use Rattle.std.specs.Option.{option_map}
+use Rattle.hc_cache.specs.Entries.{is_current}
+use Rattle.hc_cache.specs.Views.{value_kept}
 use Rattle.hc_model.specs.declared.section.Allowed.{Allowed}
 use Rattle.hc_steps.specs.Step.{Path}
-use Rattle.hc_world.specs.Edits.{Edited, changed_at}
-use Rattle.hc_kept.specs.Groups.{Entry, HasNoCurrent, IsCurrent, IsGroup, files_in}
-use Rattle.hc_kept.specs.declared.group.Kept.{Kept}
-use Rattle.hc_kept.proofs.Entries.{at_dir, allowed_is, entry_found, entry_is}
+use Rattle.hc_world.specs.Edits.{Edited}
+use Rattle.hc_kept.specs.Files.{reads_of}
+use Rattle.hc_kept.specs.Entries.{AreEntries, Entry, Found, HasNoCurrent, IsCurrent, Kept, file_for, files_in}
+use Rattle.hc_kept.specs.Keys.{is_at}
+use Rattle.hc_kept.proofs.Entries.{entry_found, entry_is}
 
-within : (n m : ℕ) → n ≤ m → nat_le n m && true ≡ true
-within n m le = grind (arith, nat_tests)
+module _ {A : Type 0} (found_in : A → Found) (world : Edited) (allowed : Allowed) (dir : Path) (es : List Entry)
+    (are : AreEntries es) where
+  abbrev Answers : Option A → Type 0
+  Answers result =
+      IfSome result (λ found. IsCurrent world (files_in es) dir allowed (found_in found))
+      × IfNone result (HasNoCurrent world (files_in es) dir allowed)
 
-beyond : (n m : ℕ) → m < n → nat_le n m && true ≡ false
-beyond n m lt = grind (arith, nat_tests)
+  kept_answers : (kept : Kept) → lookup (is_at dir allowed) es ≡ Some kept → (stays : Bool)
+      → is_current world kept.reads kept.at ≡ stays → (result : Option A)
+      → option_map found_in result ≡ (if stays then Some kept.value else None) → Answers result
+  kept_answers kept is true stays None value = cc
+  kept_answers kept is true stays (Some found) value =
+      let it = entry_found allowed dir es kept are.own is in
+      let same : found_in found ≡ kept.value = cc in (
+        record {
+          at = kept.at;
+          there = subst (λ found. Contains (files_in es) (file_for dir allowed found kept.at)) (sym same)
+              it.there;
+          stays = ap (λ reads. is_current world reads kept.at) (sym it.own) ∙ stays;
+        },
+        tt,
+      )
+  kept_answers kept is false stays (Some found) value = cc
+  kept_answers kept is false stays None value = (
+    tt,
+    λ file has same same_allowed.
+        let own = (entry_found allowed dir es kept are.own is).own in
+        let it = entry_is allowed dir es file are.differ has same same_allowed in
+        let one : it.kept ≡ kept = cc (it.found, is) in
+        ap (λ reads. is_current world reads file.at) (ap reads_of same ∙ sym own)
+        ∙ ap (is_current world kept.reads) (sym it.at ∙ ap (λ k. k.at) one) ∙ stays,
+  )
 
-module _ (world : Edited) (allowed : Allowed) (dir : Path) (es : List Entry) (group : IsGroup es) where
-  pub is_current : (kept : Kept) (changed : ℕ) → lookup (at_dir allowed dir) es ≡ Some kept
-      → changed ≡ changed_at world kept.read → changed ≤ kept.at
-      → IsCurrent world (files_in allowed es) dir allowed kept.found
-  is_current kept changed is last stays =
-      let found = entry_found allowed dir es kept group.own is in
-      record { at = kept.at; there = found.there; stays = rw (← found.own, ← last) (within changed kept.at stays) }
+  answers : (kept : Option Kept) → lookup (is_at dir allowed) es ≡ kept → (result : Option A)
+      → option_map found_in result ≡ option_and_then (value_kept world) kept → Answers result
+  answers None none (Some found) value = cc
+  answers None none None value = (
+    tt,
+    λ file has same same_allowed.
+        let it = entry_is allowed dir es file are.differ has same same_allowed in cc (it.found, none),
+  )
+  answers (Some kept) is result value = kept_answers kept is (is_current world kept.reads kept.at) refl result value
 
-  pub is_stale : (kept : Kept) (changed : ℕ) → lookup (at_dir allowed dir) es ≡ Some kept
-      → changed ≡ changed_at world kept.read → kept.at < changed
-      → HasNoCurrent world (files_in allowed es) dir allowed
-  is_stale kept changed is last late file has same _ =
-      let own = (entry_found allowed dir es kept group.own is).own in
-      let it = entry_is allowed dir es file group.differ has same in
-      let one : it.kept ≡ kept = cc (it.found, is) in
-      let at : file.at ≡ kept.at = sym it.at ∙ ap (λ k. k.at) one in
-      rw (at, same, ← own, ← last) (beyond changed kept.at late)
-
-  pub is_absent : lookup (at_dir allowed dir) es ≡ None → HasNoCurrent world (files_in allowed es) dir allowed
-  is_absent none file has same _ = let it = entry_is allowed dir es file group.differ has same in cc (it.found, none)
-
--- ---- what is allowed
-
-pub same_is : (one other : Allowed) → same_allowed one other ≡ true → other ≡ one
-same_is one other is = sym ((is_for_Decides (record { dir = []; allowed = one }) [] other).0 is).1
-
-pub other_allowed : (world : Edited) (own allowed : Allowed) (dir : Path) (es : List Entry)
-    → same_allowed own allowed ≡ false
-    → HasNoCurrent world (files_in own es) dir allowed
-other_allowed world own allowed dir es differs file has _ is =
-    let same = (is_for_Decides (record { dir = []; allowed = own }) [] allowed).1
-    (refl, sym (allowed_is own es file has) ∙ is) in
-    absurd (true≢false (sym same ∙ differs))
+  pub current_answers : (result : Option A)
+      → option_map found_in result ≡ option_and_then (value_kept world) (lookup (is_at dir allowed) es)
+      → Answers result
+  current_answers result value = answers (lookup (is_at dir allowed) es) refl result value

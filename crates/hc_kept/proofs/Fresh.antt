@@ -15,7 +15,7 @@ use Rattle.hc_model.specs.declared.section.Allowed.{Allowed}
 use Rattle.hc_steps.specs.Step.{Path}
 use Rattle.hc_world.specs.Edits.{Edited}
 use Rattle.hc_kept.specs.Files.{AreFilesOf, AreFresh, IsFileOf, IsFresh, KeptFile, as_loaded, fresh_as_loaded}
-use Rattle.hc_kept.specs.Groups.{Puts, file_for}
+use Rattle.hc_kept.specs.Entries.{Puts, file_for}
 use Rattle.hc_kept.specs.declared.cached.FreshFile.{FreshFile}
 use Rattle.hc_kept.proofs.Entries.{behind, first, first_or_behind}
 

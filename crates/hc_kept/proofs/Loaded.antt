@@ -9,7 +9,7 @@ use Rattle.hc_model.specs.declared.section.Allowed.{Allowed}
 use Rattle.hc_steps.specs.Step.{Path}
 use Rattle.hc_world.specs.Edits.{Edited}
 use Rattle.hc_kept.specs.Files.{KeptFile, as_loaded, fresh_as_loaded, is_current_file}
-use Rattle.hc_kept.specs.Groups.{HasNoCurrent}
+use Rattle.hc_kept.specs.Entries.{HasNoCurrent}
 use Rattle.hc_kept.specs.declared.cached.FreshFile.{FreshFile}
 use Rattle.hc_kept.proofs.Entries.{behind, first, first_or_behind}
 

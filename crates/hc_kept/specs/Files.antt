@@ -27,11 +27,11 @@ pub record KeptFile : Type 0 where
   pub at : ℕ
 
 -- What it rests on, beside the configuration.
-abbrev pub reads_of : KeptFile → List Read
-reads_of file = TextOf (htaccess_of file.dir) ∷ []
+abbrev pub reads_of : Path → List Read
+reads_of dir = TextOf (htaccess_of dir) ∷ []
 
 abbrev pub is_current_file : Edited → KeptFile → Bool
-is_current_file world file = is_current world (reads_of file) file.at
+is_current_file world file = is_current world (reads_of file.dir) file.at
 
 -- While its text stays, it is what reading it gives.
 pub record IsFileOf (world : Edited) (config : Config) (file : KeptFile) : Type 0 where

@@ -1,3 +1,4 @@
 pub mod Files
-pub mod Groups
+pub mod Entries
+pub mod Keys
 pub mod Site

@@ -8,7 +8,7 @@ ghost use Rattle.hc_kept.specs.Files.{AreFilesOf, AreFresh, IsLoaded, fresh_as_l
 ghost use Rattle.hc_model.specs.Overrides.{IsRead, Kept, Override, file_of};
 
 use crate::KeptFiles;
-use crate::group::Found;
+use crate::files::Found;
 use crate::settled::settled;
 use hc_base::{Counter, Fault, NoMemory, Text};
 use hc_htaccess::read_htaccess;

@@ -1,27 +1,37 @@
-ghost use Rattle.std.specs.Prelude.{◌≡◌, ◌<◌, [], IfNone, IfSome, OnErr, OnOk, length, slice_index_or};
+ghost use Rattle.std.specs.Prelude.{◌≡◌, [], IfNone, IfSome, OnErr, OnOk, option_and_then, option_map};
+ghost use Rattle.indexmap.specs.IndexMap.{get_by};
+ghost use Rattle.hc_cache.specs.Views.{value_kept};
 ghost use Rattle.hc_kept.specs.Files.{AllKept, KeepsFresh};
-ghost use Rattle.hc_kept.specs.Groups.{HasNoCurrent, IsCurrent, IsOwn, Puts, file_for, file_of, files_of};
+ghost use Rattle.hc_kept.specs.Entries.{HasNoCurrent, IsCurrent, IsOwn, Puts, file_for, file_of};
+ghost use Rattle.hc_kept.specs.Keys.{is_at};
 
+use crate::asked::AskedKey;
 use crate::cached::FreshFile;
-use crate::group::{Found, Group, Kept};
-use hc_base::NoMemory;
+use crate::key::FileKey;
+use hc_base::{List, NoMemory, Refusal};
+use hc_cache::{Kept, value_kept};
 use hc_merge::htaccess_of;
-use hc_model::{Allowed, Read};
+use hc_model::{Allowed, HtFile, Read};
 use hc_world::World;
+use indexmap::IndexMap;
 use std::alloc::Global;
 use std::marker::Model;
+
+/// What reading a `.htaccess` gave.
+pub(crate) type Found = Result<Option<HtFile>, Refusal>;
 
 /// The `.htaccess` files that were read, by directory and by what is allowed there.
 #[derive(Drop)]
 pub struct KeptFiles {
-    groups: Vec<Group>,
+    alloc: Global,
+    by_key: IndexMap<FileKey, Kept<Found>>,
 }
 
 impl Model for KeptFiles {
     ghost use Rattle.std.specs.Prelude.{List};
     ghost use Rattle.std.specs.Coded.{codes};
     ghost use Rattle.hc_kept.specs.Files.{KeptFile};
-    ghost use Rattle.hc_kept.specs.Groups.{files_of};
+    ghost use Rattle.hc_kept.specs.Entries.{AreEntries, files_in};
     ghost use Rattle.hc_model.specs.contracts.section.HtFile as f;
     ghost use Rattle.hc_base.specs.contracts.place.Refusal as r;
 
@@ -29,7 +39,9 @@ impl Model for KeptFiles {
 
     ghost coded = { Prim.hlevel (codes, f.the_row.coded, r.the_row.coded) };
 
-    ghost view = { λ k. files_of k.groups.items };
+    ghost view = { λ k. files_in k.by_key.entries };
+
+    ghost invariant = { λ k. AreEntries k.by_key.entries };
 }
 
 impl KeptFiles {
@@ -38,7 +50,8 @@ impl KeptFiles {
         ensures { result ≡ [] }
     {
         KeptFiles {
-            groups: Vec::new(alloc),
+            alloc,
+            by_key: IndexMap::new(alloc),
         }
     }
 
@@ -47,7 +60,7 @@ impl KeptFiles {
         ensures some { IfSome result (λ found. IsCurrent world.now self.now dir.now allowed found.now) }
         ensures none { IfNone result (HasNoCurrent world.now self.now dir.now allowed) }
     {
-        current_among(&self.groups, world, dir, allowed)
+        current_in(&self.by_key, world, dir, allowed)
     }
 
     /// Keeps what reading a directory's file gave, as of the edit of this number, in the place of what was kept of it
@@ -62,10 +75,24 @@ impl KeptFiles {
         ensures ok { OnOk result (Puts self.old self.new (file_for dir.now allowed found at)) }
         ensures err { OnErr result (self.new ≡ self.old) }
     {
-        let alloc = *self.groups.allocator();
-        let read = Read::TextOf(htaccess_of(alloc, dir)?);
-        let dir = dir.to_vec(alloc)?;
-        put_among(&mut self.groups, allowed, dir, Kept { read, found, at })
+        let mut reads = List::new(self.alloc);
+        reads.push(Read::TextOf(htaccess_of(self.alloc, dir)?))?;
+        let dir = dir.to_vec(self.alloc)?;
+        let kept = Kept {
+            reads,
+            at,
+            value: found,
+        };
+        self.put_entry(FileKey { dir, allowed }, kept)
+    }
+
+    fn put_entry(&mut self, key: FileKey, kept: Kept<Found>) -> Result<(), NoMemory>
+        requires { IsOwn (key, kept) }
+        ensures ok { OnOk result (Puts self.old self.new (file_of (key, kept))) }
+        ensures err { OnErr result (self.new ≡ self.old) }
+    {
+        self.by_key.insert(key, kept)?;
+        Ok(())
     }
 
     /// Keeps what was read of a world since its last edit. Where memory is refused some of it may be left out.
@@ -88,63 +115,15 @@ impl KeptFiles {
     }
 }
 
-fn current_among<'g>(
-    groups: &'g [Group],
+// What a directory's file was read as, if its text has stayed since.
+fn current_in<'e>(
+    entries: &'e IndexMap<FileKey, Kept<Found>>,
     world: &World,
     dir: &[u8],
     allowed: Allowed,
-) -> Option<&'g Found>
-    ensures some { IfSome result (λ found. IsCurrent world.now (files_of groups.now) dir.now allowed found.now) }
-    ensures none { IfNone result (HasNoCurrent world.now (files_of groups.now) dir.now allowed) }
+) -> Option<&'e Found>
+    ensures { option_map (λ found. found.now) result
+        ≡ option_and_then (value_kept world.now) (get_by (is_at dir.now allowed) entries.now) }
 {
-    let [first, rest @ ..] = groups else {
-        return None;
-    };
-    match first.current(world, dir, allowed) {
-        Some(found) => Some(found),
-        None => current_among(rest, world, dir, allowed),
-    }
-}
-
-fn put_among(
-    groups: &mut Vec<Group>,
-    allowed: Allowed,
-    dir: Vec<u8>,
-    kept: Kept,
-) -> Result<(), NoMemory>
-    requires { IsOwn (dir, kept) }
-    ensures ok { OnOk result
-        (Puts (files_of groups.old.items) (files_of groups.new.items) (file_of allowed (dir, kept))) }
-    ensures err { OnErr result (groups.new.items ≡ groups.old.items) }
-{
-    match place_of(groups, allowed) {
-        Some(place) => groups[place].put(dir, kept),
-        None => put_behind(groups, allowed, dir, kept),
-    }
-}
-
-// Where the group for this is.
-fn place_of(groups: &[Group], allowed: Allowed) -> Option<usize>
-    ensures within { IfSome result (λ place. place < length groups.now) }
-    ensures is { IfSome result (λ place. (d : _) → (slice_index_or groups.now place d).allowed ≡ allowed) }
-{
-    groups.iter().position(|group| group.is_for(allowed))
-}
-
-// A group of its own.
-fn put_behind(
-    groups: &mut Vec<Group>,
-    allowed: Allowed,
-    dir: Vec<u8>,
-    kept: Kept,
-) -> Result<(), NoMemory>
-    requires { IsOwn (dir, kept) }
-    ensures ok { OnOk result
-        (Puts (files_of groups.old.items) (files_of groups.new.items) (file_of allowed (dir, kept))) }
-    ensures err { OnErr result (groups.new.items ≡ groups.old.items) }
-{
-    let mut group = Group::new(*groups.allocator(), allowed);
-    group.put(dir, kept)?;
-    groups.push(group)?;
-    Ok(())
+    value_kept(entries.get(AskedKey { dir, allowed })?, world)
 }

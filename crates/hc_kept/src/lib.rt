@@ -6,9 +6,10 @@
 //! doesn't touch.
 #![tactic(auto)]
 
+mod asked;
 mod cached;
 mod files;
-mod group;
+mod key;
 pub mod laws;
 mod settled;
 mod site;

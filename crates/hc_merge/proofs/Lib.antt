@@ -1,3 +1,4 @@
 pub mod Merging
 pub mod Loading
 pub mod Chains
+pub mod Along

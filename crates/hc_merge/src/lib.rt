@@ -9,7 +9,8 @@
 //! a directory, and `wanted_by` the directories of a walk in which something is allowed, each with what is
 //! (specs/Overriding.antt); both calls above take their files at their places behind the sections of their
 //! directories, and ask that they are loaded. `laws::wanted_files_suffice`: what is in force depends on no other
-//! `.htaccess` (specs/Laws.antt).
+//! `.htaccess`, and `laws::files_are_wanted_as_allowed`: `wanted_by` says of each directory of a walk what `allowed`
+//! does (specs/Laws.antt).
 #![tactic(auto)]
 
 mod candidate;

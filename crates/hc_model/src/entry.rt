@@ -1,7 +1,7 @@
 ghost use Rattle.std.specs.Prelude.{◌≡◌};
 
 use crate::Spot;
-use hc_base::{List, NoMemory, Text};
+use hc_base::{NoMemory, Text};
 
 /// A line of a configuration whose includes stand at their places and whose variables are replaced
 /// (Apache manual, core, Include and Define).
@@ -13,8 +13,6 @@ pub struct Entry {
     pub name: Text,
     /// What follows the name: of a directive as it stands, of an opening up to its last `>`.
     pub rest: Text,
-    /// The places, in the list of all entries, of the openings around it, the outermost first.
-    pub within: List<u32>,
 }
 
 /// What a line is (Apache manual, "Configuration Sections").
@@ -34,7 +32,6 @@ impl Clone for Entry {
             form: self.form,
             name: self.name.clone()?,
             rest: self.rest.clone()?,
-            within: self.within.copy()?,
         })
     }
 }

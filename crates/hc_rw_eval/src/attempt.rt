@@ -6,9 +6,7 @@ ghost use Rattle.hc_rw_eval.specs.Attempts.{found_in, groups_of, matched, not_ma
 ghost use Rattle.hc_rw_eval.specs.Conditions.{matched_of, searched};
 ghost use Rattle.hc_rw_eval.specs.Frames.{context_at, looks_at, shown_at};
 ghost use Rattle.hc_rw_eval.specs.Turns.{looked, with_groups};
-ghost use Rattle.hc_steps.specs.Ran.{Ran};
-ghost use Rattle.hc_steps.specs.Run.{run};
-ghost use Rattle.hc_steps.specs.Shown.{shown_by};
+ghost use Rattle.hc_steps.specs.Ran.{Takes, Tells};
 
 use crate::conditions::{Tested, conds_tried, counted};
 use crate::directories::{with_info, within};
@@ -20,7 +18,6 @@ use hc_match::{Captures, first_match};
 use hc_model::{Lookups, Rule};
 use hc_rw_expand::{Matched, RwState};
 use hc_steps::Log;
-use hc_world::World;
 use std::alloc::Global;
 
 /// The state of a run, and whether some substitution was made in it.
@@ -76,9 +73,8 @@ fn groups_of(
 
 // Looks for the pattern of a rule in a text. Nothing is made where it fails.
 #[tactic(auto, unfolding(crate::specs::Turns::looked), using(hc_steps::proofs::Going::telling))]
-fn looked_for(world: &World, log: &mut Log, rule: &Rule, text: &[u8]) -> Result<Looked, Stop>
-    ensures { Ran result log.old log.new
-        (run (looked rule.now (searched text.now rule.now.pat)) (shown_by world.now.files)) }
+fn looked_for(log: &mut Log, rule: &Rule, text: &[u8]) -> Result<Looked, Stop>
+    ensures { Tells result log (looked rule.now (searched text.now rule.now.pat)) }
 {
     let found = first_match(log.allocator(), rule.pat.as_pat(), text)?;
     if !counted(rule.negated, found.is_some()) {
@@ -97,20 +93,19 @@ pub(crate) fn looked_in<P: Lookups>(
     rule: &Rule,
     state: &RwState,
 ) -> Result<Looked, Stop>
-    ensures { Ran result log.old log.new
-        (run (looked rule.now (found_in (context_at frame.now) rule.now state.now))
-        (shown_at frame.now)) }
+    ensures { Takes result log (looked rule.now (found_in (context_at frame.now) rule.now state.now))
+        (shown_at frame.now) }
 {
     let text = state.text.as_bytes();
     let Some(engine) = &frame.context.engine else {
-        return looked_for(frame.world, log, rule, text);
+        return looked_for(log, rule, text);
     };
     let (dir, info) = (engine.dir.as_bytes(), state.info.as_bytes());
     if info.is_empty() {
-        return looked_for(frame.world, log, rule, within(dir, text));
+        return looked_for(log, rule, within(dir, text));
     }
     let text = with_info(log.allocator(), text, info)?;
-    looked_for(frame.world, log, rule, within(dir, &text))
+    looked_for(log, rule, within(dir, &text))
 }
 
 /// The groups are set, and no condition has set any for this rule.
@@ -136,9 +131,8 @@ fn matched<P: Lookups>(
     followed: bool,
     before: Rewritten,
 ) -> Result<Attempt, Stop>
-    ensures { Ran result log.old log.new
-        (run (matched (context_at frame.now) (looks_at P.files P.values frame.now) rule.now followed before)
-        (shown_at frame.now)) }
+    ensures { Takes result log (matched (context_at frame.now)
+        (looks_at P.files P.values frame.now) rule.now followed before) (shown_at frame.now) }
 {
     tell_rule(log, rule, true)?;
     let left = applied(frame, log, rule, followed, before)?;
@@ -149,13 +143,8 @@ fn matched<P: Lookups>(
 }
 
 #[tactic(auto, unfolding(crate::specs::Attempts::not_matched), using(hc_steps::proofs::Going::telling))]
-fn not_matched<P: Lookups>(
-    frame: &Frame<'_, P>,
-    log: &mut Log,
-    rule: &Rule,
-    left: Rewritten,
-) -> Result<Attempt, Stop>
-    ensures { Ran result log.old log.new (run (not_matched rule.now left) (shown_at frame.now)) }
+fn not_matched(log: &mut Log, rule: &Rule, left: Rewritten) -> Result<Attempt, Stop>
+    ensures { Tells result log (not_matched rule.now left) }
 {
     tell_rule(log, rule, false)?;
     Ok(Attempt {
@@ -173,9 +162,8 @@ pub(crate) fn pattern_held<P: Lookups>(
     followed: bool,
     before: Rewritten,
 ) -> Result<Attempt, Stop>
-    ensures { Ran result log.old log.new
-        (run (pattern_held (context_at frame.now) (looks_at P.files P.values frame.now) rule.now followed before)
-        (shown_at frame.now)) }
+    ensures { Takes result log (pattern_held (context_at frame.now)
+        (looks_at P.files P.values frame.now) rule.now followed before) (shown_at frame.now) }
 {
     let Rewritten { state, substituted } = before;
     let Tested { holds, state } = conds_tried(frame, log, state, rule.conds.as_slice())?;
@@ -183,6 +171,6 @@ pub(crate) fn pattern_held<P: Lookups>(
     if holds {
         matched(frame, log, rule, followed, before)
     } else {
-        not_matched(frame, log, rule, before)
+        not_matched(log, rule, before)
     }
 }

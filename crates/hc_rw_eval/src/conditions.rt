@@ -7,8 +7,7 @@ ghost use Rattle.hc_rw_eval.specs.Conditions.{while_held};
 ghost use Rattle.hc_rw_eval.specs.Conditions.{without_groups};
 ghost use Rattle.hc_rw_eval.specs.Frames.{context_at, looks_at, shown_at};
 ghost use Rattle.hc_rw_eval.specs.Groups.{group_length};
-ghost use Rattle.hc_steps.specs.Ran.{Ran};
-ghost use Rattle.hc_steps.specs.Run.{run};
+ghost use Rattle.hc_steps.specs.Ran.{Takes, Tells};
 ghost use Rattle.hc_steps.specs.Shown.{shown_by};
 
 use crate::files::{dir_there, file_there};
@@ -86,7 +85,7 @@ fn seen_by(
     nocase: bool,
     text: Text,
 ) -> Result<Seen, Stop>
-    ensures { Ran result log.old log.new (run (seen_by kind.now nocase text) (shown_by world.now.files)) }
+    ensures { Takes result log (seen_by kind.now nocase text) (shown_by world.now.files) }
 {
     match kind {
         CondKind::Search(pattern) => Ok(by_pattern(searched(log.allocator(), text, pattern)?)),
@@ -119,8 +118,8 @@ fn tested_by(cond: &Cond, state: RwState, seen: Seen) -> Tested
 }
 
 #[tactic(auto, unfolding(crate::specs::Conditions::cond_told), using(hc_steps::proofs::Going::telling))]
-fn cond_told(world: &World, log: &mut Log, cond: &Cond, tested: Tested) -> Result<Tested, Stop>
-    ensures { Ran result log.old log.new (run (cond_told cond.now tested) (shown_by world.now.files)) }
+fn cond_told(log: &mut Log, cond: &Cond, tested: Tested) -> Result<Tested, Stop>
+    ensures { Tells result log (cond_told cond.now tested) }
 {
     tell_cond(log, cond, tested.holds)?;
     Ok(tested)
@@ -134,10 +133,10 @@ fn text_tested(
     state: RwState,
     text: Text,
 ) -> Result<Tested, Stop>
-    ensures { Ran result log.old log.new (run (text_tested cond.now state text) (shown_by world.now.files)) }
+    ensures { Takes result log (text_tested cond.now state text) (shown_by world.now.files) }
 {
     let seen = seen_by(world, log, &cond.kind, cond.nocase, text)?;
-    cond_told(world, log, cond, tested_by(cond, state, seen))
+    cond_told(log, cond, tested_by(cond, state, seen))
 }
 
 #[tactic(auto, unfolding(crate::specs::Conditions::cond_tried), using(hc_steps::proofs::Going::going))]
@@ -147,9 +146,8 @@ fn cond_tried<P: Lookups>(
     state: RwState,
     cond: &Cond,
 ) -> Result<Tested, Stop>
-    ensures { Ran result log.old log.new
-        (run (cond_tried (context_at frame.now) (looks_at P.files P.values frame.now) state cond.now)
-        (shown_at frame.now)) }
+    ensures { Takes result log (cond_tried (context_at frame.now)
+        (looks_at P.files P.values frame.now) state cond.now) (shown_at frame.now) }
 {
     let text = filled(frame, log, &state, &cond.test)?;
     text_tested(frame.world, log, cond, state, text)
@@ -163,9 +161,8 @@ fn unless_held<P: Lookups>(
     tested: Tested,
     cond: &Cond,
 ) -> Result<Tested, Stop>
-    ensures { Ran result log.old log.new
-        (run (unless_held (context_at frame.now) (looks_at P.files P.values frame.now) tested cond.now)
-        (shown_at frame.now)) }
+    ensures { Takes result log (unless_held (context_at frame.now)
+        (looks_at P.files P.values frame.now) tested cond.now) (shown_at frame.now) }
 {
     if tested.holds {
         return Ok(tested);
@@ -181,9 +178,8 @@ fn group_tried<P: Lookups>(
     state: RwState,
     group: &[Cond],
 ) -> Result<Tested, Stop>
-    ensures { Ran result log.old log.new
-        (run (group_tried (context_at frame.now) (looks_at P.files P.values frame.now) state group.now)
-        (shown_at frame.now)) }
+    ensures { Takes result log (group_tried (context_at frame.now)
+        (looks_at P.files P.values frame.now) state group.now) (shown_at frame.now) }
 {
     let mut tested = Tested {
         holds: false,
@@ -203,9 +199,8 @@ fn while_held<P: Lookups>(
     tested: Tested,
     group: &[Cond],
 ) -> Result<Tested, Stop>
-    ensures { Ran result log.old log.new
-        (run (while_held (context_at frame.now) (looks_at P.files P.values frame.now) tested group.now)
-        (shown_at frame.now)) }
+    ensures { Takes result log (while_held (context_at frame.now)
+        (looks_at P.files P.values frame.now) tested group.now) (shown_at frame.now) }
 {
     if !tested.holds {
         return Ok(tested);
@@ -234,9 +229,8 @@ pub(crate) fn conds_tried<P: Lookups>(
     state: RwState,
     conds: &[Cond],
 ) -> Result<Tested, Stop>
-    ensures { Ran result log.old log.new
-        (run (conds_tried (context_at frame.now) (looks_at P.files P.values frame.now) state conds.now)
-        (shown_at frame.now)) }
+    ensures { Takes result log (conds_tried (context_at frame.now)
+        (looks_at P.files P.values frame.now) state conds.now) (shown_at frame.now) }
 {
     let mut tested = Tested { holds: true, state };
     let mut rest = conds;

@@ -1,8 +1,7 @@
 //! The tests of conditions that look at files.
 ghost use Rattle.std.specs.Prelude.{◌≡◌, IfOk};
 ghost use Rattle.hc_rw_eval.specs.Conditions.{dir_named, is_dir, is_file, path_named, stands_there};
-ghost use Rattle.hc_steps.specs.Ran.{Ran};
-ghost use Rattle.hc_steps.specs.Run.{run};
+ghost use Rattle.hc_steps.specs.Ran.{Takes};
 ghost use Rattle.hc_steps.specs.Shown.{shown_by};
 ghost use Rattle.hc_steps.specs.Step.{kind_at};
 
@@ -50,7 +49,7 @@ fn is_dir(kind: Kind) -> bool
 }
 
 fn kind_at(world: &World, log: &mut Log, path: &Text) -> Result<Kind, Stop>
-    ensures { Ran result log.old log.new (run (kind_at path.now) (shown_by world.now.files)) }
+    ensures { Takes result log (kind_at path.now) (shown_by world.now.files) }
 {
     hc_world::kind_at(world, log, path.as_bytes())
 }
@@ -58,7 +57,7 @@ fn kind_at(world: &World, log: &mut Log, path: &Text) -> Result<Kind, Stop>
 // Whether a file stands at a path.
 #[tactic(auto, unfolding(crate::specs::Conditions::stands_there), using(hc_steps::proofs::Going::going))]
 fn file_at(world: &World, log: &mut Log, path: Option<Text>) -> Result<bool, Stop>
-    ensures { Ran result log.old log.new (run (stands_there is_file path) (shown_by world.now.files)) }
+    ensures { Takes result log (stands_there is_file path) (shown_by world.now.files) }
 {
     let Some(path) = path else {
         return Ok(false);
@@ -70,7 +69,7 @@ fn file_at(world: &World, log: &mut Log, path: Option<Text>) -> Result<bool, Sto
 // Whether a directory stands at a path.
 #[tactic(auto, unfolding(crate::specs::Conditions::stands_there), using(hc_steps::proofs::Going::going))]
 fn dir_at(world: &World, log: &mut Log, path: Option<Text>) -> Result<bool, Stop>
-    ensures { Ran result log.old log.new (run (stands_there is_dir path) (shown_by world.now.files)) }
+    ensures { Takes result log (stands_there is_dir path) (shown_by world.now.files) }
 {
     let Some(path) = path else {
         return Ok(false);
@@ -82,8 +81,7 @@ fn dir_at(world: &World, log: &mut Log, path: Option<Text>) -> Result<bool, Stop
 /// Whether a text names a file.
 #[tactic(auto, using(hc_steps::proofs::Going::ran_no_memory))]
 pub(crate) fn file_there(world: &World, log: &mut Log, text: &Text) -> Result<bool, Stop>
-    ensures { Ran result log.old log.new
-        (run (stands_there is_file (path_named text.now)) (shown_by world.now.files)) }
+    ensures { Takes result log (stands_there is_file (path_named text.now)) (shown_by world.now.files) }
 {
     let path = path_named(log.allocator(), text.as_bytes())?;
     file_at(world, log, path)
@@ -92,8 +90,7 @@ pub(crate) fn file_there(world: &World, log: &mut Log, text: &Text) -> Result<bo
 /// Whether a text names a directory.
 #[tactic(auto, using(hc_steps::proofs::Going::ran_no_memory))]
 pub(crate) fn dir_there(world: &World, log: &mut Log, text: &Text) -> Result<bool, Stop>
-    ensures { Ran result log.old log.new
-        (run (stands_there is_dir (dir_named text.now)) (shown_by world.now.files)) }
+    ensures { Takes result log (stands_there is_dir (dir_named text.now)) (shown_by world.now.files) }
 {
     let path = dir_named(log.allocator(), text.as_bytes())?;
     dir_at(world, log, path)

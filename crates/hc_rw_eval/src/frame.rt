@@ -2,8 +2,7 @@ ghost use Rattle.std.specs.Prelude.{◌≡◌, OnOk};
 ghost use Rattle.hc_rw_eval.specs.Frames.{context_at, looks_at, shown_at};
 ghost use Rattle.hc_rw_expand.specs.Lookups.{expanded};
 ghost use Rattle.hc_rw_expand.specs.Values.{filling_in};
-ghost use Rattle.hc_steps.specs.Ran.{Ran, with_reads};
-ghost use Rattle.hc_steps.specs.Run.{run};
+ghost use Rattle.hc_steps.specs.Ran.{Takes, with_reads};
 
 use hc_base::{Fault, NoMemory, Text};
 use hc_model::{Lookups, Outcome, Read, Template};
@@ -30,9 +29,8 @@ pub(crate) fn filled<P: Lookups>(
     state: &RwState,
     template: &Template,
 ) -> Result<Text, Stop>
-    ensures { Ran result log.old log.new
-        (run (expanded (looks_at P.files P.values frame.now) (filling_in (context_at frame.now) state.now) template.now)
-        (shown_at frame.now)) }
+    ensures { Takes result log (expanded (looks_at P.files P.values frame.now)
+        (filling_in (context_at frame.now) state.now) template.now) (shown_at frame.now) }
 {
     let looks = looks_of(log.allocator(), template, frame.look)?;
     tell_looks(log, looks)?;

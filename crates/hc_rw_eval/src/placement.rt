@@ -1,6 +1,6 @@
 //! Where a text that a substitution left leads: to a path of the server's own, or elsewhere (Apache manual,
 //! mod_rewrite: RewriteRule, "Substitution"; RewriteBase; "RewriteRule Flags", R).
-ghost use Rattle.std.specs.Prelude.{◌≡◌, IfOk, [], option_map};
+ghost use Rattle.std.specs.Prelude.{◌≡◌, IfOk, option_map};
 ghost use Rattle.hc_rw_eval.specs.Frames.{context_at, shown_at};
 ghost use Rattle.hc_rw_eval.specs.Locations.{own_path};
 ghost use Rattle.hc_rw_eval.specs.Substitutions.{base_front, dir_front, front_before, front_of, front_placed};
@@ -9,8 +9,7 @@ ghost use Rattle.hc_rw_eval.specs.Substitutions.{location_of, own_unless, path_l
 ghost use Rattle.hc_rw_eval.specs.Substitutions.{status_sent};
 ghost use Rattle.hc_rw_eval.specs.Substitutions.{stops, text_placed, unless_long, url_placed, with_front, with_path};
 ghost use Rattle.hc_rw_expand.specs.Contexts.{context_of, engine_of};
-ghost use Rattle.hc_steps.specs.Ran.{Ran};
-ghost use Rattle.hc_steps.specs.Run.{run};
+ghost use Rattle.hc_steps.specs.Ran.{Takes, Tells};
 ghost use Rattle.hc_template.specs.Variables.{origin};
 
 use crate::attempt::Rewritten;
@@ -53,14 +52,8 @@ fn stops(flags: &Flags) -> bool
 
 // A rule that sends the request elsewhere ends the list, or no rule follows it.
 #[tactic(auto, unfolding(crate::specs::Substitutions::sent), using(hc_steps::proofs::Going::telling))]
-fn sent<P: Lookups>(
-    frame: &Frame<'_, P>,
-    log: &mut Log,
-    flags: &Flags,
-    followed: bool,
-    location: Text,
-) -> Result<Rewritten, Stop>
-    ensures { Ran result log.old log.new (run (sent flags.now followed location) (shown_at frame.now)) }
+fn sent(log: &mut Log, flags: &Flags, followed: bool, location: Text) -> Result<Rewritten, Stop>
+    ensures { Tells result log (sent flags.now followed location) }
 {
     if followed && !stops(flags) {
         return Err(Fault::Refused(Outcome::Outside(Reason::Scheme)));
@@ -91,12 +84,8 @@ fn location_of(
 }
 
 #[tactic(auto, unfolding(crate::specs::Substitutions::told_text), using(hc_steps::proofs::Going::telling))]
-fn told_text<P: Lookups>(
-    frame: &Frame<'_, P>,
-    log: &mut Log,
-    state: RwState,
-) -> Result<Rewritten, Stop>
-    ensures { Ran result log.old log.new (run (told_text state) (shown_at frame.now)) }
+fn told_text(log: &mut Log, state: RwState) -> Result<Rewritten, Stop>
+    ensures { Tells result log (told_text state) }
 {
     tell_text(log, &state)?;
     Ok(Rewritten {
@@ -115,15 +104,14 @@ fn url_placed<P: Lookups>(
     state: RwState,
     path: Option<Text>,
 ) -> Result<Rewritten, Stop>
-    ensures { Ran result log.old log.new
-        (run (url_placed (context_at frame.now) flags.now followed state path) (shown_at frame.now)) }
+    ensures { Takes result log (url_placed (context_at frame.now) flags.now followed state path) (shown_at frame.now) }
 {
     let Some(text) = path else {
         let front = Vec::new(log.allocator());
         let location = location_of(frame.context, flags, front, &state)?;
-        return sent(frame, log, flags, followed, location);
+        return sent(log, flags, followed, location);
     };
-    told_text(frame, log, RwState { text, ..state })
+    told_text(log, RwState { text, ..state })
 }
 
 // With R a URL of the server's own is a URL like others.
@@ -248,14 +236,13 @@ fn path_placed<P: Lookups>(
     followed: bool,
     state: RwState,
 ) -> Result<Rewritten, Stop>
-    ensures { Ran result log.old log.new
-        (run (path_placed (context_at frame.now) flags.now followed state) (shown_at frame.now)) }
+    ensures { Takes result log (path_placed (context_at frame.now) flags.now followed state) (shown_at frame.now) }
 {
     if !redirects(flags) {
-        return told_text(frame, log, state);
+        return told_text(log, state);
     }
     let location = path_location(log.allocator(), frame.context, flags, state)?;
-    sent(frame, log, flags, followed, location)
+    sent(log, flags, followed, location)
 }
 
 #[tactic(auto, unfolding(crate::specs::Substitutions::front_placed), using(hc_steps::proofs::Going::telling))]
@@ -267,8 +254,8 @@ fn front_placed<P: Lookups>(
     state: RwState,
     front: Result<Text, Reason>,
 ) -> Result<Rewritten, Stop>
-    ensures { Ran result log.old log.new
-        (run (front_placed (context_at frame.now) flags.now followed state front) (shown_at frame.now)) }
+    ensures { Takes result log (front_placed (context_at frame.now) flags.now followed state front)
+        (shown_at frame.now) }
 {
     match front {
         Ok(front) => path_placed(frame, log, flags, followed, with_front(front, state)?),
@@ -284,8 +271,7 @@ fn text_placed<P: Lookups>(
     followed: bool,
     state: RwState,
 ) -> Result<Rewritten, Stop>
-    ensures { Ran result log.old log.new
-        (run (text_placed (context_at frame.now) flags.now followed state) (shown_at frame.now)) }
+    ensures { Takes result log (text_placed (context_at frame.now) flags.now followed state) (shown_at frame.now) }
 {
     if is_url(state.text.as_bytes()) {
         let caller = frame.context.caller;
@@ -318,8 +304,7 @@ pub(crate) fn unless_long<P: Lookups>(
     followed: bool,
     state: RwState,
 ) -> Result<Rewritten, Stop>
-    ensures { Ran result log.old log.new
-        (run (unless_long (context_at frame.now) flags.now followed state) (shown_at frame.now)) }
+    ensures { Takes result log (unless_long (context_at frame.now) flags.now followed state) (shown_at frame.now) }
 {
     if is_long(state.text.as_bytes()) || is_long(state.query.as_bytes()) {
         return Err(Fault::Refused(Outcome::Outside(Reason::LongText)));

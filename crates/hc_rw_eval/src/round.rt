@@ -5,8 +5,7 @@ ghost use Rattle.hc_rw_eval.specs.Frames.{context_at, looks_at, shown_at};
 ghost use Rattle.hc_rw_eval.specs.Lists.{from_place, has_chain, is_followed, next_by, skipped_chain, stops_run};
 ghost use Rattle.hc_rw_eval.specs.Lists.{with_end};
 ghost use Rattle.hc_rw_eval.specs.Turns.{rule_held, turned, turned_match};
-ghost use Rattle.hc_steps.specs.Ran.{Ran};
-ghost use Rattle.hc_steps.specs.Run.{run};
+ghost use Rattle.hc_steps.specs.Ran.{Takes, Tells};
 
 use crate::attempt::{Attempt, Looked, Rewritten, looked_in, pattern_held, with_groups};
 use crate::frame::{Frame, Stop};
@@ -94,14 +93,8 @@ fn next_by(rule: &Rule, left: Rewritten) -> Result<NextRound, NoMemory>
 
 // A rule that matched. N in a round that is its bound ends the request.
 #[tactic(auto, unfolding(crate::specs::Turns::turned_match), using(hc_steps::proofs::Going::telling))]
-fn turned_match<P: Lookups>(
-    frame: &Frame<'_, P>,
-    log: &mut Log,
-    rule: &Rule,
-    round: u32,
-    left: Rewritten,
-) -> Result<Turn, Stop>
-    ensures { Ran result log.old log.new (run (turned_match rule.now round left) (shown_at frame.now)) }
+fn turned_match(log: &mut Log, rule: &Rule, round: u32, left: Rewritten) -> Result<Turn, Stop>
+    ensures { Tells result log (turned_match rule.now round left) }
 {
     let flags = &rule.flags;
     if stops_run(flags) {
@@ -131,7 +124,7 @@ fn turned<P: Lookups>(
     round: u32,
     attempt: Attempt,
 ) -> Result<Turn, Stop>
-    ensures { Ran result log.old log.new (run (turned rule.now behind.now round attempt) (shown_at frame.now)) }
+    ensures { Takes result log (turned rule.now behind.now round attempt) (shown_at frame.now) }
 {
     if !attempt.matched {
         return Ok(Turn::Further {
@@ -139,7 +132,7 @@ fn turned<P: Lookups>(
             left: attempt.left,
         });
     }
-    turned_match(frame, log, rule, round, attempt.left)
+    turned_match(log, rule, round, attempt.left)
 }
 
 fn is_followed(behind: &[Rule]) -> bool
@@ -158,9 +151,8 @@ fn rule_held<P: Lookups>(
     round: u32,
     before: Rewritten,
 ) -> Result<Turn, Stop>
-    ensures { Ran result log.old log.new
-        (run (rule_held (context_at frame.now) (looks_at P.files P.values frame.now) rule.now behind.now round before)
-        (shown_at frame.now)) }
+    ensures { Takes result log (rule_held (context_at frame.now)
+        (looks_at P.files P.values frame.now) rule.now behind.now round before) (shown_at frame.now) }
 {
     let attempt = pattern_held(frame, log, rule, is_followed(behind), before)?;
     turned(frame, log, rule, behind, round, attempt)
@@ -174,9 +166,8 @@ pub(crate) fn from_place<P: Lookups>(
     rules: &[Rule],
     left: Rewritten,
 ) -> Result<Round, Stop>
-    ensures { Ran result log.old log.new
-        (run (from_place (context_at frame.now) (looks_at P.files P.values frame.now) round 0 rules.now left)
-        (shown_at frame.now)) }
+    ensures { Takes result log (from_place (context_at frame.now)
+        (looks_at P.files P.values frame.now) round 0 rules.now left) (shown_at frame.now) }
 {
     let mut left = left;
     let mut rest = rules;

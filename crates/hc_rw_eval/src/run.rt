@@ -1,10 +1,10 @@
 //! The run of a list of rules (Apache manual, "Apache mod_rewrite Technical Details", "Ruleset Processing").
 ghost use Rattle.std.specs.Prelude.{◌≡◌, ◌+◌, IfOk, OnOk};
 ghost use Rattle.hc_rw_eval.specs.Frames.{as_step, context_at, looks_at, shown_at};
-ghost use Rattle.hc_rw_eval.specs.Lists.{begun, most_rounds, next_round, rounds_from, run_rules};
+ghost use Rattle.hc_rw_eval.specs.Lists.{begun, most_rounds, rounds_from, run_rules};
 ghost use Rattle.hc_rw_expand.specs.Contexts.{context_of};
 ghost use Rattle.hc_rw_expand.specs.Lookups.{Looks, Stands};
-ghost use Rattle.hc_steps.specs.Ran.{Ran, with_event};
+ghost use Rattle.hc_steps.specs.Ran.{Ran, Takes, with_event};
 ghost use Rattle.hc_steps.specs.Run.{run};
 ghost use Rattle.hc_steps.specs.Shown.{shown_by};
 
@@ -96,9 +96,8 @@ fn rounds_from<P: Lookups>(
     rules: &[Rule],
     left: Rewritten,
 ) -> Result<Finished, Stop>
-    ensures { Ran result log.old log.new
-        (run (rounds_from most (context_at frame.now) (looks_at P.files P.values frame.now) rules.now 1 left)
-        (shown_at frame.now)) }
+    ensures { Takes result log (rounds_from most (context_at frame.now)
+        (looks_at P.files P.values frame.now) rules.now 1 left) (shown_at frame.now) }
 {
     let mut left = left;
     for earlier in 0..most {

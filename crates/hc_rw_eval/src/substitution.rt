@@ -4,8 +4,7 @@ ghost use Rattle.std.specs.Prelude.{◌≡◌, IfOk};
 ghost use Rattle.hc_rw_eval.specs.Frames.{context_at, looks_at, shown_at};
 ghost use Rattle.hc_rw_eval.specs.Substitutions.{applied, info_left, is_long, redirect_status, status_of, substituted};
 ghost use Rattle.hc_rw_eval.specs.Substitutions.{text_made, unless_answered, with_text};
-ghost use Rattle.hc_steps.specs.Ran.{Ran};
-ghost use Rattle.hc_steps.specs.Run.{run};
+ghost use Rattle.hc_steps.specs.Ran.{Takes};
 
 use crate::attempt::Rewritten;
 use crate::frame::{Frame, Stop, filled};
@@ -89,8 +88,7 @@ fn text_made<P: Lookups>(
     state: RwState,
     text: Text,
 ) -> Result<Rewritten, Stop>
-    ensures { Ran result log.old log.new
-        (run (text_made (context_at frame.now) flags.now followed state text) (shown_at frame.now)) }
+    ensures { Takes result log (text_made (context_at frame.now) flags.now followed state text) (shown_at frame.now) }
 {
     let state = with_text(log.allocator(), flags, state, &text)?;
     unless_long(frame, log, flags, followed, state)
@@ -105,9 +103,8 @@ fn substituted<P: Lookups>(
     followed: bool,
     before: Rewritten,
 ) -> Result<Rewritten, Stop>
-    ensures { Ran result log.old log.new
-        (run (substituted (context_at frame.now) (looks_at P.files P.values frame.now) rule.now.flags followed before
-        rule.now.subst) (shown_at frame.now)) }
+    ensures { Takes result log (substituted (context_at frame.now)
+        (looks_at P.files P.values frame.now) rule.now.flags followed before rule.now.subst) (shown_at frame.now) }
 {
     let Some(template) = &rule.subst else {
         return Ok(before);
@@ -124,9 +121,9 @@ fn unless_answered<P: Lookups>(
     followed: bool,
     before: Rewritten,
 ) -> Result<Rewritten, Stop>
-    ensures { Ran result log.old log.new
-        (run (unless_answered (context_at frame.now) (looks_at P.files P.values frame.now) rule.now followed before
-        (status_of rule.now.flags)) (shown_at frame.now)) }
+    ensures { Takes result log (unless_answered (context_at frame.now)
+        (looks_at P.files P.values frame.now) rule.now followed before (status_of rule.now.flags))
+        (shown_at frame.now) }
 {
     match status_of(&rule.flags) {
         Some(status) => Err(Fault::Refused(Outcome::Status(status))),
@@ -143,9 +140,8 @@ pub(crate) fn applied<P: Lookups>(
     followed: bool,
     before: Rewritten,
 ) -> Result<Rewritten, Stop>
-    ensures { Ran result log.old log.new
-        (run (applied (context_at frame.now) (looks_at P.files P.values frame.now) rule.now followed before)
-        (shown_at frame.now)) }
+    ensures { Takes result log (applied (context_at frame.now)
+        (looks_at P.files P.values frame.now) rule.now followed before) (shown_at frame.now) }
 {
     let Rewritten { state, substituted } = before;
     let state = variables_set(frame, log, state, rule.flags.sets.as_slice())?;

@@ -3,7 +3,7 @@ ghost use Rattle.std.specs.Prelude.{◌≡◌, IfOk, OnOk};
 ghost use Rattle.hc_model.specs.declared.event.Event.{Event};
 ghost use Rattle.hc_rw_eval.specs.Attempts.{rule_spot};
 ghost use Rattle.hc_rw_eval.specs.Conditions.{cond_spot};
-ghost use Rattle.hc_steps.specs.Ran.{with_event};
+ghost use Rattle.hc_steps.specs.Ran.{Tells, with_event};
 
 use hc_base::{NoMemory, Place, Span};
 use hc_model::{Cond, Event, Rule, Spot};

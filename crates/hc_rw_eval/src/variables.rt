@@ -3,8 +3,7 @@ ghost use Rattle.std.specs.Prelude.{◌≡◌, IfOk};
 ghost use Rattle.hc_rw_eval.specs.Frames.{context_at, looks_at, shown_at};
 ghost use Rattle.hc_rw_eval.specs.Substitutions.{is_long, set_by, set_to, with_set, variables_set};
 ghost use Rattle.hc_rw_eval.specs.Substitutions.{with_variable, without_variable};
-ghost use Rattle.hc_steps.specs.Ran.{Ran};
-ghost use Rattle.hc_steps.specs.Run.{run};
+ghost use Rattle.hc_steps.specs.Ran.{Takes, Tells};
 
 use crate::frame::{Frame, Stop, filled};
 use crate::substitution::is_long;
@@ -35,14 +34,8 @@ fn without_variable(alloc: Global, name: &Text, state: RwState) -> Result<RwStat
 }
 
 #[tactic(auto, unfolding(crate::specs::Substitutions::set_to), using(hc_steps::proofs::Going::telling))]
-fn set_to<P: Lookups>(
-    frame: &Frame<'_, P>,
-    log: &mut Log,
-    state: RwState,
-    name: &Text,
-    value: Text,
-) -> Result<RwState, Stop>
-    ensures { Ran result log.old log.new (run (set_to state name.now value) (shown_at frame.now)) }
+fn set_to(log: &mut Log, state: RwState, name: &Text, value: Text) -> Result<RwState, Stop>
+    ensures { Tells result log (set_to state name.now value) }
 {
     if is_long(value.as_bytes()) {
         return Err(Fault::Refused(Outcome::Outside(Reason::LongText)));
@@ -58,15 +51,14 @@ fn set_by<P: Lookups>(
     name: &Text,
     value: &Option<Template>,
 ) -> Result<RwState, Stop>
-    ensures { Ran result log.old log.new
-        (run (set_by (context_at frame.now) (looks_at P.files P.values frame.now) state name.now value.now)
-        (shown_at frame.now)) }
+    ensures { Takes result log (set_by (context_at frame.now)
+        (looks_at P.files P.values frame.now) state name.now value.now) (shown_at frame.now) }
 {
     let Some(value) = value else {
         return Ok(without_variable(log.allocator(), name, state)?);
     };
     let value = filled(frame, log, &state, value)?;
-    set_to(frame, log, state, name, value)
+    set_to(log, state, name, value)
 }
 
 #[tactic(auto, unfolding(crate::specs::Substitutions::with_set))]
@@ -76,9 +68,8 @@ fn with_set<P: Lookups>(
     state: RwState,
     set: &EnvSet,
 ) -> Result<RwState, Stop>
-    ensures { Ran result log.old log.new
-        (run (with_set (context_at frame.now) (looks_at P.files P.values frame.now) state set.now)
-        (shown_at frame.now)) }
+    ensures { Takes result log (with_set (context_at frame.now)
+        (looks_at P.files P.values frame.now) state set.now) (shown_at frame.now) }
 {
     set_by(frame, log, state, &set.name, &set.value)
 }
@@ -91,9 +82,8 @@ pub(crate) fn variables_set<P: Lookups>(
     state: RwState,
     sets: &[EnvSet],
 ) -> Result<RwState, Stop>
-    ensures { Ran result log.old log.new
-        (run (variables_set (context_at frame.now) (looks_at P.files P.values frame.now) state sets.now)
-        (shown_at frame.now)) }
+    ensures { Takes result log (variables_set (context_at frame.now)
+        (looks_at P.files P.values frame.now) state sets.now) (shown_at frame.now) }
 {
     let mut state = state;
     for set in sets {

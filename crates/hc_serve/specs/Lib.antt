@@ -9,3 +9,5 @@ pub mod Passing
 pub mod Request
 pub mod Segments
 pub mod Answers
+pub mod Lent
+pub mod Hosts

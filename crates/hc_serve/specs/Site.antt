@@ -10,7 +10,7 @@ use Rattle.hc_model.specs.declared.config.HostId.{HostId}
 use Rattle.hc_model.specs.declared.config.Server.{Server}
 use Rattle.hc_model.specs.declared.request.Caller.{Caller}
 use Rattle.hc_model.specs.declared.request.Request.{Request}
-use Rattle.hc_serve.specs.declared.site.Asked.{Asked}
+use Rattle.hc_serve.specs.declared.asked.Asked.{Asked}
 use Rattle.hc_serve.specs.declared.site.TheConstants.{DEFAULT_RESTARTS}
 
 -- ---- SERVER_NAME

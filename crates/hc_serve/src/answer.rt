@@ -1,7 +1,6 @@
 ghost use Rattle.std.specs.Prelude.{◌≡◌, ◌+◌, ◌≤◌, true, IfOk, OnOk, Some};
 ghost use Rattle.hc_base.specs.Paths.{begins_with_slash};
-ghost use Rattle.hc_htaccess.specs.Reading.{reading_in, size_in};
-ghost use Rattle.hc_model.specs.Overrides.{Kept};
+ghost use Rattle.hc_serve.specs.Lent.{Lends, Returns};
 ghost use Rattle.hc_serve.specs.Answers.{IsServed, log_of};
 ghost use Rattle.hc_serve.specs.Costs.{looked};
 ghost use Rattle.hc_serve.specs.Request.{IsAnswer, IsWholeRun, way};
@@ -81,12 +80,10 @@ pub fn evaluate<O: Overrides, L: Ledger>(
     evals: &mut Counter<L>,
 ) -> Result<Answer, NoMemory>
     requires slash { begins_with_slash request.now.target ≡ true }
-    requires over { O.reading (O.fixed over.old) ≡ reading_in world.now.files config.now }
-    requires sizes { O.size (O.fixed over.old) ≡ size_in world.now.files }
+    requires over { Lends O.reading O.size (O.fixed over.old) world.now.files config.now }
     ensures answer { IfOk result (IsAnswer world.now.files config.now request.now) }
     ensures evals { evals.new ≡ evals.old + 1 }
-    ensures fixed { O.fixed over.new ≡ O.fixed over.old }
-    ensures kept { Kept (O.loaded over.old) (O.loaded over.new) }
+    ensures over { Returns O.fixed O.loaded over }
     ensures counted { OnOk result (O.counted over.new
         ≤ O.counted over.old + looked world.now.files (way config.now request.now)) }
 {
@@ -111,12 +108,10 @@ pub fn whole_run<O: Overrides, L: Ledger>(
     evals: &mut Counter<L>,
 ) -> Result<WholeRun, NoMemory>
     requires slash { begins_with_slash request.now.target ≡ true }
-    requires over { O.reading (O.fixed over.old) ≡ reading_in world.now.files config.now }
-    requires sizes { O.size (O.fixed over.old) ≡ size_in world.now.files }
+    requires over { Lends O.reading O.size (O.fixed over.old) world.now.files config.now }
     ensures whole { IfOk result (IsWholeRun world.now.files config.now request.now) }
     ensures evals { evals.new ≡ evals.old + 1 }
-    ensures fixed { O.fixed over.new ≡ O.fixed over.old }
-    ensures kept { Kept (O.loaded over.old) (O.loaded over.new) }
+    ensures over { Returns O.fixed O.loaded over }
     ensures counted { OnOk result (O.counted over.new
         ≤ O.counted over.old + looked world.now.files (way config.now request.now)) }
 {
@@ -148,11 +143,9 @@ fn serve<O: Overrides>(
     cap: Option<usize>,
 ) -> Result<Served, NoMemory>
     requires slash { begins_with_slash request.now.target ≡ true }
-    requires over { O.reading (O.fixed over.old) ≡ reading_in world.now.files config.now }
-    requires sizes { O.size (O.fixed over.old) ≡ size_in world.now.files }
+    requires over { Lends O.reading O.size (O.fixed over.old) world.now.files config.now }
     ensures served { IfOk result (IsServed cap world.now.files config.now request.now) }
-    ensures fixed { O.fixed over.new ≡ O.fixed over.old }
-    ensures kept { Kept (O.loaded over.old) (O.loaded over.new) }
+    ensures over { Returns O.fixed O.loaded over }
     ensures counted { OnOk result (O.counted over.new
         ≤ O.counted over.old + looked world.now.files (way config.now request.now)) }
 {

@@ -9,14 +9,12 @@ ghost use Rattle.hc_serve.specs.DirectoryRules.{context_in, engine_in, is_aliase
 ghost use Rattle.hc_serve.specs.Passing.{rewritten_there, ruled, rules_left, rules_run_in};
 ghost use Rattle.hc_serve.specs.ServerRules.{looks_of, maps_at};
 ghost use Rattle.hc_serve.specs.Site.{site_of};
-ghost use Rattle.hc_steps.specs.Ran.{Ran};
-ghost use Rattle.hc_steps.specs.Run.{run};
+ghost use Rattle.hc_steps.specs.Ran.{Takes};
 ghost use Rattle.hc_steps.specs.Shown.{shown_by};
-ghost use Rattle.hc_vhost.specs.Servers.{IsHostOf};
 
 use crate::admission::FORBIDDEN;
+use crate::asked::Asked;
 use crate::server_rules::run_over;
-use crate::site::Asked;
 use crate::stage::{Here, Named, Stop};
 use hc_alias::root_of;
 use hc_base::paths::ends_with_slash;
@@ -33,9 +31,7 @@ pub(crate) fn rewritten_there(
     log: &mut Log,
     here: &Here,
 ) -> Result<Option<RwState>, Stop>
-    requires { IsHostOf asked.now.config.now asked.now.host }
-    ensures { Ran result log.old log.new
-        (run (rewritten_there (site_of asked.now) here.now) (shown_by asked.now.world.now.files)) }
+    ensures { Takes result log (rewritten_there (site_of asked.now) here.now) (shown_by asked.now.world.now.files) }
 {
     ruled(asked, log, here, ruling_dir(here))
 }
@@ -47,10 +43,8 @@ fn ruled(
     here: &Here,
     dir: Option<&Text>,
 ) -> Result<Option<RwState>, Stop>
-    requires { IsHostOf asked.now.config.now asked.now.host }
-    ensures { Ran result log.old log.new
-        (run (ruled (site_of asked.now) here.now (option_map (λ dir. dir.now) dir.entry))
-        (shown_by asked.now.world.now.files)) }
+    ensures { Takes result log (ruled (site_of asked.now) here.now (option_map (λ dir. dir.now) dir.entry))
+        (shown_by asked.now.world.now.files) }
 {
     match dir {
         Some(dir) => rules_run_in(asked, log, here, dir),
@@ -94,9 +88,8 @@ fn rules_run_in(
     here: &Here,
     dir: &Text,
 ) -> Result<Option<RwState>, Stop>
-    requires { IsHostOf asked.now.config.now asked.now.host }
-    ensures { Ran result log.old log.new
-        (run (rules_run_in (site_of asked.now) here.now dir.now) (shown_by asked.now.world.now.files)) }
+    ensures { Takes result log (rules_run_in (site_of asked.now) here.now dir.now)
+        (shown_by asked.now.world.now.files) }
 {
     if here.force.follow {
         rules_left(asked, log, here, dir)
@@ -111,9 +104,7 @@ fn rules_left(
     here: &Here,
     dir: &Text,
 ) -> Result<Option<RwState>, Stop>
-    requires { IsHostOf asked.now.config.now asked.now.host }
-    ensures { Ran result log.old log.new
-        (run (rules_left (site_of asked.now) here.now dir.now) (shown_by asked.now.world.now.files)) }
+    ensures { Takes result log (rules_left (site_of asked.now) here.now dir.now) (shown_by asked.now.world.now.files) }
 {
     let ran = run_in(asked, log, here, dir)?;
     Ok(Some(state_of(ran)))
@@ -127,10 +118,9 @@ fn state_of(ran: Finished) -> RwState
 
 #[tactic(auto, using(hc_steps::proofs::Going::ran_no_memory))]
 fn run_in(asked: &Asked<'_>, log: &mut Log, here: &Here, dir: &Text) -> Result<Finished, Stop>
-    requires { IsHostOf asked.now.config.now asked.now.host }
-    ensures { Ran result log.old log.new
-        (run (run_rules (context_in (site_of asked.now) here.now dir.now) (looks_of (maps_at (site_of asked.now)))
-        here.now.force.rules (state_in here.now)) (shown_by asked.now.world.now.files)) }
+    ensures { Takes result log (run_rules (context_in (site_of asked.now) here.now dir.now)
+        (looks_of (maps_at (site_of asked.now))) here.now.force.rules (state_in here.now))
+        (shown_by asked.now.world.now.files) }
 {
     let state = state_in(here)?;
     let context = context_in(asked, here, dir);
@@ -154,7 +144,6 @@ fn state_in(here: &Here) -> Result<RwState, NoMemory>
 }
 
 fn context_in<'p>(asked: &Asked<'p>, here: &'p Here, dir: &'p Text) -> RwContext<'p>
-    requires { IsHostOf asked.now.config.now asked.now.host }
     ensures { context_of result ≡ context_in (site_of asked.now) here.now dir.now }
 {
     RwContext {

@@ -1,23 +1,18 @@
 ghost use Rattle.std.specs.Prelude.{◌≡◌, IfOk, OnOk};
-ghost use Rattle.hc_htaccess.specs.Reading.{reading_in, size_in};
 ghost use Rattle.hc_merge.specs.Overriding.{AreLoaded, files_read, wanted_by};
-ghost use Rattle.hc_model.specs.Overrides.{Kept};
-ghost use Rattle.hc_serve.specs.Costs.{Costs};
+ghost use Rattle.hc_serve.specs.Lent.{Counts, Lends, Returns};
 ghost use Rattle.hc_serve.specs.Passing.{force_at, in_force, sections_told, view_at, with_force};
 ghost use Rattle.hc_serve.specs.Site.{site_of};
-ghost use Rattle.hc_steps.specs.Ran.{Ran, with_events};
-ghost use Rattle.hc_steps.specs.Run.{run};
+ghost use Rattle.hc_steps.specs.Ran.{Takes, Tells, with_events};
 ghost use Rattle.hc_steps.specs.Shown.{shown_by};
-ghost use Rattle.hc_vhost.specs.Servers.{IsHostOf};
 
+use crate::asked::Asked;
 use crate::files::files_looked;
-use crate::site::Asked;
 use crate::stage::{Here, Named, Stop, Walked};
 use hc_base::NoMemory;
 use hc_merge::effective;
 use hc_model::{Event, Overrides, View, Walk};
 use hc_steps::Log;
-use hc_world::World;
 use std::alloc::Global;
 
 /// The `.htaccess` files, and the sections in force.
@@ -28,19 +23,15 @@ pub(crate) fn in_force<O: Overrides>(
     over: &mut O,
     there: Walked,
 ) -> Result<Here, Stop>
-    requires host { IsHostOf asked.now.config.now asked.now.host }
-    requires over { O.reading (O.fixed over.old) ≡ reading_in asked.now.world.now.files asked.now.config.now }
-    requires sizes { O.size (O.fixed over.old) ≡ size_in asked.now.world.now.files }
-    ensures step { Ran result log.old log.new
-        (run (in_force (site_of asked.now) there) (shown_by asked.now.world.now.files)) }
-    ensures fixed { O.fixed over.new ≡ O.fixed over.old }
-    ensures kept { Kept (O.loaded over.old) (O.loaded over.new) }
-    ensures counted { Costs result asked.now.world.now.files (in_force (site_of asked.now) there)
-        (O.counted over.old) (O.counted over.new) }
+    requires over { Lends O.reading O.size (O.fixed over.old) asked.now.world.now.files asked.now.config.now }
+    ensures step { Takes result log (in_force (site_of asked.now) there) (shown_by asked.now.world.now.files) }
+    ensures over { Returns O.fixed O.loaded over }
+    ensures counted { Counts result asked.now.world.now.files (in_force (site_of asked.now) there)
+        O.counted over }
 {
     files_looked(asked, log, over, &there.walk)?;
     let here = with_force(log.allocator(), asked, over, there)?;
-    sections_told(asked.world, log, here)
+    sections_told(log, here)
 }
 
 fn with_force<O: Overrides>(
@@ -49,7 +40,6 @@ fn with_force<O: Overrides>(
     over: &O,
     there: Walked,
 ) -> Result<Here, NoMemory>
-    requires host { IsHostOf asked.now.config.now asked.now.host }
     requires loaded { AreLoaded (O.loaded over.now)
         (wanted_by asked.now.config.now asked.now.host there.walk.dirs) }
     ensures { IfOk result (λ here. here
@@ -74,8 +64,8 @@ fn view_at(asked: &Asked<'_>, named: &Named, walk: &Walk) -> Result<View, NoMemo
 }
 
 #[tactic(auto, using(hc_steps::proofs::Going::ran_no_memory))]
-fn sections_told(world: &World, log: &mut Log, here: Here) -> Result<Here, Stop>
-    ensures { Ran result log.old log.new (run (sections_told here) (shown_by world.now.files)) }
+fn sections_told(log: &mut Log, here: Here) -> Result<Here, Stop>
+    ensures { Tells result log (sections_told here) }
 {
     tell_each(log, here.force.sections.as_slice())?;
     Ok(here)

@@ -4,7 +4,7 @@ ghost use Rattle.hc_serve.specs.Inherited.{list_of};
 ghost use Rattle.hc_serve.specs.ServerRules.{engine_at, inherited_by, maps_at, rules_at};
 ghost use Rattle.hc_serve.specs.Site.{site_of};
 
-use crate::site::Asked;
+use crate::asked::Asked;
 use hc_base::{List, NoMemory};
 use hc_model::{HostId, Inherit, Map, Rules, Server};
 use hc_vhost::server_at;

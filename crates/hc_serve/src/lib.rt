@@ -17,6 +17,7 @@
 
 mod admission;
 mod answer;
+mod asked;
 mod component;
 mod directory_rules;
 mod files;

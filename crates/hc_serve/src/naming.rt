@@ -1,19 +1,16 @@
 ghost use Rattle.hc_serve.specs.Passing.{named};
-ghost use Rattle.hc_steps.specs.Ran.{Ran};
-ghost use Rattle.hc_steps.specs.Run.{run};
-ghost use Rattle.hc_steps.specs.Shown.{shown_by};
+ghost use Rattle.hc_steps.specs.Ran.{Tells};
 
 use crate::stage::{Named, Pass, Stop};
 use hc_alias::Mapped;
 use hc_base::Fault;
 use hc_model::{Event, Outcome, Reason};
 use hc_steps::Log;
-use hc_world::World;
 
 /// The pass with the file name that its URL path is mapped to, or the end where it is sent away or has none.
 #[tactic(auto, unfolding(crate::specs::Passing::named), using(hc_steps::proofs::Going::telling))]
-pub(crate) fn named(world: &World, log: &mut Log, pass: Pass, mapped: Mapped) -> Result<Named, Stop>
-    ensures { Ran result log.old log.new (run (named pass mapped) (shown_by world.now.files)) }
+pub(crate) fn named(log: &mut Log, pass: Pass, mapped: Mapped) -> Result<Named, Stop>
+    ensures { Tells result log (named pass mapped) }
 {
     match mapped {
         Mapped::Name { name, from } => Ok(Named {

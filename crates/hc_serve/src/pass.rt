@@ -1,26 +1,22 @@
 ghost use Rattle.std.specs.Prelude.{◌≡◌, None, IfOk};
-ghost use Rattle.hc_vhost.specs.Servers.{IsHostOf};
-ghost use Rattle.hc_htaccess.specs.Reading.{reading_in, size_in};
-ghost use Rattle.hc_model.specs.Overrides.{Kept};
-ghost use Rattle.hc_serve.specs.Costs.{Costs};
+ghost use Rattle.hc_serve.specs.Lent.{Counts, Lends, Returns};
 ghost use Rattle.hc_serve.specs.DirectoryRules.{query_left};
 ghost use Rattle.hc_serve.specs.Passing.{admitted, admitted_by, answered, answered_by, finished_there};
 ghost use Rattle.hc_serve.specs.Passing.{mapped_at, merged, name_of, outcome_at, passed, passed_from, passed_there};
 ghost use Rattle.hc_serve.specs.Passing.{reached, seen_there, sent_by, sent_there, stopped, told_pass, walked};
 ghost use Rattle.hc_serve.specs.Passing.{without_dots};
 ghost use Rattle.hc_serve.specs.Site.{site_of};
-ghost use Rattle.hc_steps.specs.Ran.{Ran};
-ghost use Rattle.hc_steps.specs.Run.{run};
+ghost use Rattle.hc_steps.specs.Ran.{Takes, Tells};
 ghost use Rattle.hc_steps.specs.Shown.{shown_by};
 ghost use Rattle.hc_steps.specs.Walking.{walk};
 
 use crate::admission::{FORBIDDEN, authorized, lets_in};
+use crate::asked::Asked;
 use crate::directory_rules::rewritten_there;
 use crate::force::in_force;
 use crate::naming::named;
 use crate::restart::restarted;
 use crate::server_rules::rewritten;
-use crate::site::Asked;
 use crate::stage::{Ended, Here, Named, Pass, Placed, Restarted, Stop, Walked};
 use hc_alias::{Away, directory_redirect, map_url};
 use hc_base::paths::{has_dots, merge_slashes};
@@ -39,15 +35,11 @@ pub(crate) fn passed<O: Overrides>(
     over: &mut O,
     pass: Pass,
 ) -> Result<Restarted, Fault<Ended>>
-    requires host { IsHostOf asked.now.config.now asked.now.host }
-    requires over { O.reading (O.fixed over.old) ≡ reading_in asked.now.world.now.files asked.now.config.now }
-    requires sizes { O.size (O.fixed over.old) ≡ size_in asked.now.world.now.files }
-    ensures step { Ran result log.old log.new
-        (run (passed (site_of asked.now) pass) (shown_by asked.now.world.now.files)) }
-    ensures fixed { O.fixed over.new ≡ O.fixed over.old }
-    ensures kept { Kept (O.loaded over.old) (O.loaded over.new) }
-    ensures counted { Costs result asked.now.world.now.files (passed (site_of asked.now) pass)
-        (O.counted over.old) (O.counted over.new) }
+    requires over { Lends O.reading O.size (O.fixed over.old) asked.now.world.now.files asked.now.config.now }
+    ensures step { Takes result log (passed (site_of asked.now) pass) (shown_by asked.now.world.now.files) }
+    ensures over { Returns O.fixed O.loaded over }
+    ensures counted { Counts result asked.now.world.now.files (passed (site_of asked.now) pass)
+        O.counted over }
 {
     match reached(asked, log, over, pass) {
         Ok(here) => passed_from(asked, log, here),
@@ -74,9 +66,7 @@ pub(crate) fn stopped_before(alloc: Global, fault: Stop) -> Fault<Ended>
 
 #[tactic(auto, unfolding(crate::specs::Passing::passed_from), using(crate::proofs::Trees::treed))]
 fn passed_from(asked: &Asked<'_>, log: &mut Log, here: Here) -> Result<Restarted, Fault<Ended>>
-    requires { IsHostOf asked.now.config.now asked.now.host }
-    ensures { Ran result log.old log.new
-        (run (passed_from (site_of asked.now) here) (shown_by asked.now.world.now.files)) }
+    ensures { Takes result log (passed_from (site_of asked.now) here) (shown_by asked.now.world.now.files) }
 {
     match passed_there(asked, log, &here) {
         Ok(pass) => Ok(Restarted {
@@ -103,17 +93,13 @@ fn reached<O: Overrides>(
     over: &mut O,
     pass: Pass,
 ) -> Result<Here, Stop>
-    requires host { IsHostOf asked.now.config.now asked.now.host }
-    requires over { O.reading (O.fixed over.old) ≡ reading_in asked.now.world.now.files asked.now.config.now }
-    requires sizes { O.size (O.fixed over.old) ≡ size_in asked.now.world.now.files }
-    ensures step { Ran result log.old log.new
-        (run (reached (site_of asked.now) pass) (shown_by asked.now.world.now.files)) }
-    ensures fixed { O.fixed over.new ≡ O.fixed over.old }
-    ensures kept { Kept (O.loaded over.old) (O.loaded over.new) }
-    ensures counted { Costs result asked.now.world.now.files (reached (site_of asked.now) pass)
-        (O.counted over.old) (O.counted over.new) }
+    requires over { Lends O.reading O.size (O.fixed over.old) asked.now.world.now.files asked.now.config.now }
+    ensures step { Takes result log (reached (site_of asked.now) pass) (shown_by asked.now.world.now.files) }
+    ensures over { Returns O.fixed O.loaded over }
+    ensures counted { Counts result asked.now.world.now.files (reached (site_of asked.now) pass)
+        O.counted over }
 {
-    let pass = told_pass(asked.world, log, pass)?;
+    let pass = told_pass(log, pass)?;
     let placed = rewritten(asked, log, pass)?;
     let named = name_of(asked, log, placed)?;
     let named = merged(asked.world, log, named)?;
@@ -124,9 +110,7 @@ fn reached<O: Overrides>(
 // The steps behind what is in force.
 #[tactic(auto, unfolding(crate::specs::Passing::passed_there), using(hc_steps::proofs::Going::going))]
 fn passed_there(asked: &Asked<'_>, log: &mut Log, here: &Here) -> Result<Pass, Stop>
-    requires { IsHostOf asked.now.config.now asked.now.host }
-    ensures { Ran result log.old log.new
-        (run (passed_there (site_of asked.now) here.now) (shown_by asked.now.world.now.files)) }
+    ensures { Takes result log (passed_there (site_of asked.now) here.now) (shown_by asked.now.world.now.files) }
 {
     admitted(asked, log, here)?;
     let left = rewritten_there(asked, log, here)?;
@@ -140,17 +124,15 @@ fn finished_there(
     here: &Here,
     left: Option<RwState>,
 ) -> Result<Pass, Stop>
-    requires { IsHostOf asked.now.config.now asked.now.host }
-    ensures { Ran result log.old log.new
-        (run (finished_there (site_of asked.now) here.now left) (shown_by asked.now.world.now.files)) }
+    ensures { Takes result log (finished_there (site_of asked.now) here.now left) (shown_by asked.now.world.now.files) }
 {
     sent_there(asked, log, here, &left)?;
     answered(asked, log, here, left)
 }
 
 #[tactic(auto, unfolding(crate::specs::Passing::told_pass), using(hc_steps::proofs::Going::telling))]
-fn told_pass(world: &World, log: &mut Log, pass: Pass) -> Result<Pass, Stop>
-    ensures { Ran result log.old log.new (run (told_pass pass) (shown_by world.now.files)) }
+fn told_pass(log: &mut Log, pass: Pass) -> Result<Pass, Stop>
+    ensures { Tells result log (told_pass pass) }
 {
     log.say(Event::Pass {
         number: pass.number,
@@ -163,9 +145,7 @@ fn told_pass(world: &World, log: &mut Log, pass: Pass) -> Result<Pass, Stop>
 // The file name of a URL path.
 #[tactic(auto, unfolding(crate::specs::Passing::mapped_at), using(hc_steps::proofs::Going::telling))]
 fn mapped_at(asked: &Asked<'_>, log: &mut Log, pass: Pass) -> Result<Named, Stop>
-    requires { IsHostOf asked.now.config.now asked.now.host }
-    ensures { Ran result log.old log.new
-        (run (mapped_at (site_of asked.now) pass) (shown_by asked.now.world.now.files)) }
+    ensures { Takes result log (mapped_at (site_of asked.now) pass) (shown_by asked.now.world.now.files) }
 {
     let mapped = map_url(
         log.allocator(),
@@ -175,14 +155,12 @@ fn mapped_at(asked: &Asked<'_>, log: &mut Log, pass: Pass) -> Result<Named, Stop
         pass.query.as_bytes(),
         asked.caller,
     )?;
-    named(asked.world, log, pass, mapped)
+    named(log, pass, mapped)
 }
 
 #[tactic(auto, unfolding(crate::specs::Passing::name_of), using(hc_steps::proofs::Going::telling))]
 fn name_of(asked: &Asked<'_>, log: &mut Log, placed: Placed) -> Result<Named, Stop>
-    requires { IsHostOf asked.now.config.now asked.now.host }
-    ensures { Ran result log.old log.new
-        (run (name_of (site_of asked.now) placed) (shown_by asked.now.world.now.files)) }
+    ensures { Takes result log (name_of (site_of asked.now) placed) (shown_by asked.now.world.now.files) }
 {
     match placed {
         Placed::Unnamed(pass) => mapped_at(asked, log, pass),
@@ -193,15 +171,15 @@ fn name_of(asked: &Asked<'_>, log: &mut Log, placed: Placed) -> Result<Named, St
 // Repeated slashes of the name are merged. A segment of dots is outside.
 #[tactic(auto, unfolding(crate::specs::Passing::merged), using(hc_steps::proofs::Going::telling))]
 fn merged(world: &World, log: &mut Log, named: Named) -> Result<Named, Stop>
-    ensures { Ran result log.old log.new (run (merged named) (shown_by world.now.files)) }
+    ensures { Takes result log (merged named) (shown_by world.now.files) }
 {
     let name = merge_slashes(log.allocator(), named.name.as_bytes())?;
-    without_dots(world, log, Named { name, ..named })
+    without_dots(log, Named { name, ..named })
 }
 
 #[tactic(auto, unfolding(crate::specs::Passing::without_dots), using(hc_steps::proofs::Going::telling))]
-fn without_dots(world: &World, log: &mut Log, named: Named) -> Result<Named, Stop>
-    ensures { Ran result log.old log.new (run (without_dots named) (shown_by world.now.files)) }
+fn without_dots(log: &mut Log, named: Named) -> Result<Named, Stop>
+    ensures { Tells result log (without_dots named) }
 {
     if has_dots(named.name.as_bytes()) {
         return Err(Fault::Refused(Outcome::Outside(Reason::DotSegment)));
@@ -216,15 +194,15 @@ fn without_dots(world: &World, log: &mut Log, named: Named) -> Result<Named, Sto
 // Where the name leads.
 #[tactic(auto, unfolding(crate::specs::Passing::walked), using(hc_steps::proofs::Going::going))]
 fn walked(world: &World, log: &mut Log, named: Named) -> Result<Walked, Stop>
-    ensures { Ran result log.old log.new (run (walked named) (shown_by world.now.files)) }
+    ensures { Takes result log (walked named) (shown_by world.now.files) }
 {
     let walk = follow(world, log, named.name.as_bytes())?;
-    seen_there(world, log, named, walk)
+    seen_there(log, named, walk)
 }
 
 #[tactic(auto, unfolding(crate::specs::Passing::seen_there), using(hc_steps::proofs::Going::telling))]
-fn seen_there(world: &World, log: &mut Log, named: Named, walk: Walk) -> Result<Walked, Stop>
-    ensures { Ran result log.old log.new (run (seen_there named walk) (shown_by world.now.files)) }
+fn seen_there(log: &mut Log, named: Named, walk: Walk) -> Result<Walked, Stop>
+    ensures { Tells result log (seen_there named walk) }
 {
     log.say(Event::Walk {
         name: walk.name.clone()?,
@@ -236,16 +214,15 @@ fn seen_there(world: &World, log: &mut Log, named: Named, walk: Walk) -> Result<
 
 // Who may pass.
 fn admitted(asked: &Asked<'_>, log: &mut Log, here: &Here) -> Result<(), Stop>
-    ensures { Ran result log.old log.new
-        (run (admitted (site_of asked.now) here.now) (shown_by asked.now.world.now.files)) }
+    ensures { Takes result log (admitted (site_of asked.now) here.now) (shown_by asked.now.world.now.files) }
 {
     let value = authorized(asked.caller, &here.force.require);
-    admitted_by(asked.world, log, value)
+    admitted_by(log, value)
 }
 
 #[tactic(auto, unfolding(crate::specs::Passing::admitted_by), using(hc_steps::proofs::Going::telling))]
-fn admitted_by(world: &World, log: &mut Log, value: Authorized) -> Result<(), Stop>
-    ensures { Ran result log.old log.new (run (admitted_by value) (shown_by world.now.files)) }
+fn admitted_by(log: &mut Log, value: Authorized) -> Result<(), Stop>
+    ensures { Tells result log (admitted_by value) }
 {
     log.say(Event::Auth { value })?;
     if lets_in(value) {
@@ -272,8 +249,7 @@ fn sent_there(
     here: &Here,
     left: &Option<RwState>,
 ) -> Result<(), Stop>
-    ensures { Ran result log.old log.new
-        (run (sent_there (site_of asked.now) here.now left.now) (shown_by asked.now.world.now.files)) }
+    ensures { Takes result log (sent_there (site_of asked.now) here.now left.now) (shown_by asked.now.world.now.files) }
 {
     let away = directory_redirect(
         log.allocator(),
@@ -282,12 +258,12 @@ fn sent_there(
         query_left(here, left).as_bytes(),
         asked.caller,
     )?;
-    sent_by(asked.world, log, away)
+    sent_by(log, away)
 }
 
 #[tactic(auto, unfolding(crate::specs::Passing::sent_by), using(hc_steps::proofs::Going::telling))]
-fn sent_by(world: &World, log: &mut Log, away: Option<Away>) -> Result<(), Stop>
-    ensures { Ran result log.old log.new (run (sent_by away) (shown_by world.now.files)) }
+fn sent_by(log: &mut Log, away: Option<Away>) -> Result<(), Stop>
+    ensures { Tells result log (sent_by away) }
 {
     match away {
         Some(away) => match log.say(Event::Redirect { spot: away.from }) {
@@ -306,9 +282,7 @@ fn answered(
     here: &Here,
     left: Option<RwState>,
 ) -> Result<Pass, Stop>
-    requires { IsHostOf asked.now.config.now asked.now.host }
-    ensures { Ran result log.old log.new
-        (run (answered (site_of asked.now) here.now left) (shown_by asked.now.world.now.files)) }
+    ensures { Takes result log (answered (site_of asked.now) here.now left) (shown_by asked.now.world.now.files) }
 {
     match left {
         Some(state) => answered_by(asked, log, here, state),
@@ -318,9 +292,7 @@ fn answered(
 
 #[tactic(auto, unfolding(crate::specs::Passing::answered_by), using(hc_steps::proofs::Going::telling))]
 fn answered_by(asked: &Asked<'_>, log: &mut Log, here: &Here, state: RwState) -> Result<Pass, Stop>
-    requires { IsHostOf asked.now.config.now asked.now.host }
-    ensures { Ran result log.old log.new
-        (run (answered_by (site_of asked.now) here.now state) (shown_by asked.now.world.now.files)) }
+    ensures { Takes result log (answered_by (site_of asked.now) here.now state) (shown_by asked.now.world.now.files) }
 {
     if state.text.as_bytes() == here.walk.name.as_bytes() {
         Err(Fault::Refused(outcome_at(&here.walk, &state.info)?))

@@ -3,13 +3,12 @@ ghost use Rattle.std.specs.Prelude.{◌≡◌, IfOk};
 ghost use Rattle.hc_serve.specs.DirectoryRules.{is_last, next_pass, path_for, vars_behind};
 ghost use Rattle.hc_serve.specs.Passing.{redirected, restarted, restarted_at};
 ghost use Rattle.hc_serve.specs.Site.{site_of};
-ghost use Rattle.hc_steps.specs.Ran.{Ran};
-ghost use Rattle.hc_steps.specs.Run.{run};
+ghost use Rattle.hc_steps.specs.Ran.{Takes};
 ghost use Rattle.hc_steps.specs.Shown.{shown_by};
-ghost use Rattle.hc_vhost.specs.Servers.{IsHostOf};
 
+use crate::asked::Asked;
 use crate::directory_rules::engine_in;
-use crate::site::{Asked, most_passes};
+use crate::site::most_passes;
 use crate::stage::{Here, Pass, Stop};
 use hc_alias::root_of;
 use hc_base::paths::{has_dots, merge_slashes};
@@ -36,9 +35,7 @@ pub(crate) fn restarted(
     here: &Here,
     state: RwState,
 ) -> Result<Pass, Stop>
-    requires { IsHostOf asked.now.config.now asked.now.host }
-    ensures { Ran result log.old log.new
-        (run (restarted (site_of asked.now) here.now state) (shown_by asked.now.world.now.files)) }
+    ensures { Takes result log (restarted (site_of asked.now) here.now state) (shown_by asked.now.world.now.files) }
 {
     let path = path_for(log.allocator(), asked, here, &state.text)?;
     redirected(asked, log, here, state, path)
@@ -46,7 +43,6 @@ pub(crate) fn restarted(
 
 // The URL path that a text stands for.
 fn path_for(alloc: Global, asked: &Asked<'_>, here: &Here, text: &Text) -> Result<Text, NoMemory>
-    requires { IsHostOf asked.now.config.now asked.now.host }
     ensures { IfOk result (λ path. path ≡ path_for (site_of asked.now) here.now here.now.force.dir text.now) }
 {
     let Some(dir) = &here.force.dir else {
@@ -71,8 +67,8 @@ fn redirected(
     state: RwState,
     path: Text,
 ) -> Result<Pass, Stop>
-    ensures { Ran result log.old log.new
-        (run (redirected (site_of asked.now) here.now state path) (shown_by asked.now.world.now.files)) }
+    ensures { Takes result log (redirected (site_of asked.now) here.now state path)
+        (shown_by asked.now.world.now.files) }
 {
     let path = merge_slashes(log.allocator(), path.as_bytes())?;
     restarted_at(asked, log, here, state, path)
@@ -86,8 +82,8 @@ fn restarted_at(
     state: RwState,
     path: Text,
 ) -> Result<Pass, Stop>
-    ensures { Ran result log.old log.new
-        (run (restarted_at (site_of asked.now) here.now state path) (shown_by asked.now.world.now.files)) }
+    ensures { Takes result log (restarted_at (site_of asked.now) here.now state path)
+        (shown_by asked.now.world.now.files) }
 {
     if has_dots(path.as_bytes()) {
         return Err(Fault::Refused(Outcome::Outside(Reason::DotSegment)));

@@ -8,15 +8,13 @@ ghost use Rattle.hc_serve.specs.Passing.{rewritten, rules_run, text_left};
 ghost use Rattle.hc_serve.specs.ServerRules.{context_at, is_there, looks_of, maps_at, own_name, pass_with, rules_at};
 ghost use Rattle.hc_serve.specs.ServerRules.{state_at};
 ghost use Rattle.hc_serve.specs.Site.{site_of};
-ghost use Rattle.hc_steps.specs.Ran.{Ran};
-ghost use Rattle.hc_steps.specs.Run.{run};
+ghost use Rattle.hc_steps.specs.Ran.{Takes, Tells};
 ghost use Rattle.hc_steps.specs.Shown.{shown_by};
-ghost use Rattle.hc_vhost.specs.Servers.{IsHostOf};
 
+use crate::asked::Asked;
 use crate::component::first_component;
 use crate::inherited::{engine_at, maps_at, rules_at};
 use crate::naming::named;
-use crate::site::Asked;
 use crate::stage::{Named, Pass, Placed, Stop};
 use crate::way::BAD_REQUEST;
 use hc_alias::{root_of, under_root};
@@ -34,9 +32,7 @@ use std::mem::replace;
 /// What the rules of the server leave, where its engine is on.
 #[tactic(auto, unfolding(crate::specs::Passing::rewritten), using(hc_steps::proofs::Going::ran_leaves))]
 pub(crate) fn rewritten(asked: &Asked<'_>, log: &mut Log, pass: Pass) -> Result<Placed, Stop>
-    requires { IsHostOf asked.now.config.now asked.now.host }
-    ensures { Ran result log.old log.new
-        (run (rewritten (site_of asked.now) pass) (shown_by asked.now.world.now.files)) }
+    ensures { Takes result log (rewritten (site_of asked.now) pass) (shown_by asked.now.world.now.files) }
 {
     if engine_at(asked) {
         rules_run(asked, log, pass)
@@ -47,9 +43,7 @@ pub(crate) fn rewritten(asked: &Asked<'_>, log: &mut Log, pass: Pass) -> Result<
 
 #[tactic(auto, unfolding(crate::specs::Passing::rules_run), using(hc_steps::proofs::Going::ran_no_memory))]
 fn rules_run(asked: &Asked<'_>, log: &mut Log, pass: Pass) -> Result<Placed, Stop>
-    requires { IsHostOf asked.now.config.now asked.now.host }
-    ensures { Ran result log.old log.new
-        (run (rules_run (site_of asked.now) pass) (shown_by asked.now.world.now.files)) }
+    ensures { Takes result log (rules_run (site_of asked.now) pass) (shown_by asked.now.world.now.files) }
 {
     let mut pass = pass;
     let state = state_at(log.allocator(), &mut pass)?;
@@ -76,10 +70,9 @@ fn state_at(alloc: Global, pass: &mut Pass) -> Result<RwState, NoMemory>
 // The rules of the server.
 #[tactic(auto, using(hc_steps::proofs::Going::ran_no_memory))]
 fn run_at(asked: &Asked<'_>, log: &mut Log, pass: &Pass, state: RwState) -> Result<Finished, Stop>
-    requires { IsHostOf asked.now.config.now asked.now.host }
-    ensures { Ran result log.old log.new
-        (run (run_rules (context_at (site_of asked.now) pass.now) (looks_of (maps_at (site_of asked.now)))
-        (rules_at (site_of asked.now)) state) (shown_by asked.now.world.now.files)) }
+    ensures { Takes result log (run_rules (context_at (site_of asked.now) pass.now)
+        (looks_of (maps_at (site_of asked.now))) (rules_at (site_of asked.now)) state)
+        (shown_by asked.now.world.now.files) }
 {
     let rules = rules_at(log.allocator(), asked)?;
     let context = context_at(asked, pass);
@@ -95,9 +88,8 @@ pub(crate) fn run_over(
     rules: &[Rule],
     state: RwState,
 ) -> Result<Finished, Stop>
-    ensures { Ran result log.old log.new
-        (run (run_rules (context_of context.now) (looks_of (maps_at (site_of asked.now))) rules.now state)
-        (shown_by asked.now.world.now.files)) }
+    ensures { Takes result log (run_rules (context_of context.now)
+        (looks_of (maps_at (site_of asked.now))) rules.now state) (shown_by asked.now.world.now.files) }
 {
     let maps = maps_at(asked)?;
     run_with(asked.world, log, context, maps.as_slice(), rules, state)
@@ -123,8 +115,8 @@ fn run_with(
     rules: &[Rule],
     state: RwState,
 ) -> Result<Finished, Stop>
-    ensures { Ran result log.old log.new
-        (run (run_rules (context_of context.now) (looks_of maps.now) rules.now state) (shown_by world.now.files)) }
+    ensures { Takes result log (run_rules (context_of context.now) (looks_of maps.now) rules.now state)
+        (shown_by world.now.files) }
 {
     let look = WorldMaps {
         alloc: log.allocator(),
@@ -138,7 +130,6 @@ fn run_with(
 }
 
 fn context_at<'p>(asked: &Asked<'p>, pass: &'p Pass) -> RwContext<'p>
-    requires { IsHostOf asked.now.config.now asked.now.host }
     ensures { context_of result ≡ context_at (site_of asked.now) pass.now }
 {
     RwContext {
@@ -152,9 +143,7 @@ fn context_at<'p>(asked: &Asked<'p>, pass: &'p Pass) -> RwContext<'p>
 
 #[tactic(auto, unfolding(crate::specs::Passing::finished), using(hc_steps::proofs::Going::ran_leaves))]
 fn finished(asked: &Asked<'_>, log: &mut Log, pass: Pass, ran: Finished) -> Result<Placed, Stop>
-    requires { IsHostOf asked.now.config.now asked.now.host }
-    ensures { Ran result log.old log.new
-        (run (finished (site_of asked.now) pass ran) (shown_by asked.now.world.now.files)) }
+    ensures { Takes result log (finished (site_of asked.now) pass ran) (shown_by asked.now.world.now.files) }
 {
     let Finished { left, passed } = ran;
     let Rewritten { state, substituted } = left;
@@ -195,9 +184,7 @@ fn text_left(
     pass: Pass,
     text: Text,
 ) -> Result<Placed, Stop>
-    requires { IsHostOf asked.now.config.now asked.now.host }
-    ensures { Ran result log.old log.new
-        (run (text_left (site_of asked.now) passed pass text) (shown_by asked.now.world.now.files)) }
+    ensures { Takes result log (text_left (site_of asked.now) passed pass text) (shown_by asked.now.world.now.files) }
 {
     if begins_with_slash(text.as_bytes()) {
         absolute_left(asked, passed, log, pass, text)
@@ -215,12 +202,11 @@ fn absolute_left(
     pass: Pass,
     text: Text,
 ) -> Result<Placed, Stop>
-    requires { IsHostOf asked.now.config.now asked.now.host }
-    ensures { Ran result log.old log.new
-        (run (absolute_left (site_of asked.now) passed pass text) (shown_by asked.now.world.now.files)) }
+    ensures { Takes result log (absolute_left (site_of asked.now) passed pass text)
+        (shown_by asked.now.world.now.files) }
 {
     if passed {
-        return path_left(asked.world, log, pass, text);
+        return path_left(log, pass, text);
     }
     let first = first_component(log.allocator(), text.as_bytes())?;
     let there = exists(asked.world, log, first)?;
@@ -228,16 +214,16 @@ fn absolute_left(
 }
 
 #[tactic(auto, unfolding(crate::specs::Passing::path_left), using(hc_steps::proofs::Going::telling))]
-fn path_left(world: &World, log: &mut Log, pass: Pass, text: Text) -> Result<Placed, Stop>
-    ensures { Ran result log.old log.new (run (path_left pass text) (shown_by world.now.files)) }
+fn path_left(log: &mut Log, pass: Pass, text: Text) -> Result<Placed, Stop>
+    ensures { Tells result log (path_left pass text) }
 {
     let path = merge_slashes(log.allocator(), text.as_bytes())?;
-    path_without_dots(world, log, pass, path)
+    path_without_dots(log, pass, path)
 }
 
 #[tactic(auto, unfolding(crate::specs::Passing::path_without_dots), using(hc_steps::proofs::Going::telling))]
-fn path_without_dots(world: &World, log: &mut Log, pass: Pass, path: Text) -> Result<Placed, Stop>
-    ensures { Ran result log.old log.new (run (path_without_dots pass path) (shown_by world.now.files)) }
+fn path_without_dots(log: &mut Log, pass: Pass, path: Text) -> Result<Placed, Stop>
+    ensures { Tells result log (path_without_dots pass path) }
 {
     if has_dots(path.as_bytes()) {
         return Err(Fault::Refused(Outcome::Outside(Reason::DotSegment)));
@@ -247,7 +233,7 @@ fn path_without_dots(world: &World, log: &mut Log, pass: Pass, path: Text) -> Re
 
 #[tactic(auto, unfolding(crate::specs::Passing::exists), using(hc_steps::proofs::Going::ran_leaves))]
 fn exists(world: &World, log: &mut Log, path: Option<Text>) -> Result<bool, Stop>
-    ensures { Ran result log.old log.new (run (exists path) (shown_by world.now.files)) }
+    ensures { Takes result log (exists path) (shown_by world.now.files) }
 {
     let Some(path) = path else {
         return Ok(false);
@@ -271,16 +257,14 @@ fn name_left(
     text: Text,
     there: bool,
 ) -> Result<Placed, Stop>
-    requires { IsHostOf asked.now.config.now asked.now.host }
-    ensures { Ran result log.old log.new
-        (run (name_left (site_of asked.now) pass text there) (shown_by asked.now.world.now.files)) }
+    ensures { Takes result log (name_left (site_of asked.now) pass text there) (shown_by asked.now.world.now.files) }
 {
     if there {
         return Ok(own_name(pass, text));
     }
     let root = root_of(asked.config, asked.host);
     let mapped = under_root(log.allocator(), root, text.as_bytes())?;
-    let name = named(asked.world, log, pass, mapped)?;
+    let name = named(log, pass, mapped)?;
     Ok(Placed::Named(name))
 }
 

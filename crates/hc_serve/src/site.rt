@@ -5,21 +5,10 @@ use hc_addr::print_addr;
 use hc_base::{NoMemory, Text};
 use hc_model::{Caller, Config, HostId, Request, Server};
 use hc_vhost::server_at;
-use hc_world::World;
 use std::alloc::Global;
 
 /// How many passes may follow the first one where no directive says it.
 const DEFAULT_RESTARTS: u32 = 10;
-
-/// What a request is answered by: the files, the configuration, the server that answers, and the
-/// request at that server.
-#[derive(Clone, Copy)]
-pub(crate) struct Asked<'s> {
-    pub world: &'s World,
-    pub config: &'s Config,
-    pub host: HostId,
-    pub caller: &'s Caller,
-}
 
 pub(crate) fn caller_at(
     alloc: Global,

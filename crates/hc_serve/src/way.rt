@@ -1,18 +1,16 @@
 ghost use Rattle.std.specs.Prelude.{◌≡◌, true, IfOk};
 ghost use Rattle.hc_vhost.specs.Servers.{IsHostOf};
 ghost use Rattle.hc_base.specs.Paths.{begins_with_slash};
-ghost use Rattle.hc_htaccess.specs.Reading.{reading_in, size_in};
-ghost use Rattle.hc_model.specs.Overrides.{Kept};
-ghost use Rattle.hc_serve.specs.Costs.{Costs};
+ghost use Rattle.hc_serve.specs.Lent.{Counts, Lends, Returns};
 ghost use Rattle.hc_serve.specs.Request.{first_pass, host_of, host_told, opened, passes, passes_at, passes_of, way};
 ghost use Rattle.hc_serve.specs.Site.{site_of};
-ghost use Rattle.hc_steps.specs.Ran.{Ran};
-ghost use Rattle.hc_steps.specs.Run.{run};
+ghost use Rattle.hc_steps.specs.Ran.{Takes, Tells};
 ghost use Rattle.hc_steps.specs.Shown.{shown_by};
 ghost use Rattle.hc_target.specs.Targets.{read};
 
+use crate::asked::Asked;
 use crate::pass::{passed, stopped_before};
-use crate::site::{Asked, caller_at, most_passes};
+use crate::site::{caller_at, most_passes};
 use crate::stage::{Ended, Opened, Pass, Restarted, Stop};
 use hc_base::Fault;
 use hc_model::{Config, Event, HostId, Outcome, Overrides, Reason, Request};
@@ -36,13 +34,11 @@ pub(crate) fn way<O: Overrides>(
     request: &Request,
 ) -> Result<Restarted, Fault<Ended>>
     requires slash { begins_with_slash request.now.target ≡ true }
-    requires over { O.reading (O.fixed over.old) ≡ reading_in world.now.files config.now }
-    requires sizes { O.size (O.fixed over.old) ≡ size_in world.now.files }
-    ensures step { Ran result log.old log.new (run (way config.now request.now) (shown_by world.now.files)) }
-    ensures fixed { O.fixed over.new ≡ O.fixed over.old }
-    ensures kept { Kept (O.loaded over.old) (O.loaded over.new) }
-    ensures counted { Costs result world.now.files (way config.now request.now)
-        (O.counted over.old) (O.counted over.new) }
+    requires over { Lends O.reading O.size (O.fixed over.old) world.now.files config.now }
+    ensures step { Takes result log (way config.now request.now) (shown_by world.now.files) }
+    ensures over { Returns O.fixed O.loaded over }
+    ensures counted { Counts result world.now.files (way config.now request.now)
+        O.counted over }
 {
     match opened(config, world, log, request) {
         Ok(opened) => passes_of(config, world, log, over, request, opened),
@@ -54,12 +50,11 @@ pub(crate) fn way<O: Overrides>(
 #[tactic(auto, unfolding(crate::specs::Request::opened), using(hc_steps::proofs::Going::going))]
 fn opened(config: &Config, world: &World, log: &mut Log, request: &Request) -> Result<Opened, Stop>
     requires { begins_with_slash request.now.target ≡ true }
-    ensures step { Ran result log.old log.new
-        (run (opened config.now request.now) (shown_by world.now.files)) }
+    ensures step { Takes result log (opened config.now request.now) (shown_by world.now.files) }
     ensures host { IfOk result (λ opened. IsHostOf config.now opened.host) }
 {
     let host = host_of(config, world, log, request)?;
-    let pass = first_pass(world, log, request)?;
+    let pass = first_pass(log, request)?;
     Ok(Opened { host, pass })
 }
 
@@ -73,14 +68,11 @@ fn passes_of<O: Overrides>(
     opened: Opened,
 ) -> Result<Restarted, Fault<Ended>>
     requires host { IsHostOf config.now opened.host }
-    requires over { O.reading (O.fixed over.old) ≡ reading_in world.now.files config.now }
-    requires sizes { O.size (O.fixed over.old) ≡ size_in world.now.files }
-    ensures step { Ran result log.old log.new
-        (run (passes_of config.now request.now opened) (shown_by world.now.files)) }
-    ensures fixed { O.fixed over.new ≡ O.fixed over.old }
-    ensures kept { Kept (O.loaded over.old) (O.loaded over.new) }
-    ensures counted { Costs result world.now.files (passes_of config.now request.now opened)
-        (O.counted over.old) (O.counted over.new) }
+    requires over { Lends O.reading O.size (O.fixed over.old) world.now.files config.now }
+    ensures step { Takes result log (passes_of config.now request.now opened) (shown_by world.now.files) }
+    ensures over { Returns O.fixed O.loaded over }
+    ensures counted { Counts result world.now.files (passes_of config.now request.now opened)
+        O.counted over }
 {
     let Opened { host, pass } = opened;
     let caller = caller_at(log.allocator(), config, host, request)?;
@@ -95,8 +87,7 @@ fn passes_of<O: Overrides>(
 
 // The server that answers.
 fn host_of(config: &Config, world: &World, log: &mut Log, request: &Request) -> Result<HostId, Stop>
-    ensures step { Ran result log.old log.new
-        (run (host_of config.now request.now) (shown_by world.now.files)) }
+    ensures step { Takes result log (host_of config.now request.now) (shown_by world.now.files) }
     ensures host { IfOk result (IsHostOf config.now) }
 {
     let host = choose(
@@ -105,13 +96,13 @@ fn host_of(config: &Config, world: &World, log: &mut Log, request: &Request) -> 
         request.port,
         request.host.as_bytes(),
     );
-    host_told(config, world, log, host)
+    host_told(config, log, host)
 }
 
 #[tactic(auto, unfolding(crate::specs::Request::host_told), using(hc_steps::proofs::Going::telling))]
-fn host_told(config: &Config, world: &World, log: &mut Log, host: HostId) -> Result<HostId, Stop>
+fn host_told(config: &Config, log: &mut Log, host: HostId) -> Result<HostId, Stop>
     requires { IsHostOf config.now host }
-    ensures step { Ran result log.old log.new (run (host_told config.now host) (shown_by world.now.files)) }
+    ensures step { Tells result log (host_told config.now host) }
     ensures host { IfOk result (IsHostOf config.now) }
 {
     log.say(Event::Host {
@@ -122,10 +113,9 @@ fn host_told(config: &Config, world: &World, log: &mut Log, host: HostId) -> Res
 
 // The first pass, or what a target that gives none ends with.
 #[tactic(auto, unfolding(crate::specs::Request::first_pass), using(hc_steps::proofs::Going::telling))]
-fn first_pass(world: &World, log: &mut Log, request: &Request) -> Result<Pass, Stop>
+fn first_pass(log: &mut Log, request: &Request) -> Result<Pass, Stop>
     requires { begins_with_slash request.now.target ≡ true }
-    ensures { Ran result log.old log.new
-        (run (first_pass (read request.now.target)) (shown_by world.now.files)) }
+    ensures { Tells result log (first_pass (read request.now.target)) }
 {
     match read_target(log.allocator(), request.target.as_bytes())? {
         TargetRead::Bad400 => Err(Fault::Refused(Outcome::Status(BAD_REQUEST))),
@@ -144,15 +134,11 @@ fn passes_at<O: Overrides>(
     over: &mut O,
     pass: Pass,
 ) -> Result<Restarted, Fault<Ended>>
-    requires host { IsHostOf asked.now.config.now asked.now.host }
-    requires over { O.reading (O.fixed over.old) ≡ reading_in asked.now.world.now.files asked.now.config.now }
-    requires sizes { O.size (O.fixed over.old) ≡ size_in asked.now.world.now.files }
-    ensures step { Ran result log.old log.new
-        (run (passes_at (site_of asked.now) pass) (shown_by asked.now.world.now.files)) }
-    ensures fixed { O.fixed over.new ≡ O.fixed over.old }
-    ensures kept { Kept (O.loaded over.old) (O.loaded over.new) }
-    ensures counted { Costs result asked.now.world.now.files (passes_at (site_of asked.now) pass)
-        (O.counted over.old) (O.counted over.new) }
+    requires over { Lends O.reading O.size (O.fixed over.old) asked.now.world.now.files asked.now.config.now }
+    ensures step { Takes result log (passes_at (site_of asked.now) pass) (shown_by asked.now.world.now.files) }
+    ensures over { Returns O.fixed O.loaded over }
+    ensures counted { Counts result asked.now.world.now.files (passes_at (site_of asked.now) pass)
+        O.counted over }
 {
     let first = Restarted::first(log.allocator(), pass);
     passes(
@@ -173,15 +159,11 @@ fn passes<O: Overrides>(
     most: u64,
     first: Restarted,
 ) -> Result<Restarted, Fault<Ended>>
-    requires host { IsHostOf asked.now.config.now asked.now.host }
-    requires over { O.reading (O.fixed over.old) ≡ reading_in asked.now.world.now.files asked.now.config.now }
-    requires sizes { O.size (O.fixed over.old) ≡ size_in asked.now.world.now.files }
-    ensures step { Ran result log.old log.new
-        (run (passes most (site_of asked.now) first) (shown_by asked.now.world.now.files)) }
-    ensures fixed { O.fixed over.new ≡ O.fixed over.old }
-    ensures kept { Kept (O.loaded over.old) (O.loaded over.new) }
-    ensures counted { Costs result asked.now.world.now.files (passes most (site_of asked.now) first)
-        (O.counted over.old) (O.counted over.new) }
+    requires over { Lends O.reading O.size (O.fixed over.old) asked.now.world.now.files asked.now.config.now }
+    ensures step { Takes result log (passes most (site_of asked.now) first) (shown_by asked.now.world.now.files) }
+    ensures over { Returns O.fixed O.loaded over }
+    ensures counted { Counts result asked.now.world.now.files (passes most (site_of asked.now) first)
+        O.counted over }
 {
     let mut left = first;
     for _turn in 0..most {

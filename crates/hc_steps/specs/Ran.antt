@@ -1,6 +1,8 @@
 -- What a step in code answers and tells.
+use denote.Triple.Both.{Both}
 use Rattle.std.specs.Prelude.{◌≡◌, ℕ, ◌+◌, nat_lt, List, [], ◌∷◌, ◌++◌, length, take, Bool, true}
 use Rattle.std.specs.Prelude.{if◌then◌else◌, Option, Some, None, Result, Ok, Err}
+use Rattle.std.specs.Borrow.{MutBor}
 use Rattle.std.specs.List.{fold}
 use Rattle.hc_base.specs.declared.fault.Fault.{Fault}
 use Rattle.hc_base.specs.declared.fault.Fault.TheVariants.{NoMemory, Refused}
@@ -8,7 +10,8 @@ use Rattle.hc_model.specs.declared.event.Event.{Event}
 use Rattle.std.specs.BTreeSet.{insert_key}
 use Rattle.hc_model.specs.Reads.{read_cmp}
 use Rattle.hc_model.specs.declared.read.Read.{Read}
-use Rattle.hc_steps.specs.Run.{Run, goes_on, is_over}
+use Rattle.hc_steps.specs.Run.{Run, goes_on, is_over, run}
+use Rattle.hc_steps.specs.Step.{Shown, Step}
 
 -- What was told so far: at most how many events are kept, those that are, how many there were, and
 -- each read once and in order.
@@ -54,6 +57,16 @@ unfoldable pub Ran : {E A : Type 0} → Result A (Fault E) → Logged → Logged
 Ran (Ok left) old new run = (run.way ≡ goes_on left) × (new ≡ grown old run)
 Ran (Err (Refused end)) old new run = (run.way ≡ is_over end) × (new ≡ grown old run)
 Ran (Err NoMemory) old new run = Unit {0}
+
+-- The answer and the log, before and behind the call, are those of the step in what is shown.
+abbrev pub Takes : {E A : Type 0} → Result A (Fault E) → Both (MutBor Logged) (MutBor Logged) → Step E A → Shown
+    → Type 0
+Takes result log step shown = Ran result log.entry.now log.exit.now (run step shown)
+
+-- So are those of a step that looks at nothing, whatever is shown.
+abbrev pub Tells : {E A : Type 0} → Result A (Fault E) → Both (MutBor Logged) (MutBor Logged) → Step E A
+    → Type 0
+Tells result log step = (shown : Shown) → Takes result log step shown
 
 -- Whatever the rest comes to from this log on, the whole comes to from the first one.
 pub record Leads {E A : Type 0} (old : Logged) (whole : Run E A) (now : Logged) (rest : Run E A) : Type 0 where

@@ -30,7 +30,7 @@ static CASES: &[Case] = &[
     (
         "User a\n<Files x>\n# c\nFoo \\\n b\n </FILES>\nBar\n",
         &[],
-        "1.User a;2<Files x;4.Foo  b(1);6>Files x;7.Bar;=text /m;",
+        "1.User a;2<Files x;4.Foo  b;6>Files x;7.Bar;=text /m;",
     ),
     (
         "<IfModule mod_x.c>\nFoo\n<Files x>\n</Files>\n</IfModule>\nBar\n",
@@ -40,13 +40,13 @@ static CASES: &[Case] = &[
     (
         "<IfDefine !X>\n<IfModule core.c>\nFoo\n</IfModule>\n</IfDefine>\n",
         &[],
-        "1<IfDefine !X;2<IfModule core.c(0);3.Foo(0,1);4>IfModule core.c(0);5>IfDefine !X;=text /m;",
+        "1<IfDefine !X;2<IfModule core.c;3.Foo;4>IfModule core.c;5>IfDefine !X;=text /m;",
     ),
     (
         "<Files x>\nInclude /a\n</Files>\n",
         &[("/a", "<Limit y>\nFoo\n</Limit>\nBar")],
-        "1<Files x;2.Include /a(0);/a 1<Limit y(0);/a 2.Foo(0,2);/a 3>Limit y(0);\
-/a 4.Bar(0);3>Files x;=text /a;text /m;",
+        "1<Files x;2.Include /a;/a 1<Limit y;/a 2.Foo;/a 3>Limit y;\
+/a 4.Bar;3>Files x;=text /a;text /m;",
     ),
     // variables, and refusals behind them
     (
@@ -193,21 +193,7 @@ fn show_entry(alloc: Global, shown: &mut String, entry: EntryView) -> Result<(),
     };
     let (line, name, rest) = (entry.line, entry.name, entry.rest);
     shown.push_str(&format!(in alloc; "{line}{sign}{name}{rest}")?)?;
-    show_within(alloc, shown, entry.within)?;
     shown.push_str(";")?;
-    Ok(())
-}
-
-fn show_within(alloc: Global, shown: &mut String, within: &[u32]) -> Result<(), NoMemory> {
-    let mut sign = "(";
-    for place in within {
-        shown.push_str(sign)?;
-        shown.push_str(&format!(in alloc; "{place}")?)?;
-        sign = ",";
-    }
-    if !within.is_empty() {
-        shown.push_str(")")?;
-    }
     Ok(())
 }
 

@@ -27,12 +27,12 @@ static CASES: &[(&str, &str, &str)] = &[
     (
         "Define A\n",
         "<IfDefine A>\nX\n</IfDefine>\n<IfDefine !A>\nY\n</IfDefine>\n",
-        "/h 1<IfDefine A;/h 2.X(0);/h 3>IfDefine A;/h 4<IfDefine !A;/h 6>IfDefine !A;=",
+        "/h 1<IfDefine A;/h 2.X;/h 3>IfDefine A;/h 4<IfDefine !A;/h 6>IfDefine !A;=",
     ),
     (
         "LoadModule x_module x\n",
         "<IfModule x_module>\n<IfModule core.c>\nX\n</IfModule>\n</IfModule>\n",
-        "/h 1<IfModule x_module;/h 2<IfModule core.c(0);/h 3.X(0,1);/h 4>IfModule core.c(0);\
+        "/h 1<IfModule x_module;/h 2<IfModule core.c;/h 3.X;/h 4>IfModule core.c;\
 /h 5>IfModule x_module;=",
     ),
     (

@@ -1,6 +1,6 @@
 //! Main files that are read, and those that are refused.
 
-use crate::dialogue::hold;
+use crate::dialogue::{hold, parts};
 use hc_base::NoMemory;
 use hc_base::codes::name_of_code;
 use std::alloc::Global;
@@ -48,115 +48,97 @@ static READ: &[&str] = &[
 #[test]
 fn main_files_are_read(rt: HostRuntime) -> Result<(), NoMemory> {
     let alloc = rt.alloc();
-    let replies = r#"check
-{"config":{"hosts":0}}
-ask /f
-{"outcome":{"not_found":true}}"#;
     for text in READ {
-        hold(&rt, alloc, &format!(in alloc; "main {text}\n{replies}\n")?)?;
+        let asked = "check -> hosts 0\nask /f -> not found\n";
+        hold(&rt, alloc, &format!(in alloc; "main {text}\n{asked}")?)?;
     }
     Ok(())
 }
 
-// A main file, as it stands in JSON, the number of the rule that it breaks, the line and the byte.
-static REFUSED: &[(&str, u8, u32, u32)] = &[
-    ("", 27, 0, 0),
-    (r"# DocumentRoot /srv\n", 27, 0, 0),
-    (r"DocumentRoot /srv\nNonsense\n", 1, 2, 0),
-    (r"ServerRoot /srv\n", 27, 0, 0),
-    (r"ServerRoot srv\n", 3, 1, 0),
-    (r"Define\n", 3, 1, 0),
-    (r"<IfDefine a b>\n</IfDefine>\n", 3, 1, 0),
-    (r"<IfModule 'x>\n</IfModule>\n", 6, 1, 0),
-    (r#"\"Alias\" /a /b\n"#, 1, 1, 0),
-    (r"Directory /x\n", 1, 1, 0),
-    (r"<Listen 80>\n</Listen>\n", 1, 1, 0),
-    (r"<Directory />\nNonsense\n</Directory>\n", 1, 2, 0),
-    (r"DocumentRoot srv\n", 3, 1, 0),
-    (r"DocumentRoot /srv /x\n", 3, 1, 0),
-    (r"DocumentRoot\n", 3, 1, 0),
-    (r"\nAlias /a\n", 3, 2, 0),
-    (r"Alias a /b\n", 3, 1, 0),
-    (r"Alias /a b\n", 3, 1, 0),
-    (r"UseCanonicalName On\n", 3, 1, 0),
-    (r"UserDir disabled x\n", 3, 1, 0),
-    (r"AccessFileName .other\n", 3, 1, 0),
-    (r"DocumentRoot /srv\nNonsense\n<Directory />\n", 4, 3, 0),
-    (r"<Directory /\n", 4, 1, 0),
-    (r"Nonsense\n</Directory>\n", 5, 2, 0),
-    (r#"DocumentRoot /srv\nAlias \"/i /x\n"#, 6, 2, 0),
-    (r"Listen 'x\n", 6, 1, 0),
-    (r"</Directory>\nListen\u0001\n", 31, 2, 0),
+// Main files as they stand in JSON, and behind ` -> ` the number of the rule that each breaks, the line and, where it
+// is not 0, the byte.
+static REFUSED: &[&str] = &[
+    r" -> 27 0",
+    r"# DocumentRoot /srv\n -> 27 0",
+    r"DocumentRoot /srv\nNonsense\n -> 1 2",
+    r"ServerRoot /srv\n -> 27 0",
+    r"ServerRoot srv\n -> 3 1",
+    r"Define\n -> 3 1",
+    r"<IfDefine a b>\n</IfDefine>\n -> 3 1",
+    r"<IfModule 'x>\n</IfModule>\n -> 6 1",
+    r#"\"Alias\" /a /b\n -> 1 1"#,
+    r"Directory /x\n -> 1 1",
+    r"<Listen 80>\n</Listen>\n -> 1 1",
+    r"<Directory />\nNonsense\n</Directory>\n -> 1 2",
+    r"DocumentRoot srv\n -> 3 1",
+    r"DocumentRoot /srv /x\n -> 3 1",
+    r"DocumentRoot\n -> 3 1",
+    r"\nAlias /a\n -> 3 2",
+    r"Alias a /b\n -> 3 1",
+    r"Alias /a b\n -> 3 1",
+    r"UseCanonicalName On\n -> 3 1",
+    r"UserDir disabled x\n -> 3 1",
+    r"AccessFileName .other\n -> 3 1",
+    r"DocumentRoot /srv\nNonsense\n<Directory />\n -> 4 3",
+    r"<Directory /\n -> 4 1",
+    r"Nonsense\n</Directory>\n -> 5 2",
+    r#"DocumentRoot /srv\nAlias \"/i /x\n -> 6 2"#,
+    r"Listen 'x\n -> 6 1",
+    r"</Directory>\nListen\u0001\n -> 31 2",
     // variables, conditions and includes
-    (r"DocumentRoot /srv\nInclude /etc/none\n", 8, 2, 0),
-    (
-        r"ServerRoot /etc/h\nDocumentRoot /srv\nInclude conf.d/*.conf\n",
-        8,
-        3,
-        0,
-    ),
-    (r"Include a\n", 11, 1, 0),
-    (r#"Define \"\" x\n"#, 12, 1, 0),
-    (r"Define a:b\n", 12, 1, 0),
-    (r"\nInclude /a/[b-a]x\n", 14, 2, 1),
-    (
-        r"<IfModule mod_rewrite.c>\nNonsense\n</IfModule>\n",
-        1,
-        2,
-        0,
-    ),
-    (r"Define X ${X} ${Y} z\n", 3, 1, 0),
-    (r"${X} /a\n", 1, 1, 0),
-    (r#"Include \"/a\n"#, 6, 1, 0),
-    (r"Nonsense\nInclude /none\n", 1, 1, 0),
+    r"DocumentRoot /srv\nInclude /etc/none\n -> 8 2",
+    r"ServerRoot /etc/h\nDocumentRoot /srv\nInclude conf.d/*.conf\n -> 8 3",
+    r"Include a\n -> 11 1",
+    r#"Define \"\" x\n -> 12 1"#,
+    r"Define a:b\n -> 12 1",
+    r"\nInclude /a/[b-a]x\n -> 14 2:1",
+    r"<IfModule mod_rewrite.c>\nNonsense\n</IfModule>\n -> 1 2",
+    r"Define X ${X} ${Y} z\n -> 3 1",
+    r"${X} /a\n -> 1 1",
+    r#"Include \"/a\n -> 6 1"#,
+    r"Nonsense\nInclude /none\n -> 1 1",
     // patterns, and the words of redirects and aliases
-    (r"DocumentRoot /srv\nAliasMatch ^(a*)* /x\n", 16, 2, 5),
-    (r"DocumentRoot /srv\nAliasMatch ^\\q /x\n", 13, 2, 1),
-    (r"DocumentRoot /srv\nRedirectMatch (a /x\n", 14, 2, 0),
-    (r"DocumentRoot /srv\nRedirectMatch (a\n", 3, 2, 0),
-    (r"DocumentRoot /srv\nAliasMatch (a x\n", 3, 2, 0),
-    (r"DocumentRoot /srv\nAliasMatch a /x&\n", 3, 2, 0),
-    (r"DocumentRoot /srv\nRedirectMatch a b\\\\c\n", 3, 2, 0),
-    (r"DocumentRoot /srv\nAlias a /x\n", 3, 2, 0),
-    (r"DocumentRoot /srv\nScriptAlias /a\n", 3, 2, 0),
-    (r"DocumentRoot /srv\nRedirect /a\n", 3, 2, 0),
-    (r"DocumentRoot /srv\nRedirect 299 /a\n", 3, 2, 0),
-    (r"DocumentRoot /srv\nRedirect 410 /a /b\n", 3, 2, 0),
-    (r"DocumentRoot /srv\nRedirect 301 /a\n", 3, 2, 0),
-    (r"DocumentRoot /srv\nRedirect seeother a /b\n", 3, 2, 0),
-    (r"DocumentRoot /srv\nRedirectTemp 301 /a /b\n", 3, 2, 0),
-    (r"DocumentRoot /srv\nRedirect\n", 3, 2, 0),
+    r"DocumentRoot /srv\nAliasMatch ^(a*)* /x\n -> 16 2:5",
+    r"DocumentRoot /srv\nAliasMatch ^\\q /x\n -> 13 2:1",
+    r"DocumentRoot /srv\nRedirectMatch (a /x\n -> 14 2",
+    r"DocumentRoot /srv\nRedirectMatch (a\n -> 3 2",
+    r"DocumentRoot /srv\nAliasMatch (a x\n -> 3 2",
+    r"DocumentRoot /srv\nAliasMatch a /x&\n -> 3 2",
+    r"DocumentRoot /srv\nRedirectMatch a b\\\\c\n -> 3 2",
+    r"DocumentRoot /srv\nAlias a /x\n -> 3 2",
+    r"DocumentRoot /srv\nScriptAlias /a\n -> 3 2",
+    r"DocumentRoot /srv\nRedirect /a\n -> 3 2",
+    r"DocumentRoot /srv\nRedirect 299 /a\n -> 3 2",
+    r"DocumentRoot /srv\nRedirect 410 /a /b\n -> 3 2",
+    r"DocumentRoot /srv\nRedirect 301 /a\n -> 3 2",
+    r"DocumentRoot /srv\nRedirect seeother a /b\n -> 3 2",
+    r"DocumentRoot /srv\nRedirectTemp 301 /a /b\n -> 3 2",
+    r"DocumentRoot /srv\nRedirect\n -> 3 2",
     // a first word of digits alone is a status from 300 to 599
-    (r"DocumentRoot /srv\nRedirectMatch 299 /x\n", 3, 2, 0),
-    (r"DocumentRoot /srv\nRedirectMatch 600 /x\n", 3, 2, 0),
-    (r"DocumentRoot /srv\nRedirectMatch 30 /x\n", 3, 2, 0),
-    (r"DocumentRoot /srv\nRedirectMatch 0302 /x /y\n", 3, 2, 0),
-    (r"DocumentRoot /srv\nRedirectMatch 3 /x\n", 3, 2, 0),
-    (r"DocumentRoot /srv\nRedirect 200 /x /y\n", 3, 2, 0),
-    (r"DocumentRoot /srv\nRedirect 3020 /x /y\n", 3, 2, 0),
-    (r"DocumentRoot /srv\nRedirect 000 /x\n", 3, 2, 0),
-    (r#"DocumentRoot /srv\nRedirect \"600\" /x\n"#, 3, 2, 0),
-    (r"DocumentRoot /srv\nRedirectMatch 302 /x\n", 3, 2, 0),
+    r"DocumentRoot /srv\nRedirectMatch 299 /x\n -> 3 2",
+    r"DocumentRoot /srv\nRedirectMatch 600 /x\n -> 3 2",
+    r"DocumentRoot /srv\nRedirectMatch 30 /x\n -> 3 2",
+    r"DocumentRoot /srv\nRedirectMatch 0302 /x /y\n -> 3 2",
+    r"DocumentRoot /srv\nRedirectMatch 3 /x\n -> 3 2",
+    r"DocumentRoot /srv\nRedirect 200 /x /y\n -> 3 2",
+    r"DocumentRoot /srv\nRedirect 3020 /x /y\n -> 3 2",
+    r"DocumentRoot /srv\nRedirect 000 /x\n -> 3 2",
+    r#"DocumentRoot /srv\nRedirect \"600\" /x\n -> 3 2"#,
+    r"DocumentRoot /srv\nRedirectMatch 302 /x\n -> 3 2",
 ];
 
 // What a check and a request answer where a rule is broken.
-fn refused(alloc: Global, row: (&str, u8, u32, u32)) -> Result<String, NoMemory> {
-    let (text, code, line, at) = row;
-    let name = name_of_code(code);
-    let place = r#""field":"","file":"/etc/httpd/conf/httpd.conf""#;
-    let reply = format!(in alloc;
-        r#"{{"refused":{{"at":{at},"code":{code},{place},"line":{line},"name":"{name}"}}}}"#
-    )?;
-    format!(in alloc; "main {text}\ncheck\n{reply}\nask /f\n{reply}\n")
+fn refused(alloc: Global, row: &str) -> Result<String, NoMemory> {
+    let (text, rule) = parts(row, " -> ");
+    let (code, place) = parts(rule, " ");
+    let name = name_of_code(code.parse().unwrap_or(0));
+    let reply = format!(in alloc; "refused {code} {name} MAIN:{place}")?;
+    format!(in alloc; "main {text}\ncheck -> {reply}\nask /f -> {reply}\n")
 }
 
 /// That each of these main files is refused so, at a check and at a request.
-pub fn hold_refused(
-    rt: &impl Abort,
-    alloc: Global,
-    rows: &[(&str, u8, u32, u32)],
-) -> Result<(), NoMemory> {
-    for &row in rows {
+pub fn hold_refused(rt: &impl Abort, alloc: Global, rows: &[&str]) -> Result<(), NoMemory> {
+    for row in rows {
         hold(rt, alloc, &refused(alloc, row)?)?;
     }
     Ok(())

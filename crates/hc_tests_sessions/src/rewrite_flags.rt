@@ -10,30 +10,18 @@ static FLAGS: &[&str] = &[
   RewriteRule ^/l$ /x [R=permanent,L]\nRewriteRule ^/m$ /x [redirect=SeeOther,last]\n
   RewriteRule ^/n$ /x [R=temp,END]\n
   RewriteRule ^/o$ /x [R=308,L]\nRewriteRule ^/p$ /x [R=599,L]\nRewriteRule ^/k$ - [R,L]\nRewriteRule ^/q$ /x [R]\n
-ask /f
-{"outcome":{"status":403}}
-ask /g
-{"outcome":{"status":410}}
-ask /h
-{"outcome":{"status":404}}
-ask /i
-{"outcome":{"status":403}}
-ask /j
-{"outcome":{"status":200}}
-ask /l
-{"outcome":{"redirect":{"location":"http://localhost/x","status":301}}}
-ask /m
-{"outcome":{"redirect":{"location":"http://localhost/x","status":303}}}
-ask /n
-{"outcome":{"redirect":{"location":"http://localhost/x","status":302}}}
-ask /o
-{"outcome":{"redirect":{"location":"http://localhost/x","status":308}}}
-ask /p
-{"outcome":{"status":599}}
-ask /k
-{"outcome":{"not_found":true}}
-{"do":"ask","port":8080,"target":"/q?a"}
-{"outcome":{"redirect":{"location":"http://localhost:8080/x?a","status":302}}}
+ask /f -> 403
+ask /g -> 410
+ask /h -> 404
+ask /i -> 403
+ask /j -> 200
+ask /l -> 301 http://localhost/x
+ask /m -> 303 http://localhost/x
+ask /n -> 302 http://localhost/x
+ask /o -> 308 http://localhost/x
+ask /p -> 599
+ask /k -> not found
+ask /q?a port=8080 -> 302 http://localhost:8080/x?a
 "##,
     // the query
     r##"main DocumentRoot /srv\nRewriteEngine On\nRewriteRule ^/a$ /y [QSA,R,L]\n
@@ -41,28 +29,17 @@ ask /k
   RewriteRule ^/e$ /y [QSD,R,L]\nRewriteRule ^/f$ /y?b=2 [QSA,qsdiscard,R,L]\nRewriteRule ^/g$ - [QSD]\n
   RewriteRule ^/g$ /y [R,L]\nRewriteRule ^/h$ /y?a?b [R,L]\nRewriteRule ^/i$ /j?z\n
   RewriteRule ^/j$ /y%{QUERY_STRING} [R,L]\n
-ask /a?a=1
-{"outcome":{"redirect":{"location":"http://localhost/y?a=1","status":302}}}
-ask /b?a=1
-{"outcome":{"redirect":{"location":"http://localhost/y?b=2&a=1","status":302}}}
-ask /b
-{"outcome":{"redirect":{"location":"http://localhost/y?b=2","status":302}}}
-ask /c?a=1
-{"outcome":{"redirect":{"location":"http://localhost/y?a=1","status":302}}}
-ask /c
-{"outcome":{"redirect":{"location":"http://localhost/y","status":302}}}
-ask /d?a=1
-{"outcome":{"redirect":{"location":"http://localhost/y","status":302}}}
-ask /e?a=1
-{"outcome":{"redirect":{"location":"http://localhost/y","status":302}}}
-ask /f?a=1
-{"outcome":{"redirect":{"location":"http://localhost/y?b=2","status":302}}}
-ask /g?a=1
-{"outcome":{"redirect":{"location":"http://localhost/y?a=1","status":302}}}
-ask /h
-{"outcome":{"redirect":{"location":"http://localhost/y?a%3fb","status":302}}}
-ask /i?a=1
-{"outcome":{"redirect":{"location":"http://localhost/yz?z","status":302}}}
+ask /a?a=1 -> 302 http://localhost/y?a=1
+ask /b?a=1 -> 302 http://localhost/y?b=2&a=1
+ask /b -> 302 http://localhost/y?b=2
+ask /c?a=1 -> 302 http://localhost/y?a=1
+ask /c -> 302 http://localhost/y
+ask /d?a=1 -> 302 http://localhost/y
+ask /e?a=1 -> 302 http://localhost/y
+ask /f?a=1 -> 302 http://localhost/y?b=2
+ask /g?a=1 -> 302 http://localhost/y?a=1
+ask /h -> 302 http://localhost/y?a%3fb
+ask /i?a=1 -> 302 http://localhost/yz?z
 "##,
     // variables: before the substitution, one after another, taken away, and with case
     r##"main DocumentRoot /srv\nRewriteEngine On\nRewriteRule ^/e(.)$ - [E=v:$1,E=w:%{ENV:v}-%{ENV:v}]\n
@@ -70,27 +47,19 @@ ask /i?a=1
   RewriteRule ^/t$ - [E=v:1]\nRewriteRule ^/t$ - [E=!v]\nRewriteRule ^/t$ /z[%{ENV:v}] [R,L]\n
   RewriteRule ^/u$ - [E=v:1,E=v:2:3]\nRewriteRule ^/u$ /%{ENV:v} [R,L]\nRewriteRule ^/w$ - [E=v:1,E=v]\n
   RewriteRule ^/w$ /z%{ENV:v} [R,L]\n
-ask /ea
-{"outcome":{"redirect":{"location":"http://localhost/za-aa","status":302}}}
-ask /sa
-{"outcome":{"redirect":{"location":"http://localhost/za","status":302}}}
-ask /t
-{"outcome":{"redirect":{"location":"http://localhost/z%5b%5d","status":302}}}
-ask /u
-{"outcome":{"redirect":{"location":"http://localhost/2:3","status":302}}}
-ask /w
-{"outcome":{"redirect":{"location":"http://localhost/z","status":302}}}
+ask /ea -> 302 http://localhost/za-aa
+ask /sa -> 302 http://localhost/za
+ask /t -> 302 http://localhost/z%5b%5d
+ask /u -> 302 http://localhost/2:3
+ask /w -> 302 http://localhost/z
 "##,
     // set twice by one rule and by two, taken away and set again, and taken away where none was set
     r##"main DocumentRoot /srv\nRewriteEngine On\nRewriteRule ^/ - [E=v:1,E=w:2,E=v:3]\n
   RewriteRule ^/a$ - [E=!v,E=v:4]\nRewriteRule ^/b$ - [E=!w]\nRewriteRule ^/b$ - [E=w:5,E=!x]\n
   RewriteRule ^/ /%{ENV:v}-%{ENV:w}-%{ENV:x} [R,L]\n
-ask /
-{"outcome":{"redirect":{"location":"http://localhost/3-2-","status":302}}}
-ask /a
-{"outcome":{"redirect":{"location":"http://localhost/4-2-","status":302}}}
-ask /b
-{"outcome":{"redirect":{"location":"http://localhost/3-5-","status":302}}}
+ask / -> 302 http://localhost/3-2-
+ask /a -> 302 http://localhost/4-2-
+ask /b -> 302 http://localhost/3-5-
 "##,
     // escaping, L, END, NC and flags without effect
     r##"main DocumentRoot /srv\nRewriteEngine On\nRewriteRule ^/a$ /m#a?\\%20#%{HTTP_USER_AGENT} [NE,R,L]\n
@@ -99,24 +68,14 @@ ask /b
   RewriteRule ^/g$ /h\nRewriteRule ^/I$ /j [nocase,NS,T=a/b,H=c,CO=d:e,DPI,type,handler,cookie]\n
   RewriteRule !^/ /never\n
   RewriteRule ^/k$ /l%1\\$0$x%y [noescape,R]\n
-file /srv/d
-file /srv/e
-file /srv/g
-file /srv/j
-{"do":"ask","headers":{"User-Agent":"u v"},"target":"/a"}
-{"outcome":{"redirect":{"location":"http://localhost/m#a?%20#u v","status":302}}}
-{"do":"ask","headers":{"User-Agent":"u v"},"target":"/b"}
-{"outcome":{"redirect":{"location":"http://localhost/m%23a?u%20v","status":302}}}
-ask /c
-{"outcome":{"file":{"info":"","path":"/srv/d"}}}
-ask /d
-{"outcome":{"file":{"info":"","path":"/srv/e"}}}
-ask /f
-{"outcome":{"file":{"info":"","path":"/srv/g"}}}
-ask /i
-{"outcome":{"file":{"info":"","path":"/srv/j"}}}
-ask /k
-{"outcome":{"redirect":{"location":"http://localhost/l$0$x%y","status":302}}}
+file /srv/d /srv/e /srv/g /srv/j
+{"do":"ask","headers":{"User-Agent":"u v"},"target":"/a"} -> 302 http://localhost/m#a?%20#u v
+{"do":"ask","headers":{"User-Agent":"u v"},"target":"/b"} -> 302 http://localhost/m%23a?u%20v
+ask /c -> /srv/d
+ask /d -> /srv/e
+ask /f -> /srv/g
+ask /i -> /srv/j
+ask /k -> 302 http://localhost/l$0$x%y
 "##,
     // the server's own URLs, those of others, and other schemes
     r##"main DocumentRoot /srv\nRewriteEngine On\nRewriteRule ^/a$ http://localhost/b [L]\n
@@ -126,51 +85,31 @@ ask /k
   RewriteRule ^/g$ https://localhost/x [L]\nRewriteRule ^/h$ ftp://localhost/x\nRewriteRule ^/i$ x+y.z-1://q\n
   RewriteRule ^/j$ %{REQUEST_SCHEME}://other/x\nRewriteRule ^/k$ x [R,L]\nRewriteRule ^/l$ http://localhost.x/y [L]\n
   RewriteRule ^/m$ 1x://y\nRewriteRule ^/n$ %{REQUEST_SCHEME}://other/x\n
-file /srv/b
-file /srv/d
-ask /a
-{"outcome":{"file":{"info":"","path":"/srv/b"}}}
-ask /b
-{"outcome":{"redirect":{"location":"http://localhost/b","status":302}}}
-ask /c
-{"outcome":{"file":{"info":"","path":"/srv/d"}}}
-ask /e
-{"outcome":{"directory":"/srv/"}}
-ask /f
-{"outcome":{"redirect":{"location":"http://localhost:81/x","status":302}}}
-ask /g
-{"outcome":{"redirect":{"location":"https://localhost/x","status":302}}}
-ask /h
-{"outcome":{"outside":"scheme"}}
-ask /i
-{"outcome":{"outside":"scheme"}}
-ask /j
-{"outcome":{"outside":"scheme"}}
-ask /k
-{"outcome":{"outside":"relative redirect"}}
-ask /l
-{"outcome":{"redirect":{"location":"http://localhost.x/y","status":302}}}
-ask /m
-{"outcome":{"status":400}}
-ask /n
-{"outcome":{"redirect":{"location":"http://other/x","status":302}}}
-{"do":"ask","port":8080,"target":"/a"}
-{"outcome":{"redirect":{"location":"http://localhost/b","status":302}}}
+file /srv/b /srv/d
+ask /a -> /srv/b
+ask /b -> 302 http://localhost/b
+ask /c -> /srv/d
+ask /e -> directory /srv/
+ask /f -> 302 http://localhost:81/x
+ask /g -> 302 https://localhost/x
+ask /h -> outside scheme
+ask /i -> outside scheme
+ask /j -> outside scheme
+ask /k -> outside relative redirect
+ask /l -> 302 http://localhost.x/y
+ask /m -> 400
+ask /n -> 302 http://other/x
+ask /a port=8080 -> 302 http://localhost/b
 "##,
     // a name with a slash is no authority
     r##"main DocumentRoot /srv\nServerName a/b\nRewriteEngine On\nRewriteRule ^/a$ http://a/b/f [L]\n
   RewriteRule ^/b$ http://a/b [L]\nRewriteRule ^/c$ http://a/f [L]\n
 file /srv/f
-{"do":"ask","host":"","target":"/a"}
-{"outcome":{"redirect":{"location":"http://a/b/f","status":302}}}
-{"do":"ask","host":"","target":"/b"}
-{"outcome":{"redirect":{"location":"http://a/b","status":302}}}
-{"do":"ask","host":"","target":"/c"}
-{"outcome":{"redirect":{"location":"http://a/f","status":302}}}
-{"do":"ask","host":"a","target":"/c"}
-{"outcome":{"file":{"info":"","path":"/srv/f"}}}
-{"do":"ask","host":"A","target":"/a"}
-{"outcome":{"not_found":true}}
+ask /a host= -> 302 http://a/b/f
+ask /b host= -> 302 http://a/b
+ask /c host= -> 302 http://a/f
+ask /c host=a -> /srv/f
+ask /a host=A -> not found
 "##,
     // each variable
     r##"main DocumentRoot /srv\nRewriteEngine On\nRewriteRule ^/v$ /%{REQUEST_METHOD},%{request_scheme},%{HTTPS},
@@ -178,9 +117,8 @@ file /srv/f
   %{HTTP_COOKIE},%{HTTP_ACCEPT},%{HTTP:x-y},%{http:HOST},%{REQUEST_URI},%{REQUEST_FILENAME},%{SCRIPT_FILENAME},
   %{PATH_INFO},%{QUERY_STRING},%{DOCUMENT_ROOT},%{ENV:x},%{THE_REQUEST} [NE,R,L]\n
 {"do":"ask","client":"10.0.0.1","headers":{"User-Agent":"u a","Referer":"r","Cookie":"c","Accept":"a","X-Y":"z"},
-  "port":81,"target":"/v?q=1"}
-{"outcome":{"redirect":{"location":"http://localhost:81/GET,http,off,localhost:81,localhost,81,192.0.2.1,10.0.0.1,u a,
-  r,c,a,z,localhost:81,/v,/v,/v,,q=1,/srv,,GET /v?q=1 HTTP/1.1","status":302}}}
+  "port":81,"target":"/v?q=1"} -> 302 http://localhost:81/GET,http,off,localhost:81,localhost,81,192.0.2.1,10.0.0.1,
+  u a,r,c,a,z,localhost:81,/v,/v,/v,,q=1,/srv,,GET /v?q=1 HTTP/1.1
 "##,
     // the tests of conditions
     r##"main DocumentRoot /srv\nRewriteEngine On\nRewriteCond /srv//f -f\nRewriteCond /srv/f !-d\n
@@ -192,17 +130,11 @@ file /srv/f
   RewriteCond \"%{QUERY_STRING}\" =\"\"\nRewriteCond %{HTTP_HOST} ^LOCAL [nocase,novary]\nRewriteRule ^/a$ /f\n
   RewriteCond x ^y$\nRewriteCond x ^x$ [OR]\nRewriteCond x ^z$\nRewriteRule ^/b$ /f\nRewriteCond $1 ^(.)c$\n
   RewriteCond %1 ^b(x?)$\nRewriteRule ^/(.*)$ /f-%0-%1-$1\n
-file /srv/f
-file /srv/d/f
-file /srv/f-b--bc
-ask /a
-{"outcome":{"file":{"info":"","path":"/srv/f"}}}
-ask /a?q
-{"outcome":{"not_found":true}}
-ask /b
-{"outcome":{"not_found":true}}
-ask /bc
-{"outcome":{"file":{"info":"","path":"/srv/f-b--bc"}}}
+file /srv/f /srv/d/f /srv/f-b--bc
+ask /a -> /srv/f
+ask /a?q -> not found
+ask /b -> not found
+ask /bc -> /srv/f-b--bc
 "##,
 ];
 

@@ -1,63 +1,19 @@
-ghost use Rattle.std.specs.Prelude.{◌≡◌, ◌<◌};
-
+use crate::languages::found_in;
 use hc_base::NoMemory;
 use hc_dfa::{
-    Dfa, Inclusion, Keep, Machine, ReadingStep, SilentStep, byte_image, complement, first_members,
-    included, least, product, reduce,
+    Dfa, Inclusion, Keep, byte_image, complement, first_members, included, least, product, reduce,
 };
 use std::alloc::Global;
 use std::process::Abort;
 
-/// The sets of the tables.
-enum Set {
-    /// Any number of `a`, then one `b`.
-    ManyAThenB,
-    /// Texts of `a` and `b`.
-    Letters,
-    /// All other texts.
-    Others,
-    /// No text.
-    Nothing,
-}
+// The sets of the tables, by patterns that are found in their texts.
+const MANY_A_THEN_B: &str = "^a*b$";
 
-fn many_a_then_b(alloc: Global) -> Result<Dfa, NoMemory> {
-    let mut machine = Machine::new(alloc, 3);
-    machine.add_start(0)?;
-    machine.add_step(step(0, b'a', b'a', 0))?;
-    machine.add_silent(SilentStep { from: 0, to: 1 })?;
-    machine.add_step(step(1, b'b', b'b', 2))?;
-    machine.add_final(2)?;
-    machine.determinize(alloc)
-}
+const LETTERS: &str = "^[ab]*$";
 
-fn letters(alloc: Global) -> Result<Dfa, NoMemory> {
-    let mut machine = Machine::new(alloc, 1);
-    machine.add_start(0)?;
-    machine.add_step(step(0, b'a', b'b', 0))?;
-    machine.add_final(0)?;
-    machine.determinize(alloc)
-}
+const OTHERS: &str = "[^ab]";
 
-fn made(alloc: Global, set: &Set) -> Result<Dfa, NoMemory> {
-    match set {
-        Set::ManyAThenB => many_a_then_b(alloc),
-        Set::Letters => letters(alloc),
-        Set::Others => complement(alloc, &letters(alloc)?),
-        Set::Nothing => Machine::new(alloc, 1).determinize(alloc),
-    }
-}
-
-fn step(from: u32, low: u8, high: u8, to: u32) -> ReadingStep
-    ensures from { result.from ≡ from }
-    ensures to { result.to ≡ to }
-{
-    ReadingStep {
-        from,
-        low,
-        high,
-        to,
-    }
-}
+const NOTHING: &str = "a^";
 
 // The first texts are in the set, and the others are not.
 fn check(rt: &impl Abort, set: &Dfa, inside: &[&str], outside: &[&str]) {
@@ -70,39 +26,11 @@ fn check(rt: &impl Abort, set: &Dfa, inside: &[&str], outside: &[&str]) {
 }
 
 #[test]
-fn a_machine_accepts_what_its_paths_read(rt: HostRuntime) -> Result<(), NoMemory> {
-    static ROWS: &[(Set, &[&str], &[&str])] = &[
-        (
-            Set::ManyAThenB,
-            &["b", "ab", "aaab"],
-            &["", "a", "ba", "abb", "c"],
-        ),
-        (Set::Letters, &["", "a", "ba"], &["c", "abc"]),
-        (Set::Others, &["c", "ac"], &["", "ab"]),
-        (Set::Nothing, &[], &["", "a"]),
-    ];
-    for (set, inside, outside) in ROWS {
-        check(&rt, &made(rt.alloc(), set)?, inside, outside);
-    }
-    Ok(())
-}
-
-// Three states in a circle; the third reads `a` to the first, and is final.
-fn circle(alloc: Global) -> Result<Dfa, NoMemory> {
-    let mut machine = Machine::new(alloc, 3);
-    machine.add_start(0)?;
-    machine.add_silent(SilentStep { from: 0, to: 1 })?;
-    machine.add_silent(SilentStep { from: 1, to: 2 })?;
-    machine.add_silent(SilentStep { from: 2, to: 0 })?;
-    machine.add_silent(SilentStep { from: 1, to: 1 })?;
-    machine.add_step(step(2, b'a', b'a', 0))?;
-    machine.add_final(2)?;
-    machine.clone()?.determinize(alloc)
-}
-
-#[test]
-fn silent_steps_may_lead_in_circles(rt: HostRuntime) -> Result<(), NoMemory> {
-    check(&rt, &circle(rt.alloc())?, &["", "aaa"], &["ab"]);
+fn a_complement_has_the_other_texts(rt: HostRuntime) -> Result<(), NoMemory> {
+    let letters = found_in(&rt, rt.alloc(), LETTERS)?;
+    check(&rt, &letters, &["", "a", "ba"], &["c", "abc"]);
+    let others = complement(rt.alloc(), &letters)?;
+    check(&rt, &others, &["c", "ac"], &["", "ab"]);
     Ok(())
 }
 
@@ -116,77 +44,69 @@ fn a_table_is_read_back(rt: HostRuntime) -> Result<(), NoMemory> {
     Ok(())
 }
 
-fn of_two(alloc: Global, first: &Set, second: &Set, keep: Keep) -> Result<Dfa, NoMemory> {
-    let a = made(alloc, first)?;
-    let b = made(alloc, second)?;
+fn of_two(
+    rt: &impl Abort,
+    alloc: Global,
+    first: &str,
+    second: &str,
+    keep: Keep,
+) -> Result<Dfa, NoMemory> {
+    let a = found_in(rt, alloc, first)?;
+    let b = found_in(rt, alloc, second)?;
     product(alloc, &a, &b, keep)
 }
 
 // Two sets, what is kept of them, texts that are in it, others, and the states of the least automaton.
-static PRODUCTS: &[(Set, Set, Keep, &[&str], &[&str], u32)] = &[
+static PRODUCTS: &[(&str, &str, Keep, &[&str], &[&str], u32)] = &[
+    (MANY_A_THEN_B, LETTERS, Keep::Both, &["ab"], &["aa"], 3),
     (
-        Set::ManyAThenB,
-        Set::Letters,
-        Keep::Both,
-        &["ab"],
-        &["aa"],
-        3,
-    ),
-    (
-        Set::ManyAThenB,
-        Set::Others,
+        MANY_A_THEN_B,
+        OTHERS,
         Keep::Either,
         &["ab", "c"],
         &["aa"],
         4,
     ),
     (
-        Set::Letters,
-        Set::ManyAThenB,
+        LETTERS,
+        MANY_A_THEN_B,
         Keep::FirstOnly,
         &["aa"],
         &["ab", "c"],
         4,
     ),
     (
-        Set::ManyAThenB,
-        Set::Letters,
+        MANY_A_THEN_B,
+        LETTERS,
         Keep::Either,
         &["ab", "aa"],
         &["c"],
         2,
     ),
-    (
-        Set::Letters,
-        Set::Letters,
-        Keep::FirstOnly,
-        &[],
-        &["", "a"],
-        1,
-    ),
+    (LETTERS, LETTERS, Keep::FirstOnly, &[], &["", "a"], 1),
 ];
 
 #[test]
 fn sets_meet_and_join(rt: HostRuntime) -> Result<(), NoMemory> {
-    for (first, second, keep, inside, outside, states) in PRODUCTS {
-        let set = of_two(rt.alloc(), first, second, *keep)?;
+    for &(first, second, keep, inside, outside, states) in PRODUCTS {
+        let set = of_two(&rt, rt.alloc(), first, second, keep)?;
         check(&rt, &set, inside, outside);
-        assert!(rt; reduce(rt.alloc(), &set)?.states() == *states);
+        assert!(rt; reduce(rt.alloc(), &set)?.states() == states);
     }
     Ok(())
 }
 
 #[test]
 fn least_texts_are_the_shortest(rt: HostRuntime) -> Result<(), NoMemory> {
-    static ROWS: &[(Set, Option<&str>, &[&str])] = &[
-        (Set::ManyAThenB, Some("b"), &["b", "ab", "aab"]),
-        (Set::Letters, Some(""), &["", "a", "b", "aa", "ab", "ba"]),
-        (Set::Others, Some("\0"), &["\0", "\u{1}"]),
-        (Set::Nothing, None, &[]),
+    static ROWS: &[(&str, Option<&str>, &[&str])] = &[
+        (MANY_A_THEN_B, Some("b"), &["b", "ab", "aab"]),
+        (LETTERS, Some(""), &["", "a", "b", "aa", "ab", "ba"]),
+        (OTHERS, Some("\0"), &["\0", "\u{1}"]),
+        (NOTHING, None, &[]),
     ];
-    for (set, shortest, first) in ROWS {
-        let set = made(rt.alloc(), set)?;
-        check_least(&rt, rt.alloc(), &set, *shortest)?;
+    for &(set, shortest, first) in ROWS {
+        let set = found_in(&rt, rt.alloc(), set)?;
+        check_least(&rt, rt.alloc(), &set, shortest)?;
         check_first(&rt, rt.alloc(), &set, first)?;
     }
     Ok(())
@@ -214,21 +134,26 @@ fn check_first(rt: &impl Abort, alloc: Global, set: &Dfa, texts: &[&str]) -> Res
 }
 
 // The least text that the first set has and the second has not.
-fn outside(alloc: Global, first: &Set, second: &Set) -> Result<Inclusion, NoMemory> {
-    let a = made(alloc, first)?;
-    let b = made(alloc, second)?;
+fn outside(
+    rt: &impl Abort,
+    alloc: Global,
+    first: &str,
+    second: &str,
+) -> Result<Inclusion, NoMemory> {
+    let a = found_in(rt, alloc, first)?;
+    let b = found_in(rt, alloc, second)?;
     included(alloc, &a, &b)?.clone()
 }
 
 #[test]
 fn inclusion_shows_the_least_text_outside(rt: HostRuntime) -> Result<(), NoMemory> {
-    static ROWS: &[(Set, Set, Option<&str>)] = &[
-        (Set::ManyAThenB, Set::Letters, None),
-        (Set::Letters, Set::ManyAThenB, Some("")),
-        (Set::ManyAThenB, Set::Others, Some("b")),
+    static ROWS: &[(&str, &str, Option<&str>)] = &[
+        (MANY_A_THEN_B, LETTERS, None),
+        (LETTERS, MANY_A_THEN_B, Some("")),
+        (MANY_A_THEN_B, OTHERS, Some("b")),
     ];
-    for (first, second, wanted) in ROWS {
-        match outside(rt.alloc(), first, second)? {
+    for &(first, second, wanted) in ROWS {
+        match outside(&rt, rt.alloc(), first, second)? {
             Inclusion::Yes => assert!(rt; wanted.is_none()),
             Inclusion::No(text) => {
                 assert!(rt; Some(text.as_bytes()) == wanted.map(|text| text.as_bytes()))
@@ -245,33 +170,15 @@ fn an_image_replaces_bytes(rt: HostRuntime) -> Result<(), NoMemory> {
         table[byte] = byte as u8;
     }
     table[97] = b'A';
-    let set = many_a_then_b(rt.alloc())?;
+    let set = found_in(&rt, rt.alloc(), MANY_A_THEN_B)?;
     let image = byte_image(rt.alloc(), &set, &table)?;
     check(&rt, &image, &["Ab", "AAb"], &["ab", "AB"]);
     Ok(())
 }
 
-/// Texts that have an `a` at this many bytes before their end. It has 2 to the `depth` states.
-fn late_a(alloc: Global, depth: u32) -> Result<Dfa, NoMemory>
-    requires { depth < 32 }
-{
-    let mut machine = Machine::new(alloc, depth + 1);
-    machine.add_start(0)?;
-    machine.add_final(depth)?;
-    machine.add_step(step(0, 0, 255, 0))?;
-    for at in 0..depth {
-        if at < machine.states() && at + 1 < machine.states() {
-            let low = if at == 0 { b'a' } else { 0 };
-            let high = if at == 0 { b'a' } else { 255 };
-            machine.add_step(step(at, low, high, at + 1))?;
-        }
-    }
-    machine.determinize(alloc)
-}
-
 #[test]
 fn a_reduced_automaton_is_the_least(rt: HostRuntime) -> Result<(), NoMemory> {
-    let set = late_a(rt.alloc(), 5)?;
+    let set = found_in(&rt, rt.alloc(), "^.*a.{4}$")?;
     assert!(rt; reduce(rt.alloc(), &set)?.states() == 32);
     Ok(())
 }
@@ -284,7 +191,7 @@ fn met_with_its_complement(alloc: Global, set: &Dfa) -> Result<Dfa, NoMemory> {
 
 #[test]
 fn large_sets_take_a_moment(rt: HostRuntime) -> Result<(), NoMemory> {
-    let set = late_a(rt.alloc(), 12)?;
+    let set = found_in(&rt, rt.alloc(), "^.*a.{11}$")?;
     let met = met_with_its_complement(rt.alloc(), &set)?;
     assert!(rt; met.states() == 4096);
     assert!(rt; reduce(rt.alloc(), &met)?.states() == 1);

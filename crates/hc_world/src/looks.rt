@@ -1,7 +1,6 @@
 //! Looks at a world, each told in a log.
 ghost use Rattle.std.specs.Prelude.{◌≡◌, IfOk, option_map};
-ghost use Rattle.hc_steps.specs.Ran.{Ran};
-ghost use Rattle.hc_steps.specs.Run.{run};
+ghost use Rattle.hc_steps.specs.Ran.{Takes};
 ghost use Rattle.hc_steps.specs.Shown.{found_in, names_shown, shown_by};
 ghost use Rattle.hc_steps.specs.Step.{kind_at, names_at, text_at};
 
@@ -45,7 +44,7 @@ impl<'w> FoundText<'w> {
 /// Looks at what stands at a path.
 #[tactic(auto, using(hc_steps::proofs::Going::ran_shown, hc_steps::proofs::Going::ran_no_memory))]
 pub fn kind_at<E>(world: &World, log: &mut Log, path: &[u8]) -> Result<Kind, Fault<E>>
-    ensures { Ran result log.old log.new (run (kind_at path.now) (shown_by world.now.files)) }
+    ensures { Takes result log (kind_at path.now) (shown_by world.now.files) }
 {
     log.look(Read::KindOf(Text::copy_of(log.allocator(), path)?))?;
     Ok(world.kind(path))
@@ -58,7 +57,7 @@ pub fn text_at<'w, E>(
     log: &mut Log,
     path: &[u8],
 ) -> Result<FoundText<'w>, Fault<E>>
-    ensures { Ran result log.old log.new (run (text_at path.now) (shown_by world.now.files)) }
+    ensures { Takes result log (text_at path.now) (shown_by world.now.files) }
 {
     log.look(Read::TextOf(Text::copy_of(log.allocator(), path)?))?;
     Ok(found_in(world, path))
@@ -80,7 +79,7 @@ pub fn names_at<E>(
     log: &mut Log,
     path: &[u8],
 ) -> Result<Option<List<Text>>, Fault<E>>
-    ensures { Ran result log.old log.new (run (names_at path.now) (shown_by world.now.files)) }
+    ensures { Takes result log (names_at path.now) (shown_by world.now.files) }
 {
     log.look(Read::NamesOf(Text::copy_of(log.allocator(), path)?))?;
     Ok(names_shown(world, path)?)

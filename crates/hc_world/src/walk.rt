@@ -1,6 +1,5 @@
 ghost use Rattle.std.specs.Prelude.{◌≡◌, ◌≤◌, length, take, drop, IfOk};
-ghost use Rattle.hc_steps.specs.Ran.{Ran};
-ghost use Rattle.hc_steps.specs.Run.{run};
+ghost use Rattle.hc_steps.specs.Ran.{Takes};
 ghost use Rattle.hc_steps.specs.Shown.{shown_by};
 ghost use Rattle.hc_steps.specs.Walking.{ended, walk};
 ghost use Rattle.hc_world.specs.Walks.{with_last};
@@ -17,7 +16,7 @@ use std::alloc::Global;
 /// Follows a name through the directories, and tells each component that is looked at.
 #[tactic(auto, using(hc_steps::proofs::Going::ran_no_memory, crate::proofs::Walks::walk_steps))]
 pub fn follow(world: &World, log: &mut Log, name: &[u8]) -> Result<Walk, Fault<Outcome>>
-    ensures { Ran result log.old log.new (run (walk name.now) (shown_by world.now.files)) }
+    ensures { Takes result log (walk name.now) (shown_by world.now.files) }
 {
     let alloc = log.allocator();
     let mut dirs = List::new(alloc);

@@ -1,13 +1,10 @@
-use Rattle.hc_dfa.proofs.Closures.{changes_more, all_changes}
+use Rattle.hc_dfa.proofs.Common.{◌∙◌, ap, Vec, Global, Step}
+use Rattle.hc_dfa.proofs.Closures.{changes_more}
 use Rattle.hc_dfa.proofs.subsets.changes_of.Goals as goal
 
-pub loop-step-preserved : goal.loop-step-preserved
-loop-step-preserved c =
-    let below = rw c.reading-step-items.ensures at c.loop-step-test.true in
-    let marks = rw c.reading-step-items.ensures at c.mark.ensures in
-    changes_more c.args.machine.now c.loop-step.changes.items c.mark.new.changes.items c.loop-step.step-index _
-    c.loop-step.invariant below marks
-
-pub returns : goal.returns
-returns c = all_changes c.args.machine.now c.loop-step.changes.items c.loop-step.step-index c.loop-step.invariant
-    (rw c.reading-step-items.ensures at c.loop-step-test.false)
+pub loop-steps-preserved : goal.loop-steps-preserved
+loop-steps-preserved c =
+    rw (← c.deref-steps-items.ensures.value)
+    (changes_more c.deref-steps-items.result.now c.loop-steps.steps-index c.steps-item.result _ _ c.loop-steps-test.true
+    (rw c.deref-steps-items.ensures.value c.loop-steps.invariant)
+    (rw (c.deref.ensures.value ∙ ap (λ (row : Vec Step Global). row.items) c.steps-item.is) at c.mark_all.ensures))

@@ -1,5 +1,5 @@
-use Rattle.hc_dfa.proofs.Closures.{ChangesBelow}
+use Rattle.hc_dfa.proofs.Common.{take, AreChanges}
 use Rattle.hc_dfa.proofs.subsets.changes_of.Given as goal
 
-abbrev pub invariant-loop-step : goal.invariant-loop-step
-invariant-loop-step l = ChangesBelow l.machine l.changes.items l.step-index
+abbrev pub invariant-loop-steps : goal.invariant-loop-steps
+invariant-loop-steps l = AreChanges (take l.steps-index l.machine.steps.items) l.changes.items

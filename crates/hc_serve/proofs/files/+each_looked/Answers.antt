@@ -19,7 +19,7 @@ returns-clause-step g limit c = λ files.
     more_looked _ _ _ files _ _ _
     (begins_with c.args.wanted.now c.each-item.result c.as_bytes.result.now c.in-len1-up.len_at_least c.each-item.is
     c.as_bytes.ensures)
-    _ _ _ _ _ (ap g.O.Overrides.reading c.file_looked.ensures.fixed) (c.in_ok-file_looked.ensures.step files)
+    _ _ _ _ _ (ap g.O.Overrides.reading c.file_looked.ensures.over.0) (c.in_ok-file_looked.ensures.step files)
     c.each_looked.ensures.step
 
 pub returns-in_default-clause-counted : goal.returns-in_default-clause-counted

@@ -19,7 +19,7 @@ returns-in_err-text_at-clause-step g c = λ files.
 
 pub returns-clause-step : goal.returns-clause-step
 returns-clause-step g c = λ files.
-    file_read _ _ _ files _ _ _ _ _ _ _ (c.as_bytes.ensures ∙ c.in_ok-file.ensures) c.requires.over
+    file_read _ _ _ files _ _ _ _ _ _ _ (c.as_bytes.ensures ∙ c.in_ok-file.ensures) c.requires.over.0
     c.in_ok-text_at.ensures c.load.ensures.cause c.stopping.ensures
 
 pub returns-in_err-file-clause-counted : goal.returns-in_err-file-clause-counted
@@ -29,5 +29,5 @@ pub returns-in_err-text_at-clause-counted : goal.returns-in_err-text_at-clause-c
 returns-in_err-text_at-clause-counted g c = λ files. costs_nothing _ _ _ _
 
 pub returns-clause-counted : goal.returns-clause-counted
-returns-clause-counted g c = λ files. file_costs _ _ files _ _ _ _ _ _ c.requires.sizes c.load.ensures.counted
+returns-clause-counted g c = λ files. file_costs _ _ files _ _ _ _ _ _ c.requires.over.1 c.load.ensures.counted
     c.stopping.ensures

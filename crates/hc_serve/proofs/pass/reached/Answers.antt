@@ -7,20 +7,20 @@ use Rattle.hc_steps.specs.Step.{◌>>=◌}
 pub returns-in_err-placed-clause-step : goal.returns-in_err-placed-clause-step
 unfolding reached reached_from ◌>>=◌
 returns-in_err-placed-clause-step g c =
-    ran_then _ _ _ _ _ _ _ _ c.in_ok-pass.ensures
+    ran_then _ _ _ _ _ _ _ _ (c.in_ok-pass.ensures _)
     (ran_off _ _ _ _ _ _ _ _ c.from_residual-in_err-placed.ensures.1 c.in_err-placed.ensures refl)
 
 pub returns-in_err-named-clause-step : goal.returns-in_err-named-clause-step
 unfolding reached reached_from ◌>>=◌
 returns-in_err-named-clause-step g c =
-    ran_then _ _ _ _ _ _ _ _ c.in_ok-pass.ensures
+    ran_then _ _ _ _ _ _ _ _ (c.in_ok-pass.ensures _)
     (ran_then _ _ _ _ _ _ _ _ c.in_ok-placed.ensures
     (ran_off _ _ _ _ _ _ _ _ c.from_residual-in_err-named.ensures.1 c.in_err-named.ensures refl))
 
 pub returns-in_err-named-2-clause-step : goal.returns-in_err-named-2-clause-step
 unfolding reached reached_from ◌>>=◌
 returns-in_err-named-2-clause-step g c =
-    ran_then _ _ _ _ _ _ _ _ c.in_ok-pass.ensures
+    ran_then _ _ _ _ _ _ _ _ (c.in_ok-pass.ensures _)
     (ran_then _ _ _ _ _ _ _ _ c.in_ok-placed.ensures
     (ran_then _ _ _ _ _ _ _ _ c.in_ok-named.ensures
     (ran_off _ _ _ _ _ _ _ _ c.from_residual-in_err-named-2.ensures.1 c.in_err-named-2.ensures refl)))
@@ -28,7 +28,7 @@ returns-in_err-named-2-clause-step g c =
 pub returns-in_err-there-clause-step : goal.returns-in_err-there-clause-step
 unfolding reached reached_from ◌>>=◌
 returns-in_err-there-clause-step g c =
-    ran_then _ _ _ _ _ _ _ _ c.in_ok-pass.ensures
+    ran_then _ _ _ _ _ _ _ _ (c.in_ok-pass.ensures _)
     (ran_then _ _ _ _ _ _ _ _ c.in_ok-placed.ensures
     (ran_then _ _ _ _ _ _ _ _ c.in_ok-named.ensures
     (ran_then _ _ _ _ _ _ _ _ c.in_ok-named-2.ensures
@@ -37,7 +37,7 @@ returns-in_err-there-clause-step g c =
 pub returns-clause-step : goal.returns-clause-step
 unfolding reached reached_from ◌>>=◌
 returns-clause-step g c =
-    ran_then _ _ _ _ _ _ _ _ c.in_ok-pass.ensures
+    ran_then _ _ _ _ _ _ _ _ (c.in_ok-pass.ensures _)
     (ran_then _ _ _ _ _ _ _ _ c.in_ok-placed.ensures
     (ran_then _ _ _ _ _ _ _ _ c.in_ok-named.ensures
     (ran_then _ _ _ _ _ _ _ _ c.in_ok-named-2.ensures
@@ -46,7 +46,7 @@ returns-clause-step g c =
 pub returns-clause-counted : goal.returns-clause-counted
 unfolding reached reached_from ◌>>=◌
 returns-clause-counted g c =
-    costs_behind _ _ _ _ _ _ _ _ _ c.in_ok-pass.ensures
+    costs_behind _ _ _ _ _ _ _ _ _ (c.in_ok-pass.ensures _)
     (costs_behind _ _ _ _ _ _ _ _ _ c.in_ok-placed.ensures
     (costs_behind _ _ _ _ _ _ _ _ _ c.in_ok-named.ensures
     (costs_behind _ _ _ _ _ _ _ _ _ c.in_ok-named-2.ensures

@@ -9,4 +9,4 @@ returns-in_err-walk c = ran_off _ _ _ _ _ _ _ _ c.from_residual.ensures.1 c.in_e
 
 pub returns : goal.returns
 unfolding walked
-returns c = ran_on _ _ _ _ _ _ _ _ _ _ c.in_ok-walk.ensures (ap walk c.as_bytes.ensures) c.seen_there.ensures refl
+returns c = ran_on _ _ _ _ _ _ _ _ _ _ c.in_ok-walk.ensures (ap walk c.as_bytes.ensures) (c.seen_there.ensures _) refl

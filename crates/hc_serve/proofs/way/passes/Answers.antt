@@ -11,8 +11,8 @@ returns-in_err-left-clause-step g c =
 pub loop-turn-preserved : goal.loop-turn-preserved
 loop-turn-preserved g c = (
   pass_more _ _ _ _ _ _ _ _ _ _ c.loop-turn.invariant.0 c.loop-turn-test.true c.in_ok-left.ensures.step,
-  c.passed.ensures.fixed ∙ c.loop-turn.invariant.1,
-  λ each is. c.passed.ensures.kept each (c.loop-turn.invariant.2 each is),
+  c.passed.ensures.over.0 ∙ c.loop-turn.invariant.1,
+  λ each is. c.passed.ensures.over.1 each (c.loop-turn.invariant.2 each is),
   pass_costs _ _ _ _ _ _ _ _ _ _ _ c.loop-turn-test.true c.loop-turn.invariant.3 c.in_ok-left.ensures.step
       c.in_ok-left.ensures.counted,
 )
