@@ -163,7 +163,8 @@ module _ (files later : List (List ℕ)) (rows : List EntryRow) (row : EntryRow)
 
 -- ---- files
 
-pub same_files : (file : List ℕ) (files : List (List ℕ)) → is_last files file ≡ true → EndsWith file files files
+pub same_files : (file : List ℕ) (files : List (List ℕ)) → is_last files file ≡ true
+    → EndsWith file files files
 same_files file [] is = cc
 same_files file (first ∷ files) is =
     let count : length (first ∷ files) - 1 ≡ length files = omega arith in

@@ -1,8 +1,7 @@
 ghost use Rattle.std.specs.Prelude.{◌≡◌, ℕ, IfOk, Ok};
-ghost use Rattle.hc_steps.specs.Ran.{Logged, Ran, Takes};
-ghost use Rattle.hc_steps.specs.Run.{run};
+ghost use Rattle.hc_steps.specs.Ran.{Answers, Takes};
 ghost use Rattle.hc_steps.specs.Shown.{shown_by};
-ghost use Rattle.hc_steps.specs.Step.{Shown, ends, in_order};
+ghost use Rattle.hc_steps.specs.Step.{ends, in_order};
 ghost use Rattle.hc_include.specs.Counting.{Counts};
 ghost use Rattle.hc_include.specs.Flat.{behind_change, file_read, having_read, inner, line_read, lines_read};
 ghost use Rattle.hc_include.specs.Flat.{missing, text_read, within};
@@ -121,8 +120,7 @@ fn having_read(mut reading: Reading, text: &str) -> Result<Reading, NoMemory>
 
 #[tactic(auto, using(hc_steps::proofs::Going::telling))]
 fn stop(file: &Text, line: u32, reading: Reading, broken: AtByte) -> Result<Reading, Fault<Stopped>>
-    ensures read { (log : Logged) (shown : Shown)
-        → Ran result log log (run (ends (stopped_at file.now line reading broken)) shown) }
+    ensures read { Answers result (ends (stopped_at file.now line reading broken)) }
     ensures bytes { (count : ℕ) → Counts result count count reading.bytes }
 {
     Err(Fault::Refused(reading.stopped_at(file, line, broken)?))

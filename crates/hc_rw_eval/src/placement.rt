@@ -9,7 +9,7 @@ ghost use Rattle.hc_rw_eval.specs.Substitutions.{location_of, own_unless, path_l
 ghost use Rattle.hc_rw_eval.specs.Substitutions.{status_sent};
 ghost use Rattle.hc_rw_eval.specs.Substitutions.{stops, text_placed, unless_long, url_placed, with_front, with_path};
 ghost use Rattle.hc_rw_expand.specs.Contexts.{context_of, engine_of};
-ghost use Rattle.hc_steps.specs.Ran.{Takes, Tells};
+ghost use Rattle.hc_steps.specs.Ran.{Answers, Takes, Tells};
 ghost use Rattle.hc_template.specs.Variables.{origin};
 
 use crate::attempt::Rewritten;
@@ -52,8 +52,8 @@ fn stops(flags: &Flags) -> bool
 
 // A rule that sends the request elsewhere ends the list, or no rule follows it.
 #[tactic(auto, unfolding(crate::specs::Substitutions::sent), using(hc_steps::proofs::Going::telling))]
-fn sent(log: &mut Log, flags: &Flags, followed: bool, location: Text) -> Result<Rewritten, Stop>
-    ensures { Tells result log (sent flags.now followed location) }
+fn sent(flags: &Flags, followed: bool, location: Text) -> Result<Rewritten, Stop>
+    ensures { Answers result (sent flags.now followed location) }
 {
     if followed && !stops(flags) {
         return Err(Fault::Refused(Outcome::Outside(Reason::Scheme)));
@@ -109,7 +109,7 @@ fn url_placed<P: Lookups>(
     let Some(text) = path else {
         let front = Vec::new(log.allocator());
         let location = location_of(frame.context, flags, front, &state)?;
-        return sent(log, flags, followed, location);
+        return sent(flags, followed, location);
     };
     told_text(log, RwState { text, ..state })
 }
@@ -242,7 +242,7 @@ fn path_placed<P: Lookups>(
         return told_text(log, state);
     }
     let location = path_location(log.allocator(), frame.context, flags, state)?;
-    sent(log, flags, followed, location)
+    sent(flags, followed, location)
 }
 
 #[tactic(auto, unfolding(crate::specs::Substitutions::front_placed), using(hc_steps::proofs::Going::telling))]

@@ -5,7 +5,7 @@ ghost use Rattle.hc_rw_eval.specs.Frames.{context_at, looks_at, shown_at};
 ghost use Rattle.hc_rw_eval.specs.Lists.{from_place, has_chain, is_followed, next_by, skipped_chain, stops_run};
 ghost use Rattle.hc_rw_eval.specs.Lists.{with_end};
 ghost use Rattle.hc_rw_eval.specs.Turns.{rule_held, turned, turned_match};
-ghost use Rattle.hc_steps.specs.Ran.{Takes, Tells};
+ghost use Rattle.hc_steps.specs.Ran.{Answers, Takes};
 
 use crate::attempt::{Attempt, Looked, Rewritten, looked_in, pattern_held, with_groups};
 use crate::frame::{Frame, Stop};
@@ -93,8 +93,8 @@ fn next_by(rule: &Rule, left: Rewritten) -> Result<NextRound, NoMemory>
 
 // A rule that matched. N in a round that is its bound ends the request.
 #[tactic(auto, unfolding(crate::specs::Turns::turned_match), using(hc_steps::proofs::Going::telling))]
-fn turned_match(log: &mut Log, rule: &Rule, round: u32, left: Rewritten) -> Result<Turn, Stop>
-    ensures { Tells result log (turned_match rule.now round left) }
+fn turned_match(rule: &Rule, round: u32, left: Rewritten) -> Result<Turn, Stop>
+    ensures { Answers result (turned_match rule.now round left) }
 {
     let flags = &rule.flags;
     if stops_run(flags) {
@@ -116,15 +116,8 @@ fn turned_match(log: &mut Log, rule: &Rule, round: u32, left: Rewritten) -> Resu
 }
 
 #[tactic(auto, unfolding(crate::specs::Turns::turned), using(hc_steps::proofs::Going::telling))]
-fn turned<P: Lookups>(
-    frame: &Frame<'_, P>,
-    log: &mut Log,
-    rule: &Rule,
-    behind: &[Rule],
-    round: u32,
-    attempt: Attempt,
-) -> Result<Turn, Stop>
-    ensures { Takes result log (turned rule.now behind.now round attempt) (shown_at frame.now) }
+fn turned(rule: &Rule, behind: &[Rule], round: u32, attempt: Attempt) -> Result<Turn, Stop>
+    ensures { Answers result (turned rule.now behind.now round attempt) }
 {
     if !attempt.matched {
         return Ok(Turn::Further {
@@ -132,7 +125,7 @@ fn turned<P: Lookups>(
             left: attempt.left,
         });
     }
-    turned_match(log, rule, round, attempt.left)
+    turned_match(rule, round, attempt.left)
 }
 
 fn is_followed(behind: &[Rule]) -> bool
@@ -155,7 +148,7 @@ fn rule_held<P: Lookups>(
         (looks_at P.files P.values frame.now) rule.now behind.now round before) (shown_at frame.now) }
 {
     let attempt = pattern_held(frame, log, rule, is_followed(behind), before)?;
-    turned(frame, log, rule, behind, round, attempt)
+    turned(rule, behind, round, attempt)
 }
 
 /// A round, counted from 1, through the rules of a list.

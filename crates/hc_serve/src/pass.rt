@@ -102,7 +102,7 @@ fn reached<O: Overrides>(
     let pass = told_pass(log, pass)?;
     let placed = rewritten(asked, log, pass)?;
     let named = name_of(asked, log, placed)?;
-    let named = merged(asked.world, log, named)?;
+    let named = merged(log, named)?;
     let there = walked(asked.world, log, named)?;
     in_force(asked, log, over, there)
 }
@@ -170,8 +170,8 @@ fn name_of(asked: &Asked<'_>, log: &mut Log, placed: Placed) -> Result<Named, St
 
 // Repeated slashes of the name are merged. A segment of dots is outside.
 #[tactic(auto, unfolding(crate::specs::Passing::merged), using(hc_steps::proofs::Going::telling))]
-fn merged(world: &World, log: &mut Log, named: Named) -> Result<Named, Stop>
-    ensures { Takes result log (merged named) (shown_by world.now.files) }
+fn merged(log: &mut Log, named: Named) -> Result<Named, Stop>
+    ensures { Tells result log (merged named) }
 {
     let name = merge_slashes(log.allocator(), named.name.as_bytes())?;
     without_dots(log, Named { name, ..named })

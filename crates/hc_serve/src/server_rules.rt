@@ -8,7 +8,7 @@ ghost use Rattle.hc_serve.specs.Passing.{rewritten, rules_run, text_left};
 ghost use Rattle.hc_serve.specs.ServerRules.{context_at, is_there, looks_of, maps_at, own_name, pass_with, rules_at};
 ghost use Rattle.hc_serve.specs.ServerRules.{state_at};
 ghost use Rattle.hc_serve.specs.Site.{site_of};
-ghost use Rattle.hc_steps.specs.Ran.{Takes, Tells};
+ghost use Rattle.hc_steps.specs.Ran.{Answers, Takes, Tells};
 ghost use Rattle.hc_steps.specs.Shown.{shown_by};
 
 use crate::asked::Asked;
@@ -218,12 +218,12 @@ fn path_left(log: &mut Log, pass: Pass, text: Text) -> Result<Placed, Stop>
     ensures { Tells result log (path_left pass text) }
 {
     let path = merge_slashes(log.allocator(), text.as_bytes())?;
-    path_without_dots(log, pass, path)
+    path_without_dots(pass, path)
 }
 
 #[tactic(auto, unfolding(crate::specs::Passing::path_without_dots), using(hc_steps::proofs::Going::telling))]
-fn path_without_dots(log: &mut Log, pass: Pass, path: Text) -> Result<Placed, Stop>
-    ensures { Tells result log (path_without_dots pass path) }
+fn path_without_dots(pass: Pass, path: Text) -> Result<Placed, Stop>
+    ensures { Answers result (path_without_dots pass path) }
 {
     if has_dots(path.as_bytes()) {
         return Err(Fault::Refused(Outcome::Outside(Reason::DotSegment)));

@@ -53,7 +53,7 @@ fn opened(config: &Config, world: &World, log: &mut Log, request: &Request) -> R
     ensures step { Takes result log (opened config.now request.now) (shown_by world.now.files) }
     ensures host { IfOk result (λ opened. IsHostOf config.now opened.host) }
 {
-    let host = host_of(config, world, log, request)?;
+    let host = host_of(config, log, request)?;
     let pass = first_pass(log, request)?;
     Ok(Opened { host, pass })
 }
@@ -86,8 +86,8 @@ fn passes_of<O: Overrides>(
 }
 
 // The server that answers.
-fn host_of(config: &Config, world: &World, log: &mut Log, request: &Request) -> Result<HostId, Stop>
-    ensures step { Takes result log (host_of config.now request.now) (shown_by world.now.files) }
+fn host_of(config: &Config, log: &mut Log, request: &Request) -> Result<HostId, Stop>
+    ensures step { Tells result log (host_of config.now request.now) }
     ensures host { IfOk result (IsHostOf config.now) }
 {
     let host = choose(

@@ -68,6 +68,10 @@ abbrev pub Tells : {E A : Type 0} → Result A (Fault E) → Both (MutBor Logged
     → Type 0
 Tells result log step = (shown : Shown) → Takes result log step shown
 
+-- The answer is that of a step that tells nothing either, whatever the log holds.
+abbrev pub Answers : {E A : Type 0} → Result A (Fault E) → Step E A → Type 0
+Answers result step = (log : Logged) (shown : Shown) → Ran result log log (run step shown)
+
 -- Whatever the rest comes to from this log on, the whole comes to from the first one.
 pub record Leads {E A : Type 0} (old : Logged) (whole : Run E A) (now : Logged) (rest : Run E A) : Type 0 where
   pub leads : (answer : Result A (Fault E)) (new : Logged) → Ran answer now new rest → Ran answer old new whole

@@ -9,4 +9,4 @@ returns-in_err-attempt g c =
 
 pub returns : goal.returns
 unfolding rule_held
-returns g c = ran_then _ _ _ _ _ _ _ _ (rw c.is_followed.ensures at c.in_ok-attempt.ensures) c.turned.ensures
+returns g c = ran_then _ _ _ _ _ _ _ _ (rw c.is_followed.ensures at c.in_ok-attempt.ensures) (c.turned.ensures _ _)

@@ -23,7 +23,7 @@ returns-in_err-named-2-clause-step g c =
     ran_then _ _ _ _ _ _ _ _ (c.in_ok-pass.ensures _)
     (ran_then _ _ _ _ _ _ _ _ c.in_ok-placed.ensures
     (ran_then _ _ _ _ _ _ _ _ c.in_ok-named.ensures
-    (ran_off _ _ _ _ _ _ _ _ c.from_residual-in_err-named-2.ensures.1 c.in_err-named-2.ensures refl)))
+    (ran_off _ _ _ _ _ _ _ _ c.from_residual-in_err-named-2.ensures.1 (c.in_err-named-2.ensures _) refl)))
 
 pub returns-in_err-there-clause-step : goal.returns-in_err-there-clause-step
 unfolding reached reached_from ◌>>=◌
@@ -31,7 +31,7 @@ returns-in_err-there-clause-step g c =
     ran_then _ _ _ _ _ _ _ _ (c.in_ok-pass.ensures _)
     (ran_then _ _ _ _ _ _ _ _ c.in_ok-placed.ensures
     (ran_then _ _ _ _ _ _ _ _ c.in_ok-named.ensures
-    (ran_then _ _ _ _ _ _ _ _ c.in_ok-named-2.ensures
+    (ran_then _ _ _ _ _ _ _ _ (c.in_ok-named-2.ensures _)
     (ran_off _ _ _ _ _ _ _ _ c.from_residual-in_err-there.ensures.1 c.in_err-there.ensures refl))))
 
 pub returns-clause-step : goal.returns-clause-step
@@ -40,7 +40,7 @@ returns-clause-step g c =
     ran_then _ _ _ _ _ _ _ _ (c.in_ok-pass.ensures _)
     (ran_then _ _ _ _ _ _ _ _ c.in_ok-placed.ensures
     (ran_then _ _ _ _ _ _ _ _ c.in_ok-named.ensures
-    (ran_then _ _ _ _ _ _ _ _ c.in_ok-named-2.ensures
+    (ran_then _ _ _ _ _ _ _ _ (c.in_ok-named-2.ensures _)
     (ran_then _ _ _ _ _ _ _ _ c.in_ok-there.ensures c.in_force.ensures.step))))
 
 pub returns-clause-counted : goal.returns-clause-counted
@@ -49,5 +49,5 @@ returns-clause-counted g c =
     costs_behind _ _ _ _ _ _ _ _ _ (c.in_ok-pass.ensures _)
     (costs_behind _ _ _ _ _ _ _ _ _ c.in_ok-placed.ensures
     (costs_behind _ _ _ _ _ _ _ _ _ c.in_ok-named.ensures
-    (costs_behind _ _ _ _ _ _ _ _ _ c.in_ok-named-2.ensures
+    (costs_behind _ _ _ _ _ _ _ _ _ (c.in_ok-named-2.ensures _)
     (costs_behind _ _ _ _ _ _ _ _ _ c.in_ok-there.ensures c.in_force.ensures.counted))))
