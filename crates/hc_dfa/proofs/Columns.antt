@@ -1,6 +1,6 @@
 -- Where bytes lead from all states.
 use Rattle.hc_dfa.proofs.Common.{◌≡◌, ℕ, ◌<◌, List, length, slice_index, slice_get, Some, sym}
-use Rattle.hc_dfa.proofs.Common.{◌∙◌, ap, Automaton, Classing, AreClasses, AreColumns, IsAsFine, IsColumn}
+use Rattle.hc_dfa.proofs.Common.{◌∙◌, ap, Automaton, Classing, AreClasses, AreColumns, IsColumn}
 use Rattle.hc_dfa.proofs.Common.{Tells, TellsByNumber, class_of}
 use Rattle.hc_dfa.proofs.Tables.{stands_for}
 
@@ -23,10 +23,6 @@ columns_made a bytes numbers columns len each = record {
     one : (k j : ℕ) (kb : k < length bytes) (jb : j < length bytes)
         → slice_index numbers k ≡ slice_index numbers j → (each k kb).0 ≡ (each j jb).0
     one k j kb jb e = let x = (each k kb).1 in let y = (each j jb).1 in cc
-
-pub numbers_tell : (c : Classing) (a : Automaton) (numbers : List ℕ) → IsAsFine c numbers
-    → TellsByNumber numbers a → Tells c a
-numbers_tell c a numbers fine tells s b d below bb db same = tells b d bb db (fine b d bb db same) s below
 
 pub columns_tell : (c : Classing) (a : Automaton) (columns numbers : List ℕ) → AreClasses c → Tells c a
     → AreColumns a c.firsts columns

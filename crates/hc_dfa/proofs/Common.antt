@@ -7,8 +7,8 @@ pub use Rattle.std.proofs.Common.{inl, inr, arith, drop-cons, add-one, sym, ◌|
 pub use Rattle.std.proofs.Common.{slice_index_or, slice_set, Bool, true, get_or-set_same, get_or-set_other, slice_get}
 pub use Rattle.std.proofs.Common.{Some, Vec, ◌&&◌, IsTrue, ◌++◌, length-append, Option, None, ◌-◌, map}
 pub use Rattle.std.proofs.Common.{get_or, rules, ◌^◌, if◌then◌else◌, vec_len, ◌==◌, append_assoc}
-pub use Rattle.std.proofs.Common.{append-nil}
-pub use Rattle.std.proofs.Math.Nat.{div-add-mod, div-lt_iff_lt-mul, mod-lt, add-mul}
+pub use Rattle.std.proofs.Common.{append-nil, suc, zero}
+pub use Rattle.std.proofs.Math.Nat.{div-add-mod, add-mul}
 pub use Rattle.std.proofs.Math.Seq.{get_or-append_seam}
 pub use Rattle.std.proofs.lemmas.Grind.{common_steps, same_number_lists}
 pub use Rattle.std.proofs.lemmas.List.{get_or_default, get_or_append_left, get_or-map, length-map}
@@ -34,7 +34,7 @@ pub use Rattle.hc_dfa.specs.Sets.{AreChanges, ArePieces, AreStates, FollowsTo, G
 pub use Rattle.hc_dfa.specs.Sets.{IsClosure, IsMark, IsMarked, IsProper, IsRead, IsStep, LeadsTo, Marks, SilentPath}
 pub use Rattle.hc_dfa.specs.Sets.{TellsSteps}
 pub use Rattle.hc_dfa.specs.Sets.SilentPath.{stays, goes_on}
-pub use Rattle.hc_dfa.specs.Singles.{single, single_step, IsSingle, is_among, AreFound}
+pub use Rattle.hc_dfa.specs.Singles.{single, single_step, is_among, AreFound}
 pub use Rattle.hc_dfa.specs.Texts.{IsText, TextSet, IsEmptySet, IsLeast, comes_before, byte_order, IsLeastOf}
 pub use Rattle.hc_dfa.specs.declared.leasts.TheConstants.{NONE}
 pub use Rattle.hc_dfa.specs.declared.machine.Bytes.{Bytes}

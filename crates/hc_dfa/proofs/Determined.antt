@@ -1,21 +1,17 @@
 -- The automaton of sets of a machine's states.
-use Rattle.hc_dfa.proofs.Common.{◌≡◌, ℕ, ◌<◌, List, [], ◌∷◌, length, Bool, true, refl, sym, subst}
-use Rattle.hc_dfa.proofs.Common.{inl, inr, Some, slice_get, arith, ap}
-use Rattle.hc_dfa.proofs.Common.{◌∙◌, slice_get_within, Automaton, next_state, accepts_from, accepts, Machine}
+use Rattle.hc_dfa.proofs.Common.{◌≡◌, ℕ, ◌<◌, List, [], ◌∷◌, Bool, true, refl, sym, subst}
+use Rattle.hc_dfa.proofs.Common.{inl, inr, Some, slice_get, arith}
+use Rattle.hc_dfa.proofs.Common.{Automaton, next_state, accepts_from, accepts, Machine}
 use Rattle.hc_dfa.proofs.Common.{PathToFinal, AcceptsPaths, Contains, SilentPath, IsClosure, IsProper, IsStep, IsMark}
-use Rattle.hc_dfa.proofs.Common.{TellsSteps, stays, goes_on, IsText, Classing, AreClasses, class_count}
-use Rattle.hc_dfa.proofs.Common.{class_of, first_of, expanded}
+use Rattle.hc_dfa.proofs.Common.{stays, goes_on, IsText, Classing}
 use Rattle.hc_dfa.specs.Machines.PathToFinal.{ends, passes, reads}
 use Rattle.std.proofs.lemmas.List.Elements.{Contains-push_cases}
-use Rattle.hc_dfa.proofs.Cells.{mark_at, leads_at}
-use Rattle.hc_dfa.specs.Explored.{IsTableOf}
-use Rattle.hc_dfa.proofs.Tables.{cell_within, expanded_at}
+use Rattle.hc_dfa.proofs.Keyed.{AreKeyed, leads_on, made, marked}
 
--- Each set has a row and a mark.
-pub record AllSets (m : Machine) (c : Classing) (rows : List ℕ) (finals : List Bool) : Type 0 where
-  pub classes : AreClasses c
-  pub tells : TellsSteps m c
-  pub table : IsTableOf (IsClosure m (0 ∷ [])) (IsProper m) (IsStep m) (IsMark m.finals.items) c.firsts rows finals
+-- The states stand for sets of the machine's states.
+abbrev pub AllSets : Machine → Classing → List ℕ → List Bool → Type 0
+AllSets m c rows finals =
+    AreKeyed (IsClosure m (0 ∷ [])) (IsProper m) (IsStep m) (IsMark m.finals.items) c rows finals
 
 -- A silent path in front of a path.
 pub after_silent : (m : Machine) (from : ℕ) {state : ℕ} (text : List ℕ) → SilentPath m from state
@@ -28,42 +24,26 @@ module _ (m : Machine) (c : Classing) (rows : List ℕ) (finals : List Bool)
   abbrev sets : List (List ℕ)
   sets = is.table.keys
 
-  abbrev pub made : Automaton
-  made = record { next = expanded c rows (length finals); finals = finals }
+  abbrev pub automaton : Automaton
+  automaton = made (IsClosure m (0 ∷ [])) (IsProper m) (IsStep m) (IsMark m.finals.items) c rows finals is
 
   mark_here : (state : ℕ) (set : List ℕ) → slice_get sets state ≡ Some set
-      → IsMark m.finals.items set (accepts_from made state [])
-  mark_here state set at =
-      mark_at (IsMark m.finals.items) sets made.finals state set is.table.rows.marked
-      (let w = slice_get_within sets state set at in let all = is.table.all in omega arith) at
+      → IsMark m.finals.items set (accepts_from automaton state [])
+  mark_here = marked _ _ _ _ c rows finals is
 
   step_here : (state byte : ℕ) (set : List ℕ) → slice_get sets state ≡ Some set → byte < 256
-      → (to : List ℕ) × (slice_get sets (next_state made state byte) ≡ Some to)
-      × IsStep m set byte to
-  step_here state byte set at below =
-      let class = is.classes.within byte below in
-      let here : state < length finals = (let w = slice_get_within sets state set at in let all = is.table.all in
-      omega arith) in
-      let leads = leads_at (class_count c) (IsProper m)
-      (λ from k to. IsStep m from (first_of c k) to) sets rows
-      state (class_of c byte) set is.table.rows.explored at
-      (rw is.table.rows.rows (cell_within (class_count c) state (class_of c byte) (length finals) here class))
-      class in (
-        leads.0,
-        ap (λ k. slice_get sets k) (expanded_at c rows (length finals) state byte here below) ∙ leads.1,
-        is.tells set leads.0 (first_of c (class_of c byte)) byte (is.classes.below (class_of c byte) class)
-            below (is.classes.own (class_of c byte) class) leads.2,
-      )
+      → (to : List ℕ) × (slice_get sets (next_state automaton state byte) ≡ Some to) × IsStep m set byte to
+  step_here = leads_on _ _ _ _ c rows finals is
 
   -- What a set accepts, a path from one of its states reads.
   pub to_path : (text : List ℕ) (state : ℕ) (set : List ℕ) → slice_get sets state ≡ Some set
-      → IsText text → accepts_from made state text ≡ true
+      → IsText text → accepts_from automaton state text ≡ true
       → (from : ℕ) × Contains set from × PathToFinal m from text
   to_path [] state set at bytes accepted = let found = (mark_here state set at).found accepted in
       (found.0, found.1, ends found.2)
   to_path (byte ∷ text) state set at bytes accepted =
       let to = step_here state byte set at bytes.0 in
-      let later = to_path text (next_state made state byte) to.0 to.1 bytes.1 accepted in
+      let later = to_path text (next_state automaton state byte) to.0 to.1 bytes.1 accepted in
       let closed = to.2.closes.sound later.0 later.1 in
       let read = (to.2.reads closed.0).0 closed.1 in
       (read.0, read.1, reads read.2 (after_silent m closed.0 text closed.2 later.2))
@@ -71,16 +51,16 @@ module _ (m : Machine) (c : Classing) (rows : List ℕ) (finals : List Bool)
   -- A set accepts what a path from one of its states reads.
   pub from_path : {text : List ℕ} {from : ℕ} (state : ℕ) (set : List ℕ)
       → slice_get sets state ≡ Some set → IsText text → Contains set from
-      → PathToFinal m from text → accepts_from made state text ≡ true
+      → PathToFinal m from text → accepts_from automaton state text ≡ true
   from_path {from = from} state set at bytes has (ends final) = (mark_here state set at).none from has final
   from_path {from = from} state set at bytes has (passes {next = next} step path) =
       from_path state set at bytes ((is.table.rows.explored.proper state set at).closed next (from, has, step)) path
   from_path {from = from} state set at bytes has (reads {next = next} {byte = byte} step path) =
       let to = step_here state byte set at bytes.0 in
-      from_path (next_state made state byte) to.0 to.1 bytes.1
+      from_path (next_state automaton state byte) to.0 to.1 bytes.1
       (to.2.closes.keeps next ((to.2.reads next).1 (from, has, step))) path
 
-  pub determined : AcceptsPaths m made
+  pub determined : AcceptsPaths m automaton
   unfolding accepts
   determined text bytes =
       let first = is.table.rows.first.0 in

@@ -10,6 +10,8 @@ pub mod Grouped
 pub mod Columns
 pub mod Pieces
 pub mod Cells
+pub mod Keyed
+pub mod ReadOn
 pub mod Pairs
 pub mod Nearest
 pub mod Outside
@@ -21,3 +23,7 @@ pub mod Alone
 pub mod Found
 pub mod Following
 pub mod Steps
+pub mod Sole
+pub mod Filled
+pub mod Placing
+pub mod Among

@@ -1,20 +1,17 @@
 -- Tables by classes of bytes.
 use Rattle.hc_dfa.proofs.Common.{◌≡◌, ℕ, ◌+◌, ◌*◌, ◌/◌, ◌%◌, ◌<◌, List, length, map}
-use Rattle.hc_dfa.proofs.Common.{slice_index, Bool, sym, ◌∙◌, ap, arith, not, ◌++◌, [], ◌∷◌, ◌⊎◌}
-use Rattle.hc_dfa.proofs.Common.{inl, inr, length-append, div-mul-add, mod-mul-add, mul-add-lt, div-lt_iff_lt-mul}
-use Rattle.hc_dfa.proofs.Common.{mod-lt, length-map, get_or_append_left, get_or-append_seam, same_number_lists}
+use Rattle.hc_dfa.proofs.Common.{slice_index, Bool, sym, ◌∙◌, ap, arith, not}
+use Rattle.hc_dfa.proofs.Common.{div-mul-add, mod-mul-add, mul-add-lt}
+use Rattle.hc_dfa.proofs.Common.{length-map, same_number_lists}
 use Rattle.hc_dfa.proofs.Common.{Automaton, states, next_state, IsTable, Classing, class_of, first_of, class_count}
 use Rattle.hc_dfa.proofs.Common.{AreClasses, IsAsFine, Tells, IsRows, expanded, Accepts, complement_of}
 use Rattle.std.proofs.lemmas.List.FromFn.{get_or-map-range_with_len, length-map-range_with_len}
-use Rattle.hc_dfa.proofs.Runs.{IsAutomaton, complemented}
+use Rattle.hc_dfa.proofs.Runs.{complemented}
 
 -- A place in a row is a place in the table.
 pub cell_within : (width row place count : ℕ) → row < count → place < width
     → row * width + place < count * width
 cell_within width row place count r p = omega (arith, mul-add-lt row width place count r p)
-
-pub class_some : (c : Classing) → AreClasses c → 0 < class_count c
-class_some c is = let w = is.within 0 (omega arith) in omega arith
 
 -- The least byte of a byte's class stands for it.
 pub stands_for : (c : Classing) (a : Automaton) → AreClasses c → Tells c a → (s byte : ℕ) → s < states a
@@ -76,73 +73,6 @@ expanded_tells c rows finals s b d below bb db same =
     expanded_at c rows (length finals) s b below bb
     ∙ (ap (λ x. slice_index rows (s * class_count c + x)) same
     ∙ sym (expanded_at c rows (length finals) s d below db))
-
--- The rows have the automaton's steps by these bytes.
-pub IsCut : List ℕ → Automaton → List ℕ → Type 0
-IsCut bytes a rows = (k : ℕ) → k < length rows
-    → slice_index rows k ≡ next_state a (k / length bytes) (slice_index bytes (k % length bytes))
-
-pub cut_none : (bytes : List ℕ) (a : Automaton) → IsCut bytes a []
-unfolding IsCut
-cut_none bytes a k below = absurd (omega arith)
-
-pub cut_more : (bytes : List ℕ) (a : Automaton) (rows : List ℕ) (count target : ℕ) → IsCut bytes a rows
-    → length rows ≡ count
-    → target ≡ next_state a (count / length bytes) (slice_index bytes (count % length bytes))
-    → IsCut bytes a (rows ++ target ∷ [])
-unfolding IsCut
-cut_more bytes a rows count target cut len is k below =
-    let l = length-append rows (target ∷ []) in
-    let cases : (k < length rows) ⊎ (k ≡ length rows) = grind arith in
-    elim cases [
-      | inl old ↦ rw (get_or_append_left rows (target ∷ []) 0 k old) (cut k old)
-      | inr e ↦ rw (e, get_or-append_seam rows target [] 0, len) is
-    ]
-
-module _ (c : Classing) (a : Automaton) (rows : List ℕ) (is : IsAutomaton a) (classes : AreClasses c)
-    (tells : Tells c a)
-    (whole : length rows ≡ states a * class_count c) (cut : IsCut c.firsts a rows) where
-  cut_at : (s byte : ℕ) → s < states a → byte < 256 → slice_index rows (s * class_count c + class_of c byte)
-      ≡ next_state a s byte
-  unfolding IsCut
-  cut_at s byte below b =
-      let width = class_count c in
-      let w = classes.within byte b in
-      let cell = cell_within width s (class_of c byte) (states a) below w in
-      cut (s * width + class_of c byte) (rw whole cell)
-      ∙ (ap (λ x. next_state a x (first_of c ((s * width + class_of c byte) % width)))
-      (div-mul-add s width (class_of c byte) w)
-      ∙ (ap (λ x. next_state a s (first_of c x)) (mod-mul-add s width (class_of c byte) w)
-      ∙ stands_for c a classes tells s byte below b))
-
-  pub cut_table : expanded c rows (states a) ≡ a.next
-  cut_table =
-      same_number_lists _ _ (expanded_length c rows (states a) ∙ sym is.whole)
-      (λ k below.
-      let here : k < 256 * states a = (let e = expanded_length c rows (states a) in omega arith) in
-      let whole_cell : 256 * (k / 256) + k % 256 ≡ k = omega arith in
-      expanded_cell c rows (states a) k here
-      ∙ (cut_at (k / 256) (k % 256) (omega arith) (omega arith) ∙ ap (λ x. slice_index a.next x) whole_cell))
-
-  pub cut_rows : IsRows c rows a.finals
-  unfolding IsCut
-  cut_rows = record {
-    some = is.some;
-    few = is.few;
-    classes = classes;
-    whole = whole;
-    within = λ k below.
-        let some = class_some c classes in
-        let row : k / class_count c < states a = (div-lt_iff_lt-mul some).1 (rw whole at below) in
-        let place = classes.below (k % class_count c) (mod-lt k some) in
-        rw (cut k below)
-        (is.within (256 * (k / class_count c) + first_of c (k % class_count c)) (let w = is.whole in omega arith));
-  }
-
-  pub cut_made : (finals : List Bool) → finals ≡ a.finals
-      → record { next = expanded c rows (length finals); finals = finals } ≡ a
-  cut_made finals e = ap (λ (f : List Bool). record { next = expanded c rows (length f); finals = f }) e
-      ∙ ap (λ (n : List ℕ). record { next = n; finals = a.finals }) cut_table
 
 -- A table with an entry for each byte is its own.
 pub single_table : (c : Classing) (rows : List ℕ) (finals : List Bool) → AreClasses c → class_count c ≡ 256

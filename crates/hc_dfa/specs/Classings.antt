@@ -31,6 +31,20 @@ pub record AreClassesBelow (bound : ℕ) (c : Classing) : Type 0 where
 abbrev pub AreClasses : Classing → Type 0
 AreClasses c = AreClassesBelow 256 c
 
+-- The byte lies between two of its class that are among these.
+pub record IsEnclosed (c : Classing) (ends : List ℕ) (byte : ℕ) : Type 0 where
+  pub low : ℕ
+  pub high : ℕ
+  pub low_within : low < length ends
+  pub high_within : high < length ends
+  pub low_alike : class_of c (slice_index ends low) ≡ class_of c byte
+  pub high_alike : class_of c (slice_index ends high) ≡ class_of c byte
+  pub from : slice_index ends low ≤ byte
+  pub to : byte ≤ slice_index ends high
+
+abbrev pub HasEnds : Classing → List ℕ → Type 0
+HasEnds c ends = (byte : ℕ) → byte < 256 → IsEnclosed c ends byte
+
 -- Bytes of one class have the same number.
 abbrev pub IsAsFine : Classing → List ℕ → Type 0
 IsAsFine c numbers =

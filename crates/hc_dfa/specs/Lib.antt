@@ -6,8 +6,13 @@ pub mod Distances
 pub mod Explored
 pub mod Graphs
 pub mod Images
+pub mod Lists
 pub mod Machines
+pub mod Members
 pub mod Pairs
+pub mod Placings
+pub mod Readings
 pub mod Sets
 pub mod Singles
+pub mod Tabled
 pub mod Texts

@@ -1,9 +1,9 @@
 -- The automaton of one text, and the texts that are found one after another.
-use Rattle.std.specs.Prelude.{◌≡◌, ℕ, ◌+◌, ◌*◌, ◌<◌, ◌/◌, ◌%◌, ◌==◌, ◌&&◌, not}
+use Rattle.std.specs.Prelude.{◌≡◌, ℕ, ◌+◌, ◌<◌, ◌⊎◌, ◌==◌, ◌&&◌, not}
 use Rattle.std.specs.Prelude.{nat_eq, nat_lt, IsTrue, List, length, slice_index, Bool, false, if◌then◌else◌}
 use Rattle.std.specs.List.{AllByRecursion, list_any}
 use Rattle.std.specs.Cmp.Lexicographic.{pointwise}
-use Rattle.hc_dfa.specs.Automata.{Automaton, states, is_final}
+use Rattle.hc_dfa.specs.Automata.{Automaton}
 use Rattle.hc_dfa.specs.Built.{Accepts, IsInOrder}
 use Rattle.hc_dfa.specs.Texts.{TextSet, IsText, comes_before}
 
@@ -16,12 +16,13 @@ abbrev pub single_step : List ℕ → ℕ → ℕ → ℕ
 single_step text state byte = if (nat_lt state (length text) && (slice_index text state == byte)) then state + 1
     else length text + 1
 
--- The table of the automaton of one text.
-pub record IsSingle (text : List ℕ) (a : Automaton) : Type 0 where
-  pub len : states a ≡ length text + 2
-  pub each : (cell : ℕ) → cell < 256 * (length text + 2)
-      → slice_index a.next cell ≡ single_step text (cell / 256) (cell % 256)
-  pub final : (state : ℕ) → state < length text + 2 → is_final a state ≡ (state == length text)
+-- So many bytes of the text have numbers of their own, and all others have 0.
+pub record AreOwn (text : List ℕ) (count : ℕ) (numbers : List ℕ) : Type 0 where
+  pub len : length numbers ≡ 256
+  pub bytes : (byte : ℕ) → byte < 256
+      → (slice_index numbers byte ≡ 0) ⊎ (slice_index numbers byte ≡ byte + 1)
+  pub each : (place : ℕ) → place < count
+      → slice_index numbers (slice_index text place) ≡ slice_index text place + 1
 
 -- The text is one of these.
 abbrev pub is_among : List (List ℕ) → List ℕ → Bool

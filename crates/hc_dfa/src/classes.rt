@@ -1,6 +1,6 @@
 ghost use Rattle.std.specs.Prelude.{◌≡◌, ℕ, ◌<◌, ◌≤◌, ◌⊎◌, ◌^◌, length, slice_index};
 ghost use Rattle.std.specs.Prelude.{vec_len, IfOk};
-ghost use Rattle.hc_dfa.specs.Classings.{AreClasses, IsAsFine, class_count, class_of, first_of};
+ghost use Rattle.hc_dfa.specs.Classings.{AreClasses, HasEnds, IsAsFine, class_count, class_of, first_of};
 
 use crate::dfa::BYTES;
 use hc_base::NoMemory;
@@ -85,6 +85,19 @@ impl Classes {
         ensures few { result ≤ 256 }
     {
         self.firsts.len()
+    }
+
+    /// The greatest and the least byte of each class.
+    pub fn ends(&self, alloc: Global) -> Result<Vec<u8>, NoMemory>
+        ensures { IfOk result (λ ends. HasEnds self.now ends.items) }
+    {
+        let firsts = self.firsts();
+        let mut ends = firsts.to_vec(alloc)?;
+        for byte in 0..BYTES {
+            ends[self.class_of(byte as u8) as usize] = byte as u8;
+        }
+        ends.extend_from_slice(firsts)?;
+        Ok(ends)
     }
 
     /// The least byte of each class, in order.

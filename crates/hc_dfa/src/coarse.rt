@@ -1,11 +1,12 @@
 ghost use Rattle.std.specs.Prelude.{◌≡◌, ℕ, ◌<◌, length, slice_index, vec_len, IfOk};
-ghost use Rattle.hc_dfa.specs.Automata.{next_state, states};
+ghost use Rattle.hc_dfa.specs.Automata.{is_final, next_state, states};
 ghost use Rattle.hc_dfa.specs.Classings.{AreColumns, IsColumn, TellsByNumber};
 
 use crate::Dfa;
 use crate::classes::Classes;
 use crate::dfa::BYTES;
 use crate::numbers::number_of;
+use crate::tabled::{Transitions, tabled};
 use hc_base::{List, NoMemory};
 use indexmap::IndexSet;
 use std::alloc::Global;
@@ -16,14 +17,27 @@ pub fn coarsened(alloc: Global, a: &Dfa) -> Result<Dfa, NoMemory>
 {
     let numbers = byte_numbers(alloc, a)?;
     let classes = Classes::of_numbers(alloc, &numbers)?;
-    let bytes = classes.firsts();
-    let mut rows = Vec::new(alloc);
-    for cell in 0..a.states() as usize * bytes.len() {
-        let state = (cell / bytes.len()) as u32;
-        rows.push(a.next_state(state, bytes[cell % bytes.len()]))?;
+    let made = tabled(alloc, a, classes, a.states())?;
+    let _ = made.start();
+    Ok(made)
+}
+
+impl Transitions for Dfa {
+    ghost is_sound = { λ a. Unit {0} };
+
+    ghost count = { λ a. states a };
+
+    ghost step = { λ a. next_state a };
+
+    ghost mark = { λ a. is_final a };
+
+    fn next(&self, state: u32, byte: u8) -> u32 {
+        self.next_state(state, byte)
     }
-    let finals = a.finals(alloc)?;
-    Ok(Dfa::made(classes, rows, finals))
+
+    fn is_final(&self, state: u32) -> bool {
+        Dfa::is_final(self, state)
+    }
 }
 
 /// A number for each byte: bytes with the same number lead from each state to the same state.

@@ -1,6 +1,6 @@
 ghost use Rattle.std.specs.Prelude.{◌≡◌, ℕ, ◌<◌, ◌≤◌, ◌^◌, IfOk, map, not};
 ghost use Rattle.std.specs.Prelude.{length, slice_index, vec_len};
-ghost use Rattle.hc_dfa.specs.Automata.{states, next_state, is_final, accepts, IsTable};
+ghost use Rattle.hc_dfa.specs.Automata.{states, next_state, is_final, accepts, run, IsTable};
 ghost use Rattle.hc_dfa.specs.Built.{Accepts, complement_of};
 ghost use Rattle.hc_dfa.specs.Classings.{AreClasses, IsRows, Tells, automaton_of};
 
@@ -101,14 +101,6 @@ impl Dfa {
         })
     }
 
-    /// Whether each state is final.
-    pub(crate) fn finals(&self, alloc: Global) -> Result<Vec<bool>, NoMemory>
-        ensures { IfOk result (λ finals. finals.items ≡ self.now.finals) }
-    {
-        let finals = self.finals.to_vec(alloc)?;
-        Ok(finals)
-    }
-
     /// The state in which each run begins.
     #[tactic(auto, using(crate::proofs::Tables::expanded_table))]
     pub fn start(&self) -> u32
@@ -145,17 +137,25 @@ impl Dfa {
         self.finals[state as usize]
     }
 
+    /// The state in which a text that is read from a state ends.
+    pub(crate) fn run(&self, state: u32, text: &[u8]) -> u32
+        requires { state < states self.now }
+        ensures value { result ≡ run self.now state text.now }
+        ensures within { result < states self.now }
+    {
+        let mut end = state;
+        for byte in text {
+            end = self.next_state(end, *byte);
+        }
+        end
+    }
+
     /// Whether the text is in the set.
     #[tactic(auto, unfolding(crate::specs::Automata::accepts))]
     pub fn accepts(&self, text: &[u8]) -> bool
         ensures { result ≡ accepts self.now text.now }
     {
-        let _ = &self.rows;
-        let mut state = 0;
-        for byte in text {
-            state = self.next_state(state, *byte);
-        }
-        self.is_final(state)
+        self.is_final(self.run(self.start(), text))
     }
 }
 

@@ -4,6 +4,9 @@ use hc_base::NoMemory;
 use indexmap::IndexSet;
 use std::hash::Hash;
 
+/// More states than this at once are refused as memory is.
+pub const MOST_STATES: u32 = 1 << 22;
+
 /// What is done with each key of a set that grows meanwhile.
 pub trait Walk {
     type Key: Eq + Hash + Drop;
@@ -35,9 +38,12 @@ pub fn explore<W: Walk>(
     ensures { OnOk result ((count : ℕ) × (length keys.new.keys ≤ count) × (count < 2 ^ 32)
         × W.has_followed walk.now gathered.new keys.new.keys count) }
 {
-    for number in 0..u32::MAX {
+    for number in 0..=MOST_STATES {
         if number as usize >= keys.len() {
             return Ok(());
+        }
+        if keys.len() > MOST_STATES as usize {
+            return Err(NoMemory);
         }
         walk.follow(gathered, keys, number)?;
     }

@@ -10,7 +10,7 @@ use hc_base::NoMemory;
 use std::alloc::Global;
 
 /// The distance of a state from which no final state can be reached.
-const NONE: u32 = u32::MAX;
+pub(crate) const NONE: u32 = u32::MAX;
 
 /// The least text that the automaton accepts: of the shortest the first in the order of bytes.
 pub fn least(alloc: Global, a: &Dfa) -> Result<Option<Member>, NoMemory>

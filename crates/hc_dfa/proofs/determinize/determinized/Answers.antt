@@ -1,4 +1,4 @@
-use Rattle.hc_dfa.proofs.Common.{[], ◌∷◌, ◌∙◌, IsClosure, IsMark, IsProper, IsStep}
+use Rattle.hc_dfa.proofs.Common.{◌∙◌}
 use Rattle.hc_dfa.proofs.Determined.{determined}
 use Rattle.hc_dfa.proofs.Cells.{table}
 use Rattle.hc_dfa.proofs.determinize.determinized.Goals as goal
@@ -10,9 +10,7 @@ table_of-requires-clause-key c =
 
 pub made-requires : goal.made-requires
 made-requires c =
-    let m = c.args.machine.now in
-    table (IsClosure m (0 ∷ [])) (IsProper m) (IsStep m) (IsMark m.finals.items) _ c.in_ok-classes.classes _ _
-    c.in_ok-classes.ensures.classes (λ i. c.in_ok-classes.classes.firsts)
+    table _ _ _ _ _ _ _ _ c.in_ok-classes.ensures.classes (λ i. c.in_ok-classes.classes.firsts)
     (rw c.firsts.ensures.value at c.in_ok-table.ensures)
 
 pub returns : goal.returns
@@ -22,6 +20,6 @@ returns c =
     c.in_ok-table.table.finals.items
     (record {
       classes = c.in_ok-classes.ensures.classes;
-      tells = c.in_ok-classes.ensures.tells;
+      tells = λ from to b d proper. c.in_ok-classes.ensures.tells from to b d;
       table = rw c.firsts.ensures.value at c.in_ok-table.ensures;
     }))

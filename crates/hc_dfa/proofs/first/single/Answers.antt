@@ -1,13 +1,10 @@
-use Rattle.std.proofs.Common.{arith}
-use Rattle.hc_dfa.proofs.Alone.{single_accepts}
+use Rattle.hc_dfa.proofs.Alone.{alike, single_accepts}
 use Rattle.hc_dfa.proofs.first.single.Goals as goal
 
+pub tabled-requires-clause-tells : goal.tabled-requires-clause-tells
+tabled-requires-clause-tells c =
+    alike c.args.text.now c.in_ok-numbers.numbers.items c.in_ok-classes.classes c.in_ok-numbers.ensures
+    (rw c.deref.ensures.value at c.in_ok-classes.ensures.fine)
+
 pub returns : goal.returns
-returns c =
-    rw (c.in_ok-only.ensures, c.in_ok-whole.ensures)
-    (single_accepts c.args.text.now _
-    (record {
-      len = omega arith;
-      each = λ cell below. c.loop-cell.invariant.each cell (omega arith);
-      final = λ state below. c.loop-state.invariant.final state (omega arith);
-    }))
+returns c = single_accepts c.args.text.now c.in_ok-made.made c.in_ok-made.ensures
