@@ -24,7 +24,7 @@ pub use Rattle.hc_pat_lang.specs.Gates.{IsJoin, anything}
 pub use Rattle.hc_pat_lang.specs.Matching.{IsFull, LooksFor, first_nodes}
 pub use Rattle.hc_pat_lang.specs.Graphs.{IsMarked, ReadsMarked, ReadsNode, byte_of, marks, unmarked}
 pub use Rattle.hc_pat_lang.specs.Nodes.{Takes, AreNodes}
-pub use Rattle.hc_pat_lang.specs.Sets.{AcceptsOnly, IsJoined, IsMerged, IsRest, IsFront}
+pub use Rattle.hc_pat_lang.specs.Sets.{AcceptsOnly, AreJoined, IsBehind, IsJoined, IsMerged, IsRest, IsFront}
 pub use Rattle.hc_pat_lang.specs.Turned.{leaves_out, part_ways, seen, step_by, chosen_any, chosen_behind, chosen_then}
 pub use Rattle.hc_pat_lang.specs.Turned.{chosen_up_to, chosen_ways, step_node, group_ways, seen_in, marked_byte}
 pub use Rattle.hc_pat_lang.specs.Turned.{plain_byte, chosen_repeated, has_turn}

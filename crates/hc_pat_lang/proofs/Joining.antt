@@ -1,92 +1,107 @@
--- The graph of a text of one automaton and then one of another.
-use Rattle.hc_pat_lang.proofs.Common.{◌≡◌, ℕ, List, [], ◌∷◌, ◌++◌, true, refl, sym, ap, subst}
-use Rattle.hc_pat_lang.proofs.Common.{Automaton, next_state, accepts_from, accepts, IsText, AcceptsOnly, IsJoined}
+-- The graph of a text of each automaton, one behind the other.
+use Rattle.hc_pat_lang.proofs.Common.{◌≡◌, ℕ, ◌+◌, List, [], ◌∷◌, ◌++◌, true, refl, sym}
+use Rattle.hc_pat_lang.proofs.Common.{◌∙◌, ap, subst, zero, suc, map, drop, slice_get}
+use Rattle.hc_pat_lang.proofs.Common.{Automaton, is_final, next_state, accepts_from, accepts, IsText, AcceptsOnly}
+use Rattle.hc_pat_lang.proofs.Common.{TextSet, AreJoined, IsJoined, Some}
 use Rattle.hc_dfa.specs.Graphs.{Way, AcceptsWays}
 use Rattle.hc_dfa.specs.Graphs.Way.{ends, passes, reads}
 use Rattle.hc_dfa.specs.declared.graphs.Choice.{Choice}
 use Rattle.hc_dfa.specs.declared.graphs.Choice.TheVariants.{Byte, One, Other}
-use Rattle.hc_pat_lang.proofs.Moving.{if_move, same_read, never_passed}
-use Rattle.hc_pat_lang.specs.Graphs.{joined_graph, joined_moves, passing, reading}
-use Rattle.hc_pat_lang.specs.declared.joined.Side.{Side}
-use Rattle.hc_pat_lang.specs.declared.joined.Side.TheVariants.{First, Second}
+use Rattle.hc_pat_lang.proofs.Moving.{Keeps, each_way, keeps_where}
+use Rattle.hc_pat_lang.specs.Graphs.{joined_graph, stage_moves}
+use Rattle.hc_pat_lang.specs.declared.joined.Stage.{Stage}
+use Rattle.std.proofs.lemmas.List.{append-nil, drop-drop}
+use Rattle.std.proofs.Math.Seq.{drop-nil}
+use Rattle.std.specs.Option.{is_none}
 
-module _ (a b : Automaton) where
-  -- What a state of either automaton reads.
-  abbrev ReadBy : Side → List ℕ → Type 0
-  ReadBy (First state) text = IsJoined (accepts_from a state) (accepts_from b 0) text
-  ReadBy (Second state) text = accepts_from b state text ≡ true
+-- What stands at a place is the first of what is left from there on.
+first_left : {X : Type 0} (xs : List X) (i : ℕ) → slice_get xs i ≡ slice_get (drop i xs) 0
+first_left [] i = rw (drop-nil i) refl
+first_left (x ∷ xs) zero = refl
+first_left (x ∷ xs) (suc i) = first_left xs i
 
-  passed : (side to : Side) (choice : Choice) (text : List ℕ) → joined_moves a b side choice ≡ passing to
-      → ReadBy to text → ReadBy side text
-  passed (First state) to One text move read =
-      let is = if_move _ _ _ move in
-      record {
-        front = [];
-        back = text;
-        begins = is.0;
-        goes_on = subst (λ (side : Side). ReadBy side text) (sym is.2) read;
-        joined = refl;
-      }
-  passed (First state) to (Byte byte) text move read = absurd (never_passed _ _ _ move)
-  passed (First state) to Other text move read = absurd (cc)
-  passed (Second state) to (Byte byte) text move read = absurd (never_passed _ _ _ move)
-  passed (Second state) to One text move read = absurd (cc)
-  passed (Second state) to Other text move read = absurd (cc)
+back_text : (front back : List ℕ) → IsText (front ++ back) → IsText back
+back_text [] back bytes = bytes
+back_text (byte ∷ front) back bytes = back_text front back bytes.1
 
-  read : (side to : Side) (choice : Choice) (byte : ℕ) (text : List ℕ) → joined_moves a b side choice
-      ≡ reading byte to
-      → ReadBy to text → ReadBy side (byte ∷ text)
-  read (First state) to (Byte own) byte text move later =
-      let is = same_read _ _ _ _ move in
-      let joined : ReadBy (First (next_state a state own)) text =
-      subst (λ (side : Side). ReadBy side text) (sym is.1) later in
-      rw (← is.0) (record {
-        front = own ∷ joined.front;
-        back = joined.back;
-        begins = joined.begins;
-        goes_on = joined.goes_on;
-        joined = ap (λ (t : List ℕ). own ∷ t) joined.joined;
-      })
-  read (First state) to One byte text move later = absurd (let none = (if_move _ _ _ move).1 in cc)
-  read (First state) to Other byte text move later = absurd (cc)
-  read (Second state) to (Byte own) byte text move later =
-      let is = same_read _ _ _ _ move in
-      let accepted : ReadBy (Second (next_state b state own)) text =
-      subst (λ (side : Side). ReadBy side text) (sym is.1) later in
-      rw (← is.0) accepted
-  read (Second state) to One byte text move later = absurd (cc)
-  read (Second state) to Other byte text move later = absurd (cc)
+-- The texts of each set, but those of the first one from a state on.
+abbrev sets_from : ℕ → List Automaton → List TextSet
+sets_from state [] = []
+sets_from state (a ∷ rest) = accepts_from a state ∷ map accepts rest
 
-  to_read : {side : Side} {text : List ℕ} → Way (joined_graph a b) side text → ReadBy side text
-  to_read {side = First state} (ends final) = absurd (cc)
-  to_read {side = Second state} (ends final) = final
-  to_read {side = side} {text = text} (passes {to = to} leads way) =
-      passed side to leads.choice text leads.move (to_read way)
-  to_read {side = side} (reads {to = to} {byte = byte} {text = text} leads way) =
-      read side to leads.choice byte text leads.move (to_read way)
+from_start : (sets : List Automaton) → sets_from 0 sets ≡ map accepts sets
+unfolding accepts
+from_start [] = refl
+from_start (a ∷ rest) = refl
 
-  second_way : (text : List ℕ) (state : ℕ) → IsText text → accepts_from b state text ≡ true
-      → Way (joined_graph a b) (Second state) text
-  second_way [] state bytes member = ends member
-  second_way (byte ∷ text) state bytes member =
-      reads {to = Second (next_state b state byte)} (record { choice = Byte byte; is = bytes.0; move = refl })
-      (second_way text (next_state b state byte) bytes.1 member)
+module _ (sets : List Automaton) where
+  abbrev ReadAt : Stage → List ℕ → Type 0
+  ReadAt stage text = AreJoined (sets_from stage.state (drop stage.set sets)) text
 
-  first_way : (front back : List ℕ) (state : ℕ) → IsText (front ++ back) → accepts_from a state front ≡ true
-      → accepts_from b 0 back ≡ true → Way (joined_graph a b) (First state) (front ++ back)
-  first_way [] back state bytes final member =
-      passes {to = Second 0} (record { choice = One; is = tt; move = rw final refl }) (second_way back 0 bytes member)
-  first_way (byte ∷ front) back state bytes begins member =
-      reads {to = First (next_state a state byte)} (record { choice = Byte byte; is = bytes.0; move = refl })
-      (first_way front back (next_state a state byte) bytes.1 begins member)
+  read_end : (left : List Automaton) (stage : Stage) → drop stage.set sets ≡ left
+      → is_none (slice_get left 0) ≡ true → ReadAt stage []
+  read_end [] stage from final = rw from refl
+  read_end (a ∷ rest) stage from final = absurd (cc)
 
-  pub joined_accepts : (made : Automaton) → AcceptsWays (joined_graph a b) (First 0) made
-      → AcceptsOnly (IsJoined (accepts a) (accepts b)) made
+  read_keeps : (left : List Automaton) (stage : Stage) (choice : Choice) → drop stage.set sets ≡ left
+      → Keeps ReadAt stage (stage_moves (slice_get left 0) stage choice)
+  read_keeps [] stage choice from = tt
+  read_keeps (a ∷ rest) stage (Byte byte) from = λ text later.
+      let read = rw from at later in
+      rw from (byte ∷ read.0, read.1, ap (λ t. byte ∷ t) read.2, read.3, read.4)
+  read_keeps (a ∷ rest) stage One from =
+      keeps_where ReadAt stage (is_final a stage.state) _
+      (λ final text later.
+      rw from ([], text, refl, final, rw (← drop-drop 1 stage.set sets, from, from_start rest) at later))
+  read_keeps (a ∷ rest) stage Other from = tt
+
+  within_way : (a : Automaton) (front back : List ℕ) (set state : ℕ) → slice_get sets set ≡ Some a
+      → IsText (front ++ back) → accepts_from a state front ≡ true
+      → Way (joined_graph sets) (record { set = set + 1; state = 0 }) back
+      → Way (joined_graph sets) (record { set = set; state = state }) (front ++ back)
+  within_way a [] back set state at bytes final way =
+      passes {to = record { set = set + 1; state = 0 }}
+      (record { choice = One; is = tt; move = rw (at, final) refl }) way
+  within_way a (byte ∷ front) back set state at bytes begins way =
+      reads {to = record { set = set; state = next_state a state byte }}
+      (record { choice = Byte byte; is = bytes.0; move = rw at refl })
+      (within_way a front back set (next_state a state byte) at bytes.1 begins way)
+
+  from_read : (left : List Automaton) (set : ℕ) (text : List ℕ) → drop set sets ≡ left → IsText text
+      → AreJoined (map accepts left) text → Way (joined_graph sets) (record { set = set; state = 0 }) text
   unfolding accepts
+  from_read [] set text from bytes empty =
+      subst (Way (joined_graph sets) (record { set = set; state = 0 })) (sym empty)
+      (ends (rw (first_left sets set, from) refl))
+  from_read (a ∷ rest) set text from bytes read =
+      let all : IsText (read.0 ++ read.1) = subst IsText read.2 bytes in
+      rw read.2
+      (within_way a read.0 read.1 set 0 (rw from at (first_left sets set)) all read.3
+      (from_read rest (set + 1) read.1 (rw from at (sym (drop-drop 1 set sets))) (back_text read.0 read.1 all) read.4))
+
+  pub joined_accepts : (made : Automaton) → AcceptsWays (joined_graph sets) (record { set = 0; state = 0 }) made
+      → AcceptsOnly (AreJoined (map accepts sets)) made
   joined_accepts made same text bytes = (
-    (λ accepted. to_read ((same text bytes).0 accepted)),
-    (λ joined.
-        let all : IsText (joined.front ++ joined.back) = subst IsText (sym joined.joined) bytes in
-        (same text bytes).1
-        (rw (← joined.joined) (first_way joined.front joined.back 0 all joined.begins joined.goes_on))),
+    (λ accepted.
+        rw (from_start sets) at
+        (each_way (joined_graph sets) ReadAt
+        (λ stage final. read_end _ stage refl (rw (first_left sets stage.set) at final))
+        (λ stage choice is. rw (first_left sets stage.set) (read_keeps _ stage choice refl))
+        ((same text bytes).0 accepted))),
+    (λ read. (same text bytes).1 (from_read sets 0 text refl bytes read)),
   )
+
+-- ---- two sets
+
+pub two_joined : (a b : TextSet) (made : Automaton) → AcceptsOnly (AreJoined (a ∷ b ∷ [])) made
+    → AcceptsOnly (IsJoined a b) made
+two_joined a b made same text bytes = (
+  (λ accepted.
+      let read = (same text bytes).0 accepted in
+      let back = read.4 in
+      let whole : read.1 ≡ back.0 = back.2 ∙ ap (λ rest. back.0 ++ rest) back.4 ∙ append-nil back.0 in
+      record { front = read.0; back = read.1; begins = read.3; goes_on = rw whole back.3; joined = sym read.2 }),
+  (λ is.
+      (same text bytes).1
+      (is.front, is.back, sym is.joined, is.begins, (is.back, [], sym (append-nil is.back), is.goes_on, refl))),
+)

@@ -8,6 +8,7 @@ pub mod Common
 pub mod Moving
 pub mod Joining
 pub mod Rests
+pub mod Cutting
 pub mod Merges
 pub mod Parts
 pub mod Serving

@@ -1,53 +1,53 @@
--- What a move tells of the byte that it reads and of the key that it leads to.
-use Rattle.hc_pat_lang.proofs.Common.{◌≡◌, ℕ, ◌<◌, ◌⊎◌, Bool, true, false, if◌then◌else◌}
-use Rattle.hc_pat_lang.proofs.Common.{Option, Some, None}
-use Rattle.hc_pat_lang.proofs.Common.{refl, inl, inr, has_byte, ByteSet}
-use Rattle.hc_dfa.proofs.Following.{same_move}
-use Rattle.hc_dfa.specs.Graphs.{IsChoice}
+-- What each move keeps holds of all that is read on the ways of a graph.
+use Rattle.hc_pat_lang.proofs.Common.{◌≡◌, ℕ, ◌<◌, Bool, true, false, if◌then◌else◌, List}
+use Rattle.hc_pat_lang.proofs.Common.{[], ◌∷◌, refl, subst, Option, Some, None, has_byte, ByteSet}
+use Rattle.hc_dfa.specs.Graphs.{GraphOf, IsChoice, Leads, Way}
+use Rattle.hc_dfa.specs.Graphs.Way.{ends, passes, reads}
 use Rattle.hc_dfa.specs.declared.graphs.Choice.{Choice}
 use Rattle.hc_dfa.specs.declared.graphs.Choice.TheVariants.{Byte, One, Other}
 use Rattle.hc_dfa.specs.declared.graphs.Move.{Move}
-use Rattle.hc_pat_lang.specs.Graphs.{by_class, by_fork, passing, reading}
+use Rattle.hc_pat_lang.specs.Graphs.{by_class, by_fork}
 
-module _ {K : Type 0} where
-  -- A move that is made where a test holds.
-  pub if_move : (v : Bool) (m n : Move K) → (if v then Some m else None) ≡ Some n
-      → (v ≡ true) × (m.byte ≡ n.byte) × (m.to ≡ n.to)
-  if_move true m n same = (refl, (same_move m n same).0, (same_move m n same).1)
-  if_move false m n same = absurd (cc)
+-- A text behind what is read on a move.
+abbrev pub read_before : Option ℕ → List ℕ → List ℕ
+read_before None text = text
+read_before (Some byte) text = byte ∷ text
 
-  pub never_passed : (byte : ℕ) (to other : K) → reading byte to ≡ passing other → ⊥
-  never_passed byte to other same = (let e = (same_move _ _ same).0 in cc)
+-- What holds of a text and where the move leads holds of the text behind what is read, and from where it leads.
+abbrev pub Keeps : {K : Type 0} → (K → List ℕ → Type 0) → K → Option (Move K) → Type 0
+Keeps P key None = Unit {0}
+Keeps P key (Some move) = (text : List ℕ) → P move.to text → P key (read_before move.byte text)
 
-  pub never_read : (byte : ℕ) (to other : K) → passing to ≡ reading byte other → ⊥
-  never_read byte to other same = (let e = (same_move _ _ same).0 in cc)
+module _ {K : Type 0} (P : K → List ℕ → Type 0) (key : K) where
+  pub keeps_where : (v : Bool) (move : Option (Move K)) → (v ≡ true → Keeps P key move)
+      → Keeps P key (if v then move else None)
+  keeps_where true move keeps = keeps refl
+  keeps_where false move keeps = tt
 
-  pub same_pass : (to other : K) → passing to ≡ passing other → to ≡ other
-  same_pass to other same = (same_move _ _ same).1
+  pub keeps_class : (lead : ℕ → Option (Move K)) (set : ByteSet) (choice : Choice) → IsChoice choice
+      → ((byte : ℕ) → byte < 256 → has_byte set byte ≡ true → Keeps P key (lead byte))
+      → Keeps P key (by_class lead set choice)
+  keeps_class lead set (Byte byte) small keeps = keeps_where (has_byte set byte) (lead byte) (keeps byte small)
+  keeps_class lead set One is keeps = tt
+  keeps_class lead set Other is keeps = tt
 
-  pub same_read : (byte other : ℕ) (to from : K) → reading byte to ≡ reading other from → (byte ≡ other)
-      × (to ≡ from)
-  same_read byte other to from same = ((let e = (same_move _ _ same).0 in cc), (same_move _ _ same).1)
+  pub keeps_fork : (first second : K) (choice : Choice) → ((text : List ℕ) → P first text → P key text)
+      → ((text : List ℕ) → P second text → P key text) → Keeps P key (by_fork first second choice)
+  keeps_fork first second (Byte byte) keeps keeps_too = tt
+  keeps_fork first second One keeps keeps_too = keeps
+  keeps_fork first second Other keeps keeps_too = keeps_too
 
-  -- A move by a byte of a set.
-  pub class_move : (lead : ℕ → Option (Move K)) (set : ByteSet) (choice : Choice) (move : Move K)
-      → IsChoice choice
-      → by_class lead set choice ≡ Some move
-      → (byte : ℕ) × (byte < 256) × (has_byte set byte ≡ true) × (lead byte ≡ Some move)
-  class_move lead set (Byte byte) move is same = by_test (has_byte set byte) refl same
-    where
-      by_test : (v : Bool) → has_byte set byte ≡ v → (if v then lead byte else None) ≡ Some move
-          → (b : ℕ) × (b < 256) × (has_byte set b ≡ true) × (lead b ≡ Some move)
-      by_test true has led = (byte, is, has, led)
-      by_test false has led = absurd (cc)
-  class_move lead set One move is same = absurd (cc)
-  class_move lead set Other move is same = absurd (cc)
+module _ {K : Type 0} (g : GraphOf K) where
+  pub each_way : (P : K → List ℕ → Type 0) → ((key : K) → g.is_final key ≡ true → P key [])
+      → ((key : K) (choice : Choice) → IsChoice choice → Keeps P key (g.moves key choice))
+      → {key : K} {text : List ℕ} → Way g key text → P key text
+  each_way P end keeps {key = key} (ends final) = end key final
+  each_way P end keeps {key = key} {text = text} (passes leads way) =
+      subst (Keeps P key) leads.move (keeps key leads.choice leads.is) text (each_way P end keeps way)
+  each_way P end keeps {key = key} (reads {text = text} leads way) =
+      subst (Keeps P key) leads.move (keeps key leads.choice leads.is) text (each_way P end keeps way)
 
-  -- A move to either side of a fork.
-  pub fork_move : (first second : K) (choice : Choice) (move : Move K) → by_fork first second choice ≡ Some move
-      → (move.byte ≡ None) × ((first ≡ move.to) ⊎ (second ≡ move.to))
-  fork_move first second (Byte byte) move same = absurd (cc)
-  fork_move first second One move same =
-      (let is = same_move _ _ same in let none = is.0 in (cc, inl is.1))
-  fork_move first second Other move same =
-      (let is = same_move _ _ same in let none = is.0 in (cc, inr is.1))
+  pub led : {key to : K} {text : List ℕ} (seen : Option ℕ) → Leads g key seen to → Way g to text
+      → Way g key (read_before seen text)
+  led None leads way = passes leads way
+  led (Some byte) leads way = reads leads way

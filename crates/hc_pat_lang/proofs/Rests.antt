@@ -1,15 +1,14 @@
 -- What is left of the texts of a set behind, or before, the texts of another one.
 use Rattle.hc_pat_lang.proofs.Common.{◌≡◌, ℕ, List, [], ◌∷◌, ◌++◌, ◌&&◌, Bool, true, false, refl}
-use Rattle.hc_pat_lang.proofs.Common.{sym}
-use Rattle.hc_pat_lang.proofs.Common.{subst, Automaton, next_state, is_final, accepts_from, accepts, IsText}
+use Rattle.hc_pat_lang.proofs.Common.{Automaton, next_state, is_final, accepts_from, accepts, IsText}
 use Rattle.hc_pat_lang.proofs.Common.{AcceptsOnly}
 use Rattle.hc_pat_lang.proofs.Common.{IsRest, IsFront}
 use Rattle.hc_dfa.specs.Graphs.{Way, AcceptsWays, IsChoice}
 use Rattle.hc_dfa.specs.Graphs.Way.{ends, passes, reads}
 use Rattle.hc_dfa.specs.declared.graphs.Choice.{Choice}
 use Rattle.hc_dfa.specs.declared.graphs.Choice.TheVariants.{Byte, One, Other}
-use Rattle.hc_pat_lang.proofs.Moving.{if_move, same_read, same_pass, never_passed, never_read}
-use Rattle.hc_pat_lang.specs.Graphs.{rest_graph, rest_moves, front_graph, front_moves, passing, reading}
+use Rattle.hc_pat_lang.proofs.Moving.{Keeps, each_way, keeps_where}
+use Rattle.hc_pat_lang.specs.Graphs.{rest_final, rest_graph, rest_moves, front_final, front_graph, front_moves}
 use Rattle.hc_pat_lang.specs.declared.quotients.Along.{Along}
 use Rattle.hc_pat_lang.specs.declared.quotients.Along.TheVariants.{Alone, Beside}
 
@@ -20,50 +19,26 @@ module _ (set by : Automaton) where
   RestBy (Alone state) text = accepts_from set state text ≡ true
   RestBy (Beside state other) text = IsRest (accepts_from set state) (accepts_from by other) text
 
-  rest_passed : (along to : Along) (choice : Choice) (text : List ℕ) → IsChoice choice
-      → rest_moves set by along choice ≡ passing to → RestBy to text → RestBy along text
-  rest_passed (Beside state other) to (Byte byte) text small move rest =
-      let later : RestBy (Beside (next_state set state byte) (next_state by other byte)) text =
-      subst (λ (along : Along). RestBy along text) (sym (same_pass _ _ move)) rest in
+  rest_end : (along : Along) → rest_final set along ≡ true → RestBy along []
+  rest_end (Alone state) final = final
+  rest_end (Beside state other) final = absurd (cc)
+
+  rest_keeps : (along : Along) (choice : Choice) → IsChoice choice
+      → Keeps RestBy along (rest_moves set by along choice)
+  rest_keeps (Beside state other) (Byte byte) small = λ text later.
       record {
         front = byte ∷ later.front;
         bytes = (small, later.bytes);
         begins = later.begins;
         member = later.member;
       }
-  rest_passed (Beside state other) to One text is move rest =
-      let made = if_move _ _ _ move in
-      record {
-        front = [];
-        bytes = tt;
-        begins = made.0;
-        member = subst (λ (along : Along). RestBy along text) (sym made.2) rest;
-      }
-  rest_passed (Beside state other) to Other text is move rest = absurd (cc)
-  rest_passed (Alone state) to (Byte byte) text is move rest = absurd (never_passed _ _ _ move)
-  rest_passed (Alone state) to One text is move rest = absurd (cc)
-  rest_passed (Alone state) to Other text is move rest = absurd (cc)
-
-  rest_read : (along to : Along) (choice : Choice) (byte : ℕ) (text : List ℕ)
-      → rest_moves set by along choice ≡ reading byte to → RestBy to text → RestBy along (byte ∷ text)
-  rest_read (Alone state) to (Byte own) byte text move rest =
-      let is = same_read _ _ _ _ move in
-      let later : RestBy (Alone (next_state set state own)) text =
-      subst (λ (along : Along). RestBy along text) (sym is.1) rest in
-      rw (← is.0) later
-  rest_read (Alone state) to One byte text move rest = absurd (cc)
-  rest_read (Alone state) to Other byte text move rest = absurd (cc)
-  rest_read (Beside state other) to (Byte own) byte text move rest = absurd (never_read _ _ _ move)
-  rest_read (Beside state other) to One byte text move rest = absurd (let none = (if_move _ _ _ move).1 in cc)
-  rest_read (Beside state other) to Other byte text move rest = absurd (cc)
-
-  to_rest : {along : Along} {text : List ℕ} → Way (rest_graph set by) along text → RestBy along text
-  to_rest {along = Alone state} (ends final) = final
-  to_rest {along = Beside state other} (ends final) = absurd (cc)
-  to_rest {along = along} {text = text} (passes {to = to} leads way) =
-      rest_passed along to leads.choice text leads.is leads.move (to_rest way)
-  to_rest {along = along} (reads {to = to} {byte = byte} {text = text} leads way) =
-      rest_read along to leads.choice byte text leads.move (to_rest way)
+  rest_keeps (Beside state other) One is =
+      keeps_where RestBy (Beside state other) (is_final by other) _
+      (λ final text later. record { front = []; bytes = tt; begins = final; member = later })
+  rest_keeps (Beside state other) Other is = tt
+  rest_keeps (Alone state) (Byte byte) is = λ text later. later
+  rest_keeps (Alone state) One is = tt
+  rest_keeps (Alone state) Other is = tt
 
   alone_way : (text : List ℕ) (state : ℕ) → IsText text → accepts_from set state text ≡ true
       → Way (rest_graph set by) (Alone state) text
@@ -87,7 +62,7 @@ module _ (set by : Automaton) where
       → AcceptsOnly (IsRest (accepts set) (accepts by)) made
   unfolding accepts
   rest_accepts made same text bytes = (
-    (λ accepted. to_rest ((same text bytes).0 accepted)),
+    (λ accepted. each_way (rest_graph set by) RestBy rest_end rest_keeps ((same text bytes).0 accepted)),
     (λ rest. (same text bytes).1 (rest_way rest.front text 0 0 rest.bytes bytes rest.begins rest.member)),
   )
 
@@ -97,55 +72,33 @@ module _ (set by : Automaton) where
   FrontBy (Alone state) text = IsFront (accepts_from set state) (accepts_from by 0) text
   FrontBy (Beside state other) text = (text ≡ []) × IsFront (accepts_from set state) (accepts_from by other) []
 
-  front_passed : (along to : Along) (choice : Choice) (text : List ℕ) → IsChoice choice
-      → front_moves set by along choice ≡ passing to → FrontBy to text → FrontBy along text
-  front_passed (Alone state) to One text is move front =
-      let later : FrontBy (Beside state 0) text =
-      subst (λ (along : Along). FrontBy along text) (sym (same_pass _ _ move)) front in
-      rw later.0 later.1
-  front_passed (Alone state) to (Byte byte) text is move front = absurd (never_passed _ _ _ move)
-  front_passed (Alone state) to Other text is move front = absurd (cc)
-  front_passed (Beside state other) to (Byte byte) text small move front =
-      let later : FrontBy (Beside (next_state set state byte) (next_state by other byte)) text =
-      subst (λ (along : Along). FrontBy along text) (sym (same_pass _ _ move)) front in (
-        later.0,
-        record {
-          back = byte ∷ later.1.back;
-          bytes = (small, later.1.bytes);
-          goes_on = later.1.goes_on;
-          member = later.1.member;
-        },
-      )
-  front_passed (Beside state other) to One text is move front = absurd (cc)
-  front_passed (Beside state other) to Other text is move front = absurd (cc)
-
-  front_read : (along to : Along) (choice : Choice) (byte : ℕ) (text : List ℕ)
-      → front_moves set by along choice ≡ reading byte to → FrontBy to text → FrontBy along (byte ∷ text)
-  front_read (Alone state) to (Byte own) byte text move front =
-      let is = same_read _ _ _ _ move in
-      let later : FrontBy (Alone (next_state set state own)) text =
-      subst (λ (along : Along). FrontBy along text) (sym is.1) front in
-      rw (← is.0)
-      (record { back = later.back; bytes = later.bytes; goes_on = later.goes_on; member = later.member })
-  front_read (Alone state) to One byte text move front = absurd (never_read _ _ _ move)
-  front_read (Alone state) to Other byte text move front = absurd (cc)
-  front_read (Beside state other) to (Byte own) byte text move front = absurd (never_read _ _ _ move)
-  front_read (Beside state other) to One byte text move front = absurd (cc)
-  front_read (Beside state other) to Other byte text move front = absurd (cc)
-
   both_final : (v w : Bool) → (v && w) ≡ true → (v ≡ true) × (w ≡ true)
   both_final true w both = (refl, both)
   both_final false w both = absurd (cc)
 
-  to_front : {along : Along} {text : List ℕ} → Way (front_graph set by) along text → FrontBy along text
-  to_front {along = Alone state} (ends final) = absurd (cc)
-  to_front {along = Beside state other} (ends final) =
+  front_end : (along : Along) → front_final set by along ≡ true → FrontBy along []
+  front_end (Alone state) final = absurd (cc)
+  front_end (Beside state other) final =
       let both = both_final (is_final set state) (is_final by other) final in
       (refl, record { back = []; bytes = tt; goes_on = both.1; member = both.0 })
-  to_front {along = along} {text = text} (passes {to = to} leads way) =
-      front_passed along to leads.choice text leads.is leads.move (to_front way)
-  to_front {along = along} (reads {to = to} {byte = byte} {text = text} leads way) =
-      front_read along to leads.choice byte text leads.move (to_front way)
+
+  front_keeps : (along : Along) (choice : Choice) → IsChoice choice
+      → Keeps FrontBy along (front_moves set by along choice)
+  front_keeps (Alone state) (Byte byte) is = λ text later.
+      record { back = later.back; bytes = later.bytes; goes_on = later.goes_on; member = later.member }
+  front_keeps (Alone state) One is = λ text later. rw later.0 later.1
+  front_keeps (Alone state) Other is = tt
+  front_keeps (Beside state other) (Byte byte) small = λ text later. (
+    later.0,
+    record {
+      back = byte ∷ later.1.back;
+      bytes = (small, later.1.bytes);
+      goes_on = later.1.goes_on;
+      member = later.1.member;
+    },
+  )
+  front_keeps (Beside state other) One is = tt
+  front_keeps (Beside state other) Other is = tt
 
   beside_way : (back : List ℕ) (state other : ℕ) → IsText back → accepts_from set state back ≡ true
       → accepts_from by other back ≡ true → Way (front_graph set by) (Beside state other) []
@@ -169,6 +122,6 @@ module _ (set by : Automaton) where
       → AcceptsOnly (IsFront (accepts set) (accepts by)) made
   unfolding accepts
   front_accepts made same text bytes = (
-    (λ accepted. to_front ((same text bytes).0 accepted)),
+    (λ accepted. each_way (front_graph set by) FrontBy front_end front_keeps ((same text bytes).0 accepted)),
     (λ front. (same text bytes).1 (front_way text front.back 0 bytes front.bytes front.member front.goes_on)),
   )

@@ -1,17 +1,16 @@
 -- The graph of nodes, and the graph of what is marked in their texts.
 use Rattle.hc_pat_lang.proofs.Common.{◌≡◌, ℕ, ◌+◌, ◌<◌, ◌&&◌, Bool, List, [], ◌∷◌, true}
 use Rattle.hc_pat_lang.proofs.Common.{false, Option, Some}
-use Rattle.hc_pat_lang.proofs.Common.{None, slice_get, refl, sym, ◌∙◌, ap, subst, inl, inr, arith, Automaton}
-use Rattle.hc_pat_lang.proofs.Common.{next_state}
+use Rattle.hc_pat_lang.proofs.Common.{None, slice_get, refl, ◌∙◌, ap, arith, Automaton}
+use Rattle.hc_pat_lang.proofs.Common.{next_state, is_final}
 use Rattle.hc_pat_lang.proofs.Common.{accepts_from, accepts, IsText, Takes, IsMarked, ReadsMarked, ReadsNode}
 use Rattle.hc_pat_lang.proofs.Common.{byte_of, marks, unmarked, Node, Dead, End, Step, Marked, Fork}
 use Rattle.hc_dfa.specs.Graphs.{Way, AcceptsWays, IsChoice}
 use Rattle.hc_dfa.specs.Graphs.Way.{ends, passes, reads}
 use Rattle.hc_dfa.specs.declared.graphs.Choice.{Choice}
 use Rattle.hc_dfa.specs.declared.graphs.Choice.TheVariants.{Byte, One, Other}
-use Rattle.hc_pat_lang.proofs.Moving.{class_move, fork_move, same_read, same_pass, never_passed, never_read}
-use Rattle.hc_pat_lang.specs.Graphs.{Place, is_end, marked_graph, marked_moves, node_graph, node_moves, passing}
-use Rattle.hc_pat_lang.specs.Graphs.{reading}
+use Rattle.hc_pat_lang.proofs.Moving.{Keeps, each_way, keeps_class, keeps_fork}
+use Rattle.hc_pat_lang.specs.Graphs.{Place, is_end, marked_graph, marked_moves, node_graph, node_moves}
 use Rattle.hc_pat_lang.specs.Nodes.Takes.{at_end, by_byte, by_marked, by_first, by_second}
 
 end_is : (node : Option Node) → is_end node ≡ true → node ≡ Some End
@@ -25,39 +24,17 @@ end_is (Some (Fork first second)) is = absurd (cc)
 -- ---- the texts that a node takes
 
 module _ (nodes : List Node) where
-  passed : (node to : ℕ) (text : List ℕ) (choice : Choice) (here : Option Node) → IsChoice choice
-      → slice_get nodes node ≡ here → node_moves here choice ≡ passing to → Takes nodes to text
-      → Takes nodes node text
-  passed node to text choice None is at move taken = absurd (cc)
-  passed node to text choice (Some Dead) is at move taken = absurd (cc)
-  passed node to text choice (Some End) is at move taken = absurd (cc)
-  passed node to text choice (Some (Step set next)) is at move taken =
-      absurd (let by = class_move _ set choice _ is move in never_passed _ _ _ by.3)
-  passed node to text choice (Some (Marked set next)) is at move taken = absurd (cc)
-  passed node to text choice (Some (Fork first second)) is at move taken =
-      elim (fork_move first second choice _ move).1
-      [ inl e ↦ by_first at (rw e taken) | inr e ↦ by_second at (rw e taken) ]
-
-  read : (node to byte : ℕ) (text : List ℕ) (choice : Choice) (here : Option Node) → IsChoice choice
-      → slice_get nodes node ≡ here → node_moves here choice ≡ reading byte to → Takes nodes to text
-      → Takes nodes node (byte ∷ text)
-  read node to byte text choice None is at move taken = absurd (cc)
-  read node to byte text choice (Some Dead) is at move taken = absurd (cc)
-  read node to byte text choice (Some End) is at move taken = absurd (cc)
-  read node to byte text choice (Some (Step set next)) is at move taken =
-      let by = class_move _ set choice _ is move in
-      let same = same_read _ _ _ _ by.3 in
-      rw (← same.0) (by_byte {text = text} at by.1 by.2 (rw same.1 taken))
-  read node to byte text choice (Some (Marked set next)) is at move taken = absurd (cc)
-  read node to byte text choice (Some (Fork first second)) is at move taken =
-      absurd (let none = (fork_move first second choice _ move).0 in cc)
-
-  to_taken : {node : ℕ} {text : List ℕ} → Way (node_graph nodes) node text → Takes nodes node text
-  to_taken {node = node} (ends final) = at_end (end_is (slice_get nodes node) final)
-  to_taken {node = node} {text = text} (passes {to = to} leads way) =
-      passed node to text leads.choice _ leads.is refl leads.move (to_taken way)
-  to_taken {node = node} (reads {to = to} {byte = byte} {text = text} leads way) =
-      read node to byte text leads.choice _ leads.is refl leads.move (to_taken way)
+  node_keeps : (here : Option Node) (node : ℕ) (choice : Choice) → IsChoice choice → slice_get nodes node ≡ here
+      → Keeps (Takes nodes) node (node_moves here choice)
+  node_keeps None node choice is at = tt
+  node_keeps (Some Dead) node choice is at = tt
+  node_keeps (Some End) node choice is at = tt
+  node_keeps (Some (Step set to)) node choice is at =
+      keeps_class (Takes nodes) node _ set choice is
+      (λ byte small has text taken. by_byte {text = text} at small has taken)
+  node_keeps (Some (Marked set to)) node choice is at = tt
+  node_keeps (Some (Fork first second)) node choice is at =
+      keeps_fork (Takes nodes) node first second choice (λ text. by_first at) (λ text. by_second at)
 
   from_taken : {node : ℕ} {text : List ℕ} → IsText text → Takes nodes node text
       → Way (node_graph nodes) node text
@@ -73,8 +50,12 @@ module _ (nodes : List Node) where
 
   pub reads_node : (start : ℕ) (made : Automaton) → AcceptsWays (node_graph nodes) start made
       → ReadsNode nodes start made
-  reads_node start made same text bytes =
-      ((λ accepted. to_taken ((same text bytes).0 accepted)), (λ taken. (same text bytes).1 (from_taken bytes taken)))
+  reads_node start made same text bytes = (
+    (λ accepted.
+        each_way (node_graph nodes) (Takes nodes) (λ node final. at_end (end_is _ final))
+        (λ node choice is. node_keeps _ node choice is refl) ((same text bytes).0 accepted)),
+    (λ taken. (same text bytes).1 (from_taken bytes taken)),
+  )
 
 -- ---- what is marked in them
 
@@ -95,66 +76,43 @@ module _ (nodes : List Node) (a : Automaton) where
   abbrev MarkedAt : Place → List ℕ → Type 0
   MarkedAt place piece = IsMarked nodes place.0 (accepts_from a place.1) piece
 
-  taken_by : (place to : Place) (piece : List ℕ) (choice : Choice) (here : Option Node) → IsChoice choice
-      → slice_get nodes place.0 ≡ here → marked_moves a place.1 here choice ≡ passing to → MarkedAt to piece
-      → MarkedAt place piece
-  taken_by place to piece choice None is at move marked = absurd (cc)
-  taken_by place to piece choice (Some Dead) is at move marked = absurd (cc)
-  taken_by place to piece choice (Some End) is at move marked = absurd (cc)
-  taken_by place to piece choice (Some (Step set next)) is at move marked =
-      let by = class_move _ set choice _ is move in
-      let later = subst (λ (p : Place). MarkedAt p piece) (sym (same_pass _ _ by.3)) marked in
-      let plain = plain_letter by.0 later.text by.1 in
-      record {
-        text = by.0 ∷ later.text;
-        taken = by_byte at by.1 by.2 later.taken;
-        member = rw plain.0 later.member;
-        marked = plain.1 ∙ later.marked;
-      }
-  taken_by place to piece choice (Some (Marked set next)) is at move marked =
-      absurd (let by = class_move _ set choice _ is move in never_passed _ _ _ by.3)
-  taken_by place to piece choice (Some (Fork first second)) is at move marked =
-      elim (fork_move (first, place.1) (second, place.1) choice _ move).1 [
-        | inl e ↦
-            let later = subst (λ (p : Place). MarkedAt p piece) (sym e) marked in
-            record { text = later.text; taken = by_first at later.taken; member = later.member; marked = later.marked }
-        | inr e ↦
-            let later = subst (λ (p : Place). MarkedAt p piece) (sym e) marked in
-            record { text = later.text; taken = by_second at later.taken; member = later.member; marked = later.marked }
-      ]
-
-  read_by : (place to : Place) (byte : ℕ) (piece : List ℕ) (choice : Choice) (here : Option Node)
-      → IsChoice choice
-      → slice_get nodes place.0 ≡ here → marked_moves a place.1 here choice ≡ reading byte to
-      → MarkedAt to piece
-      → MarkedAt place (byte ∷ piece)
-  read_by place to byte piece choice None is at move marked = absurd (cc)
-  read_by place to byte piece choice (Some Dead) is at move marked = absurd (cc)
-  read_by place to byte piece choice (Some End) is at move marked = absurd (cc)
-  read_by place to byte piece choice (Some (Step set next)) is at move marked =
-      absurd (let by = class_move _ set choice _ is move in never_read _ _ _ by.3)
-  read_by place to byte piece choice (Some (Marked set next)) is at move marked =
-      let by = class_move _ set choice _ is move in
-      let same = same_read _ _ _ _ by.3 in
-      let later = subst (λ (p : Place). MarkedAt p piece) (sym same.1) marked in
-      let letter = marked_letter by.0 later.text in
-      record {
-        text = (256 + by.0) ∷ later.text;
-        taken = by_marked at by.1 by.2 later.taken;
-        member = rw letter.0 later.member;
-        marked = letter.1 ∙ rw same.0 (ap (λ (t : List ℕ). byte ∷ t) later.marked);
-      }
-  read_by place to byte piece choice (Some (Fork first second)) is at move marked =
-      absurd (let none = (fork_move (first, place.1) (second, place.1) choice _ move).0 in cc)
-
-  to_marked : {place : Place} {piece : List ℕ} → Way (marked_graph nodes a) place piece → MarkedAt place piece
-  to_marked {place = place} (ends final) =
+  marked_end : (place : Place) → (is_end (slice_get nodes place.0) && is_final a place.1) ≡ true
+      → MarkedAt place []
+  marked_end place final =
       let both = both_true _ _ final in
       record { text = []; taken = at_end (end_is (slice_get nodes place.0) both.0); member = both.1; marked = refl }
-  to_marked {place = place} {piece = piece} (passes {to = to} leads way) =
-      taken_by place to piece leads.choice _ leads.is refl leads.move (to_marked way)
-  to_marked {place = place} (reads {to = to} {byte = byte} {text = piece} leads way) =
-      read_by place to byte piece leads.choice _ leads.is refl leads.move (to_marked way)
+
+  marked_keeps : (here : Option Node) (place : Place) (choice : Choice) → IsChoice choice
+      → slice_get nodes place.0 ≡ here → Keeps MarkedAt place (marked_moves a place.1 here choice)
+  marked_keeps None place choice is at = tt
+  marked_keeps (Some Dead) place choice is at = tt
+  marked_keeps (Some End) place choice is at = tt
+  marked_keeps (Some (Step set to)) place choice is at =
+      keeps_class MarkedAt place _ set choice is
+      (λ byte small has piece later.
+      let plain = plain_letter byte later.text small in
+      record {
+        text = byte ∷ later.text;
+        taken = by_byte at small has later.taken;
+        member = rw plain.0 later.member;
+        marked = plain.1 ∙ later.marked;
+      })
+  marked_keeps (Some (Marked set to)) place choice is at =
+      keeps_class MarkedAt place _ set choice is
+      (λ byte small has piece later.
+      let letter = marked_letter byte later.text in
+      record {
+        text = (256 + byte) ∷ later.text;
+        taken = by_marked at small has later.taken;
+        member = rw letter.0 later.member;
+        marked = letter.1 ∙ ap (λ (t : List ℕ). byte ∷ t) later.marked;
+      })
+  marked_keeps (Some (Fork first second)) place choice is at =
+      keeps_fork MarkedAt place (first, place.1) (second, place.1) choice
+      (λ piece later.
+      record { text = later.text; taken = by_first at later.taken; member = later.member; marked = later.marked })
+      (λ piece later.
+      record { text = later.text; taken = by_second at later.taken; member = later.member; marked = later.marked })
 
   marked_way : {node : ℕ} {text : List ℕ} (state : ℕ) → accepts_from a state (unmarked text) ≡ true
       → Takes nodes node text → Way (marked_graph nodes a) (node, state) (marks text)
@@ -182,6 +140,8 @@ module _ (nodes : List Node) (a : Automaton) where
       → ReadsMarked nodes node (accepts a) made
   unfolding accepts
   reads_marked node made same piece bytes = (
-    (λ accepted. to_marked ((same piece bytes).0 accepted)),
+    (λ accepted.
+        each_way (marked_graph nodes a) MarkedAt marked_end
+        (λ place choice is. marked_keeps _ place choice is refl) ((same piece bytes).0 accepted)),
     (λ is. (same piece bytes).1 (rw is.marked at (marked_way 0 is.member is.taken))),
   )

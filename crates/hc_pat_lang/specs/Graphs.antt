@@ -1,6 +1,6 @@
 -- The graphs of what is made of sets: where each choice leads from a key, and which keys are final.
-use Rattle.std.specs.Prelude.{◌≡◌, ℕ, ◌-◌, ◌<◌, ◌&&◌, ◌↔◌, nat_lt, IsTrue, List, []}
-use Rattle.std.specs.Prelude.{◌∷◌, length, slice_get}
+use Rattle.std.specs.Prelude.{◌≡◌, ℕ, ◌+◌, ◌-◌, ◌<◌, ◌&&◌, ◌↔◌, nat_eq, nat_lt, IsTrue}
+use Rattle.std.specs.Prelude.{List, [], ◌∷◌, length, slice_get}
 use Rattle.std.specs.Prelude.{if◌then◌else◌, map, Bool, true, false, Option, None, Some}
 use Rattle.hc_base.specs.Paths.{is_slash}
 use Rattle.hc_dfa.specs.Automata.{Automaton, accepts, states, next_state, is_final}
@@ -12,13 +12,14 @@ use Rattle.hc_dfa.specs.declared.graphs.Move.{Move}
 use Rattle.hc_pattern.specs.Bits.{has_byte}
 use Rattle.hc_pattern.specs.declared.set.ByteSet.{ByteSet}
 use Rattle.hc_pat_lang.specs.Nodes.{Takes}
-use Rattle.hc_pat_lang.specs.declared.joined.Side.{Side}
-use Rattle.hc_pat_lang.specs.declared.joined.Side.TheVariants.{First, Second}
+use Rattle.hc_pat_lang.specs.declared.joined.Stage.{Stage}
 use Rattle.hc_pat_lang.specs.declared.nodes.Node.{Node}
 use Rattle.hc_pat_lang.specs.declared.nodes.Node.TheVariants.{Dead, End, Step, Marked, Fork}
 use Rattle.hc_pat_lang.specs.declared.quotients.Along.{Along}
 use Rattle.hc_pat_lang.specs.declared.quotients.Along.TheVariants.{Alone, Beside}
 use Rattle.hc_pat_lang.specs.declared.slashes.Behind.{Behind}
+use Rattle.hc_pat_lang.specs.declared.tails.Cut.{Cut}
+use Rattle.std.specs.Option.{is_none}
 
 -- To a key past a byte that is read, and past none.
 abbrev pub reading : {K : Type 0} → ℕ → K → Option (Move K)
@@ -27,27 +28,31 @@ reading {K} byte to = Some (record { byte = Some byte; to = to })
 abbrev pub passing : {K : Type 0} → K → Option (Move K)
 passing {K} to = Some (record { byte = None; to = to })
 
--- ---- a text of one automaton, and then one of another
+-- ---- a text of each automaton, one behind the other
 
-abbrev pub IsSide : Automaton → Automaton → Side → Type 0
-IsSide a b (First state) = state < states a
-IsSide a b (Second state) = state < states b
+abbrev pub IsStateOf : Option Automaton → ℕ → Type 0
+IsStateOf None state = Unit {0}
+IsStateOf (Some a) state = state < states a
 
--- The first automaton leads on, and where it is final to the start of the second.
-abbrev pub joined_moves : Automaton → Automaton → Side → Choice → Option (Move Side)
-joined_moves a b (First state) (Byte byte) = reading byte (First (next_state a state byte))
-joined_moves a b (First state) One = if is_final a state then passing (Second 0) else None
-joined_moves a b (First state) Other = None
-joined_moves a b (Second state) (Byte byte) = reading byte (Second (next_state b state byte))
-joined_moves a b (Second state) One = None
-joined_moves a b (Second state) Other = None
+-- A state of the automaton with the number, or the end behind the last one.
+abbrev pub IsStage : List Automaton → Stage → Type 0
+IsStage sets stage = IsStateOf (slice_get sets stage.set) stage.state
 
-abbrev pub joined_final : Automaton → Side → Bool
-joined_final b (First state) = false
-joined_final b (Second state) = is_final b state
+-- The automaton leads on, and where it is final to the start of the next one.
+abbrev pub stage_moves : Option Automaton → Stage → Choice → Option (Move Stage)
+stage_moves None stage choice = None
+stage_moves (Some a) stage (Byte byte) =
+    reading byte (record { set = stage.set; state = next_state a stage.state byte })
+stage_moves (Some a) stage One =
+    if is_final a stage.state then passing (record { set = stage.set + 1; state = 0 }) else None
+stage_moves (Some a) stage Other = None
 
-abbrev pub joined_graph : Automaton → Automaton → GraphOf Side
-joined_graph a b = record { moves = joined_moves a b; is_final = joined_final b }
+abbrev pub joined_graph : List Automaton → GraphOf Stage
+joined_graph sets =
+    record {
+      moves = λ stage. stage_moves (slice_get sets stage.set) stage;
+      is_final = λ stage. is_none (slice_get sets stage.set);
+    }
 
 -- ---- what is left of a text of a set behind or before a text of another one
 
@@ -88,6 +93,24 @@ front_final set by (Beside state other) = is_final set state && is_final by othe
 
 abbrev pub front_graph : Automaton → Automaton → GraphOf Along
 front_graph set by = record { moves = front_moves set by; is_final = front_final set by }
+
+-- ---- what is left of a text of a set without its first bytes
+
+-- What is read of a byte where so many are still passed over.
+abbrev pub read_past : ℕ → ℕ → Option ℕ
+read_past left byte = if nat_eq left 0 then Some byte else None
+
+abbrev pub tail_moves : Automaton → Cut → Choice → Option (Move Cut)
+tail_moves a cut (Byte byte) =
+    Some (record {
+      byte = read_past cut.left byte;
+      to = record { left = cut.left - 1; state = next_state a cut.state byte };
+    })
+tail_moves a cut One = None
+tail_moves a cut Other = None
+
+abbrev pub tail_graph : Automaton → GraphOf Cut
+tail_graph a = record { moves = tail_moves a; is_final = λ cut. is_final a cut.state }
 
 -- ---- slashes
 

@@ -1,5 +1,5 @@
 -- Sets of texts that are made of sets of texts.
-use Rattle.std.specs.Prelude.{◌≡◌, ℕ, ◌↔◌, IsTrue, List, ◌++◌}
+use Rattle.std.specs.Prelude.{◌≡◌, ℕ, ◌↔◌, IsTrue, List, [], ◌∷◌, ◌++◌, drop}
 use Rattle.hc_base.specs.Paths.{merge_slashes}
 use Rattle.hc_dfa.specs.Automata.{Automaton, accepts}
 use Rattle.hc_dfa.specs.Texts.{IsText, TextSet}
@@ -16,6 +16,12 @@ pub record IsJoined (first second : TextSet) (text : List ℕ) : Type 0 where
   pub goes_on : IsTrue (second back)
   pub joined : front ++ back ≡ text
 
+-- A text of each set, one behind the other.
+abbrev pub AreJoined : List TextSet → List ℕ → Type 0
+AreJoined [] text = text ≡ []
+AreJoined (set ∷ sets) text =
+    (front : List ℕ) × (rest : List ℕ) × (text ≡ front ++ rest) × IsTrue (set front) × AreJoined sets rest
+
 -- What is left of a text of the set behind a text of the other one.
 pub record IsRest (set by : TextSet) (text : List ℕ) : Type 0 where
   pub front : List ℕ
@@ -29,6 +35,10 @@ pub record IsFront (set by : TextSet) (text : List ℕ) : Type 0 where
   pub bytes : IsText back
   pub goes_on : IsTrue (by back)
   pub member : IsTrue (set (text ++ back))
+
+-- What is left of a text of the set without so many of its first bytes.
+abbrev pub IsBehind : TextSet → ℕ → List ℕ → Type 0
+IsBehind set count text = (m : List ℕ) × IsText m × IsTrue (set m) × (text ≡ drop count m)
 
 -- A text of the set with each run of slashes as one.
 pub record IsMerged (set : TextSet) (text : List ℕ) : Type 0 where
