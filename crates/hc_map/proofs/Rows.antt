@@ -49,3 +49,18 @@ none_at key lines i line at is = ap (λ row. option_or row (value_among key (dro
 pub none_left : (key : List ℕ) (lines : List (List ℕ)) (i : ℕ) → length lines ≡ i
     → None ≡ value_among key (drop i lines)
 none_left key lines i all = ap (value_among key) (sym (drop_all i lines (omega arith)))
+
+-- The same behind what other lines gave before.
+or_assoc : {T : Type 0} (x y z : Option T) → option_or (option_or x y) z ≡ option_or x (option_or y z)
+or_assoc None y z = refl
+or_assoc (Some x) y z = refl
+
+pub row_at : (key : List ℕ) (lines : List (List ℕ)) (i : ℕ) (line : List ℕ) (row : Row)
+    (before : Option (List ℕ)) → (i < length lines) × (line ≡ get_or lines i line) → Some row ≡ row_in line
+    → option_or (option_or before (value_by_row key (Some row))) (value_among key (drop (i + 1) lines))
+    ≡ option_or before (value_among key (drop i lines))
+row_at key lines i line row before at is =
+    or_assoc before (value_by_row key (Some row)) (value_among key (drop (i + 1) lines))
+    ∙ ap (option_or before)
+    (ap (λ r. option_or (value_by_row key r) (value_among key (drop (i + 1) lines))) is
+    ∙ sym (one_more key lines i line at))

@@ -1,2 +1,4 @@
+pub mod Gathered
+pub mod Images
 pub mod Maps
 pub mod Searching

@@ -21,13 +21,31 @@ pub(crate) fn value_in<'t>(text: &'t [u8], key: &[u8]) -> Option<&'t [u8]>
 fn value_in_line<'t>(line: &'t [u8], key: &[u8]) -> Option<&'t [u8]>
     ensures { option_map (λ value. value.now) result ≡ value_by_row key.now (row_in line.now) }
 {
-    let (word, behind) = first_word(without_cr(line))?;
-    if begins_with(word, b'#') || word != key {
+    let row = row_in(line)?;
+    if row.key != key {
+        return None;
+    }
+    Some(row.value)
+}
+
+/// What a line of a map's text says.
+#[derive(Clone, Copy)]
+pub(crate) struct Row<'t> {
+    pub(crate) key: &'t [u8],
+    pub(crate) value: &'t [u8],
+}
+
+/// The row of a line; none where it has no word, or is a comment.
+pub(crate) fn row_in(line: &[u8]) -> Option<Row<'_>>
+    ensures { option_map (λ row. (row.key.now, row.value.now)) result ≡ row_in line.now }
+{
+    let (key, behind) = first_word(without_cr(line))?;
+    if begins_with(key, b'#') {
         return None;
     }
     match first_word(behind) {
-        Some((value, _)) => Some(value),
-        None => Some(&[]),
+        Some((value, _)) => Some(Row { key, value }),
+        None => Some(Row { key, value: &[] }),
     }
 }
 

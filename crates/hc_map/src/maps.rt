@@ -37,7 +37,7 @@ pub fn file_of<'m>(maps: &'m [Map], name: &[u8]) -> Option<&'m [u8]>
 }
 
 // The first map of a name.
-fn map_named<'m>(maps: &'m [Map], name: &[u8]) -> Option<&'m Map>
+pub(crate) fn map_named<'m>(maps: &'m [Map], name: &[u8]) -> Option<&'m Map>
     ensures { option_map (λ map. map.now) result ≡ map_named maps.now name.now }
 {
     maps.iter().find(|map| map.name.as_bytes() == name)
