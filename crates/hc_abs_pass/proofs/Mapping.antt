@@ -39,7 +39,7 @@ use Rattle.hc_abs_pass.specs.Mapping.{target_items}
 
 -- What a test of an entry found is held.
 abbrev Holds : PathTest → Found → State → Type 0
-Holds (Prefix from) found s = (found.groups ≡ no_groups) × (found.rest ≡ drop (length from) (s.slots Slot.path))
+Holds (Prefix from) found s = (found.groups ≡ no_groups) × (found.rest ≡ drop (length from) (s.slots Slot.Path))
 Holds (Search pattern) found s = ((at : ℕ) → pick s.given groups at ≡ found.groups at) × (found.rest ≡ [])
 
 target_is : (from : PathTest) (found : Found) (s : State) → Holds from found s → (pieces : List Piece)
@@ -59,7 +59,7 @@ target_is from found s holds (piece.Lookup' name key keys fallback fallbacks ∷
 
 rest_is : (from : PathTest) (found : Found) (s : State) → Holds from found s
     → text_of s (rest_items from) ≡ found.rest
-rest_is (Prefix from) found s holds = append-nil (drop (length from) (s.slots Slot.path)) ∙ sym holds.1
+rest_is (Prefix from) found s holds = append-nil (drop (length from) (s.slots Slot.Path)) ∙ sym holds.1
 rest_is (Search pattern) found s holds = sym holds.1
 
 text_of_both : (s : State) (one other : List Item) → text_of s (one ++ other) ≡ text_of s one ++ text_of s other
@@ -78,20 +78,20 @@ module _ {A : Type 0} (give : Left → A) (caller : Caller) where
     abbrev further : Left → State → PlanRun A
     further left s = plan_run (let_go groups (done (give left))) s
 
-    location_is : (query : List ℕ) → s.slots Slot.query ≡ query
+    location_is : (query : List ℕ) → s.slots Slot.Query ≡ query
         → (absolute (common caller) (text_of s (target_items redirect.from redirect.to))
         ++ escaped (text_of s (rest_items redirect.from)))
-        ++ query_part (text_of s (target_items redirect.from redirect.to)) (s.slots Slot.query ++ [])
+        ++ query_part (text_of s (target_items redirect.from redirect.to)) (s.slots Slot.Query ++ [])
         ≡ location caller redirect found query
     location_is query same =
         let target = filled (filling_with found.groups) redirect.to in
         ap₂ (λ target query. (absolute caller target ++ escaped (text_of s (rest_items redirect.from)))
         ++ query_part target query)
-        (target_is redirect.from found s holds redirect.to) (append-nil (s.slots Slot.query) ∙ same)
+        (target_is redirect.from found s holds redirect.to) (append-nil (s.slots Slot.Query) ∙ same)
         ∙ ap (λ rest. (absolute caller target ++ escaped rest) ++ query_part target query)
         (rest_is redirect.from found s holds)
 
-    sends : (query : List ℕ) → s.slots Slot.query ≡ query
+    sends : (query : List ℕ) → s.slots Slot.Query ≡ query
         → Sends give (plan_run (sent_away give (common caller) redirect) s) (away_by caller query (redirect, found))
     unfolding plan_run
     sends query same =
@@ -103,7 +103,7 @@ module _ {A : Type 0} (give : Left → A) (caller : Caller) where
         held = record {
           first = text_of s (target_items redirect.from redirect.to);
           second = s.texts.second;
-          third = query_part (text_of s (target_items redirect.from redirect.to)) (s.slots Slot.query ++ []);
+          third = query_part (text_of s (target_items redirect.from redirect.to)) (s.slots Slot.Query ++ []);
         }
 
         by : (is : Bool) → Sends give
@@ -123,7 +123,7 @@ module _ {A : Type 0} (give : Left → A) (caller : Caller) where
           refl,
           ap (outcome.Redirect redirect.status) (sym (ap (λ rest.
               (absolute (common caller) (text_of s (target_items redirect.from redirect.to)) ++ escaped rest)
-              ++ query_part (text_of s (target_items redirect.from redirect.to)) (s.slots Slot.query ++ []))
+              ++ query_part (text_of s (target_items redirect.from redirect.to)) (s.slots Slot.Query ++ []))
               (rest_text redirect.from s held) ∙ location_is query same)),
         )
 
@@ -138,16 +138,16 @@ module _ {A E : Type 0} (from : E → PathTest) (sending : E → Plan A) (path :
       × Holds (from taken.0) taken.1 later × (later.slots ≡ s.slots) × (later.client ≡ s.client)
 
   abbrev Goes : List E → Type 0
-  Goes entries = (plan : Plan A) (s : State) → s.slots Slot.path ≡ path
+  Goes entries = (plan : Plan A) (s : State) → s.slots Slot.Path ≡ path
       → Entered plan s (plan_run (entries_plan from sending entries plan) s) (first_taking from entries path)
 
   module _ (entry : E) (entries : List E) (goes : Goes entries) (plan : Plan A) (s : State)
-      (meets : s.slots Slot.path ≡ path) where
+      (meets : s.slots Slot.Path ≡ path) where
     abbrev text : List ℕ
-    text = s.slots Slot.path ++ []
+    text = s.slots Slot.Path ++ []
 
     same_text : text ≡ path
-    same_text = append-nil (s.slots Slot.path) ∙ meets
+    same_text = append-nil (s.slots Slot.Path) ∙ meets
 
     abbrev step : Bool → Plan A
     step is = elim is [ true ↦ sending entry | false ↦ entries_plan from sending entries plan ]
@@ -177,7 +177,7 @@ module _ {A E : Type 0} (from : E → PathTest) (sending : E → Plan A) (path :
           in_hand s main text,
           refl,
           subst (λ own. Holds own (behind front text) (in_hand s main text)) (sym is)
-              (refl, ap (drop (length front)) (append-nil (s.slots Slot.path))),
+              (refl, ap (drop (length front)) (append-nil (s.slots Slot.Path))),
           refl,
           refl,
         )
@@ -222,17 +222,17 @@ module _ {A E : Type 0} (from : E → PathTest) (sending : E → Plan A) (path :
 
 module _ (caller : Caller) (servers : List Server) (path query : List ℕ) where
   abbrev rooted : Plan Placing
-  rooted = under_root_plan (root_of servers) Slot.path
+  rooted = under_root_plan (root_of servers) Slot.Path
 
   abbrev named_plan : Plan Placing
   named_plan = aliases_plan (maps_of servers) rooted
 
-  root_maps : (s : State) → s.slots Slot.path ≡ path → (root : Option (List ℕ))
-      → Maps s (plan_run (under_root_plan root Slot.path) s) (under_root root path)
+  root_maps : (s : State) → s.slots Slot.Path ≡ path → (root : Option (List ℕ))
+      → Maps s (plan_run (under_root_plan root Slot.Path) s) (under_root root path)
   unfolding plan_run
   root_maps s meets None = (s, refl)
   root_maps s meets (Some root) =
-      (_, refl, ap (λ path. root ++ path) (append-nil (s.slots Slot.path) ∙ meets), refl, refl)
+      (_, refl, ap (λ path. root ++ path) (append-nil (s.slots Slot.Path) ∙ meets), refl, refl)
 
   -- Maps looks at slots and client alone.
   moved : (s later : State) (first : PlanRun Placing) → later.slots ≡ s.slots → later.client ≡ s.client
@@ -241,7 +241,7 @@ module _ (caller : Caller) (servers : List Server) (path query : List ℕ) where
   moved s later first slots client (mapped.Away away) is = is
   moved s later first slots client mapped.NoRoot is = is
 
-  aliases_map : (s : State) → s.slots Slot.path ≡ path
+  aliases_map : (s : State) → s.slots Slot.Path ≡ path
       → Maps s (plan_run named_plan s) (or_named (aliased (maps_of servers) path) (under_root (root_of servers) path))
   unfolding plan_run
   aliases_map s meets =
@@ -254,7 +254,7 @@ module _ (caller : Caller) (servers : List Server) (path query : List ℕ) where
       by None first is =
           subst (λ first. Maps s first (under_root (root_of servers) path)) (sym is.1)
           (moved s is.0 (plan_run rooted is.0) is.2 is.3 (under_root (root_of servers) path)
-          (root_maps is.0 (ap (λ slots. slots Slot.path) is.2 ∙ meets) (root_of servers)))
+          (root_maps is.0 (ap (λ slots. slots Slot.Path) is.2 ∙ meets) (root_of servers)))
       by (Some own) first is = (
         holding (in_hand is.0 main
             (text_of is.0 (target_items own.0.from own.0.to ++ rest_items own.0.from))) groups (λ at. []),
@@ -266,7 +266,7 @@ module _ (caller : Caller) (servers : List Server) (path query : List ℕ) where
         is.4,
       )
 
-  pub map_goes : (s : State) → s.slots Slot.path ≡ path → s.slots Slot.query ≡ query
+  pub map_goes : (s : State) → s.slots Slot.Path ≡ path → s.slots Slot.Query ≡ query
       → Maps s (plan_run (map_plan (common caller) servers) s) (mapped_among servers path query caller)
   unfolding map_plan
   map_goes s meets asked =
@@ -283,7 +283,7 @@ module _ (caller : Caller) (servers : List Server) (path query : List ℕ) where
           let mapped = or_named (aliased (maps_of servers) path) (under_root (root_of servers) path) in
           subst (λ first. Maps s first mapped) (sym is.1)
           (moved s is.0 (plan_run named_plan is.0) is.2 is.3 mapped
-          (aliases_map is.0 (ap (λ slots. slots Slot.path) is.2 ∙ meets)))
+          (aliases_map is.0 (ap (λ slots. slots Slot.Path) is.2 ∙ meets)))
       by (Some own) first is =
           subst (λ first. Sends over first (away_by caller query own)) (sym is.1)
-          (sends over caller own.0 own.1 is.0 is.2 query (ap (λ slots. slots Slot.query) is.3 ∙ asked))
+          (sends over caller own.0 own.1 is.0 is.2 query (ap (λ slots. slots Slot.Query) is.3 ∙ asked))

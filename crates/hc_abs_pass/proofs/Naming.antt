@@ -40,13 +40,13 @@ module _ (site : Site) (shown : Shown) where
       → MeetsOn site pass s → MeetsOn site pass later
   same_slots pass s later slots client meets = record {
     text = refl;
-    query = ap (λ slots. slots Slot.query) slots ∙ meets.query;
+    query = ap (λ slots. slots Slot.Query) slots ∙ meets.query;
     info = refl;
-    end = ap (λ slots. slots Slot.end) slots ∙ meets.end;
-    path = ap (λ slots. slots Slot.path) slots ∙ meets.path;
-    method = ap (λ slots. slots Slot.method) slots ∙ meets.method;
-    request = ap (λ slots. slots Slot.request) slots ∙ meets.request;
-    variables = λ name. ap (λ slots. slots (Slot.env name)) slots ∙ meets.variables name;
+    end = ap (λ slots. slots Slot.End) slots ∙ meets.end;
+    path = ap (λ slots. slots Slot.Path) slots ∙ meets.path;
+    method = ap (λ slots. slots Slot.Method) slots ∙ meets.method;
+    request = ap (λ slots. slots Slot.Request) slots ∙ meets.request;
+    variables = λ name. ap (λ slots. slots (Slot.Env name)) slots ∙ meets.variables name;
     headers = λ name. ap (λ slots. slots (header_slot name)) slots ∙ meets.headers name;
     caller = client ∙ meets.caller;
   }
@@ -90,10 +90,10 @@ module _ (site : Site) (shown : Shown) where
     }
 
     abbrev text : List ℕ
-    text = s.slots Slot.text ++ []
+    text = s.slots Slot.Text ++ []
 
     same_text : text ≡ left.text
-    same_text = append-nil (s.slots Slot.text) ∙ meets.text
+    same_text = append-nil (s.slots Slot.Text) ∙ meets.text
 
     abbrev mapping : Plan Placing
     mapping = map_plan (common site.caller) (servers_of site.config site.host)
@@ -108,7 +108,7 @@ module _ (site : Site) (shown : Shown) where
     path_like dots other = Like (NamedLike site)
         (plan_run (elim dots [
           | true ↦ done (over (outside DotSegment))
-          | false ↦ store ((Slot.path, from_hand main) ∷ []) mapping
+          | false ↦ store ((Slot.Path, from_hand main) ∷ []) mapping
         ]) (in_hand (in_hand (in_hand s main text) main text) main (tidied has_double_slash merge_slashes text)))
         (run (if other then ends (Outside DotSegment)
         else mapped_at site (record own_pass { path = merge_slashes left.text })) shown)
@@ -120,7 +120,7 @@ module _ (site : Site) (shown : Shown) where
         let merged = merge_slashes left.text in
         let is = tidied_is text ∙ ap merge_slashes same_text in
         let later : State = record s {
-          slots = put Slot.path (tidied has_double_slash merge_slashes text) s.slots;
+          slots = put Slot.Path (tidied has_double_slash merge_slashes text) s.slots;
           texts = all_three [];
         } in
         named_like (record own_pass { path = merged }) later _ _ (record {
@@ -142,7 +142,7 @@ module _ (site : Site) (shown : Shown) where
     -- The first component names something, or the document root stands in front.
     abbrev file_like : Bool → Bool → Type 0
     file_like own other = Like (NamedLike site)
-        (plan_run (elim own [ true ↦ done (in_hand_so true) | false ↦ under_root_plan root Slot.text ])
+        (plan_run (elim own [ true ↦ done (in_hand_so true) | false ↦ under_root_plan root Slot.Text ])
         (in_hand (in_hand s main text) main text))
         (run (name_left site own_pass left.text other >>= name_of site) shown)
 
@@ -154,13 +154,13 @@ module _ (site : Site) (shown : Shown) where
         by : (place : Named → Step Outcome Placed) → ((next : Named) → (place next >>= name_of site)
             ≡ leaves next)
             → (root : Option (List ℕ)) → Like (NamedLike site)
-            (plan_run (under_root_plan root Slot.text) (in_hand (in_hand s main text) main text))
+            (plan_run (under_root_plan root Slot.Text) (in_hand (in_hand s main text) main text))
             (run ((named own_pass (under_root root left.text) >>= place) >>= name_of site) shown)
         by place is None = (refl, refl)
         by place is (Some root) =
             let next : Named = record { pass = own_pass; name = root ++ left.text; from = None; own = false } in
             subst (λ step. Like (NamedLike site)
-            (plan_run (under_root_plan (Some root) Slot.text) (in_hand (in_hand s main text) main text))
+            (plan_run (under_root_plan (Some root) Slot.Text) (in_hand (in_hand s main text) main text))
             (run step shown)) (sym (is next)) (
               refl,
               next,

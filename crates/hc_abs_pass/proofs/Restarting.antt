@@ -119,12 +119,12 @@ begins name is =
     ∙ ap (λ begin. begin ++ drop (length front) name) (sym (same_bytes front (take (length front) name) is))
 
 pub variable_is : (slots : Slot → List ℕ) (vars : Variables) → AreOnce vars
-    → ((name : List ℕ) → slots (Slot.env name) ≡ variable_set vars name) → (name : List ℕ)
+    → ((name : List ℕ) → slots (Slot.Env name) ≡ variable_set vars name) → (name : List ℕ)
     → source_text slots (variable_source name) ≡ variable_set (vars_behind vars) name
 variable_is slots vars once are name = by (bytes_eq name status_name) refl
   where
     front_by : (is : Bool) → starts_with nat_eq name front ≡ is
-        → source_text slots (if is then from_slot (Slot.env (drop (length front) name)) else from_text [])
+        → source_text slots (if is then from_slot (Slot.Env (drop (length front) name)) else from_text [])
         ≡ variable_set (renamed front vars) name
     front_by true is =
         let m = drop (length front) name in
@@ -134,7 +134,7 @@ variable_is slots vars once are name = by (bytes_eq name status_name) refl
 
     by : (is : Bool) → bytes_eq name status_name ≡ is
         → source_text slots (if is then from_text (codes "200") else (if starts_with nat_eq name front
-        then from_slot (Slot.env (drop (length front) name)) else from_text []))
+        then from_slot (Slot.Env (drop (length front) name)) else from_text []))
         ≡ variable_set (vars_behind vars) name
     by true is =
         sym (set_again status_name (codes "200") name true (turned status_name name ∙ is) (renamed front vars))
@@ -188,18 +188,18 @@ module _ (site : Site) (here : Here) (left : RwState) (shown : Shown) (names : L
   placed text = path_for site here here.force.dir text
 
   abbrev path : List ℕ
-  path = placed (s.slots Slot.text ++ [])
+  path = placed (s.slots Slot.Text ++ [])
 
   abbrev tidy_path : List ℕ
   tidy_path = tidied has_double_slash merge_slashes path
 
   same_path : path ≡ placed left.text
-  same_path = ap placed (append-nil (s.slots Slot.text) ∙ meets.meets.text)
+  same_path = ap placed (append-nil (s.slots Slot.Text) ∙ meets.meets.text)
 
   abbrev begun_like : Bool → Type 0
   begun_like dots = Like (EndsLike site)
       (plan_run (elim dots [ true ↦ done (outside DotSegment) | false ↦ unless_last (is_last site here) names ])
-      (in_hand (in_hand (in_hand s main (s.slots Slot.text ++ [])) main path) main tidy_path))
+      (in_hand (in_hand (in_hand s main (s.slots Slot.Text ++ [])) main path) main tidy_path))
       (run (if dots then ends (Outside DotSegment)
       else (if is_last site here then ends (Limit Redirects)
       else told (event.Restart (merge_slashes (placed left.text)))
@@ -212,7 +212,7 @@ module _ (site : Site) (here : Here) (left : RwState) (shown : Shown) (names : L
     where
       by : (last : Bool) → Like (EndsLike site)
           (plan_run (unless_last last names)
-          (in_hand (in_hand (in_hand s main (s.slots Slot.text ++ [])) main path) main tidy_path))
+          (in_hand (in_hand (in_hand s main (s.slots Slot.Text ++ [])) main path) main tidy_path))
           (run (if last then ends (Limit Redirects) else told (event.Restart (merge_slashes (placed left.text)))
           (next_pass_of here left (merge_slashes (placed left.text)))) shown)
       by true = (refl, refl)
@@ -243,14 +243,14 @@ module _ (site : Site) (here : Here) (left : RwState) (shown : Shown) (names : L
   restart_like =
       subst (λ is. Like (EndsLike site) (plan_run (elim is [
         | true ↦ done (found here.walk.kind)
-        | false ↦ take_up main (slot_item Slot.text ∷ [])
+        | false ↦ take_up main (slot_item Slot.Text ∷ [])
             (make main (λ text also. placed text) main main (begun_again (is_last site here) names))
       ]) s) (run (answered_by site here left) shown))
       (sym (ap₂ bytes_eq meets.meets.text meets.name)) (by (bytes_eq left.text here.walk.name))
     where
       by : (is : Bool) → Like (EndsLike site) (plan_run (elim is [
         | true ↦ done (found here.walk.kind)
-        | false ↦ take_up main (slot_item Slot.text ∷ [])
+        | false ↦ take_up main (slot_item Slot.Text ∷ [])
             (make main (λ text also. placed text) main main (begun_again (is_last site here) names))
       ]) s) (run (if is then ends (outcome_at here.walk.kind here.walk.name left.info) else restarted site here left)
           shown)
@@ -261,7 +261,7 @@ module _ (site : Site) (here : Here) (left : RwState) (shown : Shown) (names : L
       by false =
           subst (λ dots. Like (EndsLike site)
           (plan_run (elim dots [ true ↦ done (outside DotSegment) | false ↦ unless_last (is_last site here) names ])
-          (in_hand (in_hand (in_hand s main (s.slots Slot.text ++ [])) main path) main tidy_path))
+          (in_hand (in_hand (in_hand s main (s.slots Slot.Text ++ [])) main path) main tidy_path))
           (run (restarted site here left) shown))
           (sym (ap has_dots (tidied_is path ∙ ap merge_slashes same_path)))
           (begun_by (has_dots (merge_slashes (placed left.text))))

@@ -42,15 +42,15 @@ module _ {A : Type 0} (scene : Scene) (view : View) (s : State) (sees : Sees sce
   unfolding plan_run
   reach_goes (Dir pattern) plan = refl
   reach_goes (DirSearch pattern) plan =
-      slot_goes s (s.slots Slot.name ++ []) view.name (is_found pattern) plan (append-nil _ ∙ sees.name)
+      slot_goes s (s.slots Slot.Name ++ []) view.name (is_found pattern) plan (append-nil _ ∙ sees.name)
   reach_goes (Files pattern) plan =
-      slot_goes s (s.slots Slot.name ++ []) view.name (is_component_found pattern) plan (append-nil _ ∙ sees.name)
-  reach_goes (Location path) plan = slot_goes s (s.slots Slot.path ++ []) view.path (is_at path) plan (append-nil _
+      slot_goes s (s.slots Slot.Name ++ []) view.name (is_component_found pattern) plan (append-nil _ ∙ sees.name)
+  reach_goes (Location path) plan = slot_goes s (s.slots Slot.Path ++ []) view.path (is_at path) plan (append-nil _
       ∙ sees.path)
   reach_goes (LocationGlob pattern) plan =
-      slot_goes s (s.slots Slot.path ++ []) view.path (is_found pattern) plan (append-nil _ ∙ sees.path)
+      slot_goes s (s.slots Slot.Path ++ []) view.path (is_found pattern) plan (append-nil _ ∙ sees.path)
   reach_goes (LocationSearch pattern) plan =
-      slot_goes s (s.slots Slot.path ++ []) view.path (is_found pattern) plan (append-nil _ ∙ sees.path)
+      slot_goes s (s.slots Slot.Path ++ []) view.path (is_found pattern) plan (append-nil _ ∙ sees.path)
   reach_goes (When expr) plan = expr_goes A scene view expr false plan s sees
   reach_goes (Otherwise expr) plan = expr_goes A scene view expr false plan s sees
 

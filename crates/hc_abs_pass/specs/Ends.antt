@@ -42,9 +42,9 @@ MeetsPass site pass state = Meets (context_at site pass) (state_at pass) state
 -- What the pass has come to where another text stands in the slot `text`.
 abbrev pub left_at : Pass → State → RwState
 left_at pass state = record {
-  text = state.slots Slot.text;
+  text = state.slots Slot.Text;
   query = pass.query;
-  info = state.slots Slot.info;
+  info = state.slots Slot.Info;
   vars = pass.vars;
   end = pass.end;
   groups = None;
@@ -61,7 +61,7 @@ AreOnce vars = IsDistinct bytes_eq (keys_of vars)
 -- Behind the rules of a directory.
 pub record MeetsHere (site : Site) (here : Here) (left : RwState) (state : State) : Type 0 where
   pub meets : Meets (context_at site here.named.pass) left state
-  pub name : state.slots Slot.name ≡ here.walk.name
+  pub name : state.slots Slot.Name ≡ here.walk.name
   pub once : AreOnce left.vars
 
 -- ---- ends
@@ -69,8 +69,8 @@ pub record MeetsHere (site : Site) (here : Here) (left : RwState) (state : State
 abbrev pub Ends : Site → State → Left → Way Outcome Pass → Type 0
 Ends site state (status number) way = way ≡ is_over (outcome.Status number)
 Ends site state (outside reason) way = way ≡ is_over (outcome.Outside reason)
-Ends site state (found kind) way = way ≡ is_over (outcome_at kind (state.slots Slot.name) (state.slots Slot.info))
-Ends site state (sent number) way = way ≡ is_over (outcome.Redirect number (state.slots Slot.location))
+Ends site state (found kind) way = way ≡ is_over (outcome_at kind (state.slots Slot.Name) (state.slots Slot.Info))
+Ends site state (sent number) way = way ≡ is_over (outcome.Redirect number (state.slots Slot.Location))
 Ends site state (refused refusal) way = way ≡ is_over (outcome.HtRefused refusal)
 Ends site state (limit kind) way = way ≡ is_over (outcome.Limit kind)
 Ends site state next_pass way =

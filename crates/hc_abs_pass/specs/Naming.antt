@@ -55,18 +55,18 @@ module _ (shown : Shown) (caller : Caller) (servers : List Server) where
   -- With PT the text is a URL path; else a file name, or what stands under the document root.
   abbrev pub text_plan : Bool → Plan Placing
   text_plan true =
-      take_up main (slot_item Slot.text ∷ [])
-      (tidy_plan over (store ((Slot.path, from_hand main) ∷ []) (map_plan caller servers)))
+      take_up main (slot_item Slot.Text ∷ [])
+      (tidy_plan over (store ((Slot.Path, from_hand main) ∷ []) (map_plan caller servers)))
   text_plan false =
-      take_up main (slot_item Slot.text ∷ []) (test main (first_exists shown) (λ own. elim own [
+      take_up main (slot_item Slot.Text ∷ []) (test main (first_exists shown) (λ own. elim own [
         | true ↦ done (named true)
-        | false ↦ under_root_plan (root_of servers) Slot.text
+        | false ↦ under_root_plan (root_of servers) Slot.Text
       ]))
 
   unfoldable pub placed_plan : Bool → Bool → Plan Placing
   placed_plan false passed = map_plan caller servers
   placed_plan true passed =
-      take_up main (slot_item Slot.text ∷ []) (test main (others begins_with_slash) (λ relative. elim relative [
+      take_up main (slot_item Slot.Text ∷ []) (test main (others begins_with_slash) (λ relative. elim relative [
         | true ↦ done (over (status 400))
         | false ↦ text_plan passed
       ]))
@@ -82,7 +82,7 @@ NamedLike site state (over (status number)) way decisions =
 NamedLike site state (over (outside reason)) way decisions =
     (decisions ≡ []) × (way ≡ is_over (outcome.Outside reason))
 NamedLike site state (over (sent number)) way decisions =
-    (decisions ≡ []) × (way ≡ is_over (outcome.Redirect number (state.slots Slot.location)))
+    (decisions ≡ []) × (way ≡ is_over (outcome.Redirect number (state.slots Slot.Location)))
 NamedLike site state (over other) way decisions = ⊥
 
 -- Behind the run of the server's rules.

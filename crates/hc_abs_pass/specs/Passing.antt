@@ -126,7 +126,7 @@ module _ (ground : Ground) where
       and_then (list_plan (frame_by (Some engine)) 0 settings.force.rules so_far) (dir_left settings)
 
   abbrev pub list_source : Slot → Source
-  list_source Slot.text = from_slot Slot.name
+  list_source Slot.Text = from_slot Slot.Name
   list_source other = from_slot other
 
   -- The file name is rewritten.
@@ -149,8 +149,8 @@ module _ (ground : Ground) where
 
   -- First that END was not met, and then that the name is not the directory itself.
   abbrev pub ruled_in : Settings → List ℕ → List Decision → Plan Segment
-  ruled_in settings dir decisions = of_slot Slot.end is_empty (λ fresh. elim fresh [
-    | true ↦ of_slot Slot.name (is_itself dir) (λ itself. elim itself [
+  ruled_in settings dir decisions = of_slot Slot.End is_empty (λ fresh. elim fresh [
+    | true ↦ of_slot Slot.Name (is_itself dir) (λ itself. elim itself [
       | true ↦ left_plan settings decisions false
       | false ↦ follow_plan settings dir decisions
     ])
@@ -199,7 +199,7 @@ module _ (ground : Ground) where
 
   abbrev pub there_plan : Bool → List Decision → WalkEnd → Plan Segment
   there_plan aliased decisions end = files_by
-      (sections_from (scene_with (slot_item Slot.query)) (λ settings. force_plan settings decisions) aliased end)
+      (sections_from (scene_with (slot_item Slot.Query)) (λ settings. force_plan settings decisions) aliased end)
       (λ left. done (ends_so decisions left)) (files_at end)
 
   abbrev pub name_plan : List Decision → Placing → Plan Segment
@@ -264,5 +264,5 @@ module _ (ground : Ground) where
   unfoldable pub from_dir_round : List ℕ → Bool → Plan Segment
   from_dir_round dir aliased =
       let ends = ends_in ground.levels ground.shown at_root in
-      take_up main (slot_item Slot.name ∷ []) (sort main (map exactly ends) (λ place.
+      take_up main (slot_item Slot.Name ∷ []) (sort main (map exactly ends) (λ place.
       again_at dir aliased (end_at ends place)))

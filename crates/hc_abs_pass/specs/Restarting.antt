@@ -40,19 +40,19 @@ status_name = codes "REDIRECT_STATUS"
 abbrev pub variable_source : List ℕ → Source
 variable_source name =
     if bytes_eq name status_name then from_text (codes "200")
-    else (if starts_with nat_eq name front then from_slot (Slot.env (drop (length front) name)) else from_text [])
+    else (if starts_with nat_eq name front then from_slot (Slot.Env (drop (length front) name)) else from_text [])
 
 abbrev pub pass_source : Slot → Source
-pass_source Slot.text = from_slot Slot.path
-pass_source Slot.name = from_text []
-pass_source Slot.info = from_text []
-pass_source Slot.location = from_text []
-pass_source Slot.first_query = from_slot Slot.query
-pass_source (Slot.env name) = variable_source name
+pass_source Slot.Text = from_slot Slot.Path
+pass_source Slot.Name = from_text []
+pass_source Slot.Info = from_text []
+pass_source Slot.Location = from_text []
+pass_source Slot.FirstQuery = from_slot Slot.Query
+pass_source (Slot.Env name) = variable_source name
 pass_source other = from_slot other
 
 abbrev pub looked_at : (List ℕ → Bool) → Slot → Bool
-looked_at names (Slot.env name) = names name
+looked_at names (Slot.Env name) = names name
 looked_at names other = true
 
 abbrev pub at_start : Ties
@@ -64,7 +64,7 @@ at_start = record { origin_path = false; text_path = true; text_name = false }
 abbrev pub unless_last : Bool → (List ℕ → Bool) → Plan Left
 unless_last true names = done (limit Redirects)
 unless_last false names =
-    store ((Slot.path, from_hand main) ∷ []) (rename pass_source (looked_at names) at_start (done next_pass))
+    store ((Slot.Path, from_hand main) ∷ []) (rename pass_source (looked_at names) at_start (done next_pass))
 
 -- The path stands in hand.
 abbrev pub begun_again : Bool → (List ℕ → Bool) → Plan Left
@@ -76,9 +76,9 @@ begun_again last names = tidy main has_double_slash merge_slashes (test main has
 -- Where the rules left the file name as it was, it is answered. `last` says whether the pass is the last one, `placed`
 -- gives the path that a text stands for, and `names` the variables that are looked at.
 unfoldable pub restart_plan : Kind → Bool → (List ℕ → List ℕ) → (List ℕ → Bool) → Plan Left
-restart_plan kind last placed names = choose (equal Slot.text Slot.name) (λ same. elim same [
+restart_plan kind last placed names = choose (equal Slot.Text Slot.Name) (λ same. elim same [
   | true ↦ done (found kind)
-  | false ↦ take_up main (slot_item Slot.text ∷ [])
+  | false ↦ take_up main (slot_item Slot.Text ∷ [])
       (make main (λ text also. placed text) main main (begun_again last names))
 ])
 

@@ -32,11 +32,11 @@ of_slot slot set plan = take_up main (slot_item slot ∷ []) (test main set (λ 
 
 abbrev pub reach_plan : {A : Type 0} → Scene → Reach → (Bool → Plan A) → Plan A
 reach_plan scene (Dir pattern) plan = put_down (plan false)
-reach_plan scene (DirSearch pattern) plan = of_slot Slot.name (is_found pattern) plan
-reach_plan scene (Files pattern) plan = of_slot Slot.name (is_component_found pattern) plan
-reach_plan scene (Location path) plan = of_slot Slot.path (is_at path) plan
-reach_plan scene (LocationGlob pattern) plan = of_slot Slot.path (is_found pattern) plan
-reach_plan scene (LocationSearch pattern) plan = of_slot Slot.path (is_found pattern) plan
+reach_plan scene (DirSearch pattern) plan = of_slot Slot.Name (is_found pattern) plan
+reach_plan scene (Files pattern) plan = of_slot Slot.Name (is_component_found pattern) plan
+reach_plan scene (Location path) plan = of_slot Slot.Path (is_at path) plan
+reach_plan scene (LocationGlob pattern) plan = of_slot Slot.Path (is_found pattern) plan
+reach_plan scene (LocationSearch pattern) plan = of_slot Slot.Path (is_found pattern) plan
 reach_plan scene (When expr) plan = ways_of scene expr false plan
 reach_plan scene (Otherwise expr) plan = ways_of scene expr false plan
 

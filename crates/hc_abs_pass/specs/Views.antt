@@ -36,10 +36,10 @@ pub record Scene : Type 0 where
 
 -- What an expression may not name has no value there.
 abbrev pub named_item : Scene → Variable → Item
-named_item scene variable.RequestUri = slot_item Slot.path
-named_item scene variable.RequestFilename = slot_item Slot.name
+named_item scene variable.RequestUri = slot_item Slot.Path
+named_item scene variable.RequestFilename = slot_item Slot.Name
 named_item scene variable.QueryString = scene.query
-named_item scene variable.RequestMethod = slot_item Slot.method
+named_item scene variable.RequestMethod = slot_item Slot.Method
 named_item scene variable.RequestScheme = literal (scheme_name scene.caller.request.scheme)
 named_item scene variable.Https = literal (on_off scene.caller.request.scheme)
 named_item scene variable.HttpHost = literal (host_with_port scene.caller.request)
@@ -130,10 +130,10 @@ ways_of {A} scene = fold-Expr (Ways A) (level_ways scene)
 
 -- The slots have what an expression sees, and the scene what all requests have in common.
 pub record Sees (scene : Scene) (view : View) (state : State) : Type 0 where
-  pub path : state.slots Slot.path ≡ view.path
-  pub name : state.slots Slot.name ≡ view.name
+  pub path : state.slots Slot.Path ≡ view.path
+  pub name : state.slots Slot.Name ≡ view.name
   pub query : item_text state scene.query ≡ view.query
-  pub method : state.slots Slot.method ≡ view.caller.request.method
+  pub method : state.slots Slot.Method ≡ view.caller.request.method
   pub headers : (name : List ℕ) → state.slots (header_slot name) ≡ header_value view.caller.request.headers name
   pub client : state.client ≡ view.caller.request.client
   pub scheme : scene.caller.request.scheme ≡ view.caller.request.scheme

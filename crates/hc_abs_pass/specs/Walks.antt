@@ -189,7 +189,7 @@ arrived None = leave_out
 arrived (Some end) =
     make second (λ text also. end.name (drop 1 text)) main main
     (make third (λ text also. end.info (drop 1 text)) main main
-    (store ((Slot.name, from_hand second) ∷ (Slot.info, from_hand third) ∷ []) (done end)))
+    (store ((Slot.Name, from_hand second) ∷ (Slot.Info, from_hand third) ∷ []) (done end)))
 
 -- The file name is in hand.
 unfoldable pub walk_plan : List WalkEnd → Plan WalkEnd
@@ -200,7 +200,7 @@ walk_plan ends = sort main (map rooted ends) (λ place. arrived (end_at ends pla
 -- The state at an end: the name and the path information are stored, and all texts are put down.
 abbrev pub stored_at : State → List ℕ → List ℕ → State
 stored_at before name info =
-    record before { slots = put Slot.info info (put Slot.name name before.slots); texts = all_three [] }
+    record before { slots = put Slot.Info info (put Slot.Name name before.slots); texts = all_three [] }
 
 abbrev pub WalkLike : State → State → WalkEnd → Way Outcome Walk → List Decision → Type 0
 WalkLike before state end way decisions =

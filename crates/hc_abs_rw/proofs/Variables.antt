@@ -14,6 +14,7 @@ use Rattle.hc_model.specs.declared.rewrite.EnvSet.{EnvSet}
 use Rattle.hc_model.specs.declared.template.Piece.{Piece}
 use Rattle.hc_plan.specs.Plan.{Plan, bound, store, from, from_hand, from_text}
 use Rattle.hc_plan.specs.Running.{storing}
+use Rattle.std.specs.Cmp.Lexicographic.{texts_ties}
 use Rattle.hc_plan.specs.Slots.{put}
 use Rattle.hc_plan.proofs.Slots.{own_bytes, same_bytes}
 use Rattle.hc_rw_eval.specs.Substitutions.{is_long, set_by as real_set_by, set_to, with_set as set_in_order}
@@ -108,7 +109,7 @@ module _ (context : Context) (looks : Looks) (shown : Shown) where
   moved : (now : RwState) (s : State) → Meets context now s → (name value : List ℕ) (vars : Variables)
       → ((other : List ℕ)
       → (if bytes_eq name other then value else variable_set now.vars other) ≡ variable_set vars other)
-      → Stands context (record now { vars = vars }) (put (Slot.env name) value s.slots) s.client
+      → Stands context (record now { vars = vars }) (put (Slot.Env name) value s.slots) s.client
   moved now s meets name value vars each = record {
     text = meets.text;
     query = meets.query;
@@ -117,19 +118,20 @@ module _ (context : Context) (looks : Looks) (shown : Shown) where
     path = meets.path;
     method = meets.method;
     request = meets.request;
-    variables = λ other. by other (bytes_eq name other) (meets.variables other) ∙ each other;
+    variables = λ other. ap (λ same. if same then value else s.slots (Slot.Env other)) (sym (texts_ties name other))
+        ∙ by other (bytes_eq name other) (meets.variables other) ∙ each other;
     headers = meets.headers;
     caller = meets.caller;
   }
     where
-      by : (other : List ℕ) (same : Bool) → s.slots (Slot.env other) ≡ variable_set now.vars other
-          → (if same then value else s.slots (Slot.env other)) ≡ (if same then value else variable_set now.vars
+      by : (other : List ℕ) (same : Bool) → s.slots (Slot.Env other) ≡ variable_set now.vars other
+          → (if same then value else s.slots (Slot.Env other)) ≡ (if same then value else variable_set now.vars
           other)
       by other true is = refl
       by other false is = is
 
   set : (now : RwState) (s : State) → Meets context now s → (name value : List ℕ)
-      → Stands context (with_variable name value now) (put (Slot.env name) value s.slots) s.client
+      → Stands context (with_variable name value now) (put (Slot.Env name) value s.slots) s.client
   set now s meets name value = moved now s meets name value (with_value now.vars name value)
       (λ other. sym (set_again name value other (bytes_eq name other) refl now.vars))
 
@@ -146,14 +148,14 @@ module _ (context : Context) (looks : Looks) (shown : Shown) where
         → Like R (elim is [
           | true ↦ too_long
           | false ↦
-              plan_run plan (storing (with_main s text one other) ((Slot.env name, from_hand main) ∷ []))
+              plan_run plan (storing (with_main s text one other) ((Slot.Env name, from_hand main) ∷ []))
         ])
         (run ((if is then ends (outcome.Outside LongText) else leaves (with_variable name text now)) >>= next) shown)
     unfolding run ◌>>=◌
     long_or true text name plan next now s one other meets holds further = refl
     long_or false text name plan next now s one other meets holds further =
         further (with_variable name text now)
-        (storing (with_main s text one other) ((Slot.env name, from_hand main) ∷ []))
+        (storing (with_main s text one other) ((Slot.Env name, from_hand main) ∷ []))
         (set now s meets name text) (record { own = holds.own; cond = holds.cond })
 
     set_like : (name : List ℕ) (value : Option (List Piece)) (plan : Plan C) (next : RwState → Step Outcome D)
@@ -161,11 +163,11 @@ module _ (context : Context) (looks : Looks) (shown : Shown) where
         → Further (set_by own name value plan) (λ now. real_set_by context looks now name value >>= next)
     unfolding plan_run run ◌>>=◌ real_set_by set_to
     set_like name None plan next further now s meets holds =
-        further (without_variable name now) (storing s ((Slot.env name, from (from_text [])) ∷ []))
+        further (without_variable name now) (storing s ((Slot.Env name, from (from_text [])) ∷ []))
         (set now s meets name [])
         (record { own = holds.own; cond = holds.cond })
     set_like name (Some value) plan next further now s meets holds =
-        let body = bound main is_long (store ((Slot.env name, from_hand main) ∷ []) plan) in
+        let body = bound main is_long (store ((Slot.Env name, from_hand main) ∷ []) plan) in
         let template = expanded looks (filling_in context now) value in
         let text = filled_with (values_shown looks shown) (filling_in context now) value in
         let led = expand_run context looks shown now body value s meets holds in

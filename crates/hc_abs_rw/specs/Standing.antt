@@ -54,31 +54,31 @@ Round = ValueOf (is_over_by true)
 
 -- The slots have the values of a request and of what rules have come to.
 pub record Stands (context : Context) (state : RwState) (slots : Slot → List ℕ) (client : Addr) : Type 0 where
-  pub text : slots Slot.text ≡ state.text
-  pub query : slots Slot.query ≡ state.query
-  pub info : slots Slot.info ≡ state.info
-  pub end : slots Slot.end ≡ (if state.end then codes "1" else [])
-  pub path : slots Slot.path ≡ context.path
-  pub method : slots Slot.method ≡ context.caller.request.method
-  pub request : slots Slot.request ≡ request_line context.caller.request
-  pub variables : (name : List ℕ) → slots (Slot.env name) ≡ variable_set state.vars name
+  pub text : slots Slot.Text ≡ state.text
+  pub query : slots Slot.Query ≡ state.query
+  pub info : slots Slot.Info ≡ state.info
+  pub end : slots Slot.End ≡ (if state.end then codes "1" else [])
+  pub path : slots Slot.Path ≡ context.path
+  pub method : slots Slot.Method ≡ context.caller.request.method
+  pub request : slots Slot.Request ≡ request_line context.caller.request
+  pub variables : (name : List ℕ) → slots (Slot.Env name) ≡ variable_set state.vars name
   pub headers : (name : List ℕ) → slots (header_slot name) ≡ header_value context.caller.request.headers name
   pub caller : client ≡ context.caller.request.client
 
 abbrev pub slot_value : Context → RwState → Slot → List ℕ
-slot_value context state Slot.origin = context.path
-slot_value context state Slot.path = context.path
-slot_value context state Slot.query = state.query
-slot_value context state Slot.first_query = context.first_query
-slot_value context state Slot.text = state.text
-slot_value context state Slot.name = state.text
-slot_value context state Slot.info = state.info
-slot_value context state Slot.end = if state.end then codes "1" else []
-slot_value context state Slot.method = context.caller.request.method
-slot_value context state Slot.request = request_line context.caller.request
-slot_value context state Slot.location = []
-slot_value context state (Slot.env name) = variable_set state.vars name
-slot_value context state (Slot.header name) = header_value context.caller.request.headers name
+slot_value context state Slot.Origin = context.path
+slot_value context state Slot.Path = context.path
+slot_value context state Slot.Query = state.query
+slot_value context state Slot.FirstQuery = context.first_query
+slot_value context state Slot.Text = state.text
+slot_value context state Slot.Name = state.text
+slot_value context state Slot.Info = state.info
+slot_value context state Slot.End = if state.end then codes "1" else []
+slot_value context state Slot.Method = context.caller.request.method
+slot_value context state Slot.Request = request_line context.caller.request
+slot_value context state Slot.Location = []
+slot_value context state (Slot.Env name) = variable_set state.vars name
+slot_value context state (Slot.Header name) = header_value context.caller.request.headers name
 
 -- A state of plans for a request and what rules have come to, with nothing held and no text in hand.
 abbrev pub started : Context → RwState → State
@@ -130,7 +130,7 @@ Leads context value state on way = (left : RwState) × (way ≡ goes_on (value l
 Leads context value state (status number) way = way ≡ is_over (outcome.Status number)
 Leads context value state (redirect number front noescape) way =
     way ≡ is_over (outcome.Redirect number
-    (location noescape front (state.slots Slot.location) context.first_query (state.slots Slot.query)))
+    (location noescape front (state.slots Slot.Location) context.first_query (state.slots Slot.Query)))
 Leads context value state (outside reason) way = way ≡ is_over (outcome.Outside reason)
 
 abbrev pub rewritten_so : Bool → RwState → Rewritten

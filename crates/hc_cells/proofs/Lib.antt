@@ -1,0 +1,4 @@
+pub mod Common
+pub mod Looking
+pub mod Places
+pub mod Slots

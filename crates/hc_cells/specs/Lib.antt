@@ -1,0 +1,4 @@
+pub mod Cells
+pub mod Containing
+pub mod Slots
+pub mod Ties
