@@ -1,7 +1,11 @@
+ghost use Rattle.std.specs.Prelude.{ℕ, ◌+◌, ◌==◌, ◌≤◌, nat_lt, if◌then◌else◌};
+ghost use Rattle.std.proofs.Common.{rules};
+
 use crate::languages::found_in;
-use hc_base::NoMemory;
+use hc_base::{NoMemory, Text};
 use hc_dfa::{
-    Dfa, Inclusion, Keep, byte_image, complement, first_members, included, least, product, reduce,
+    Dfa, Inclusion, Keep, Reading, byte_image, complement, first_members, included, least, listed,
+    product, reduce, tested,
 };
 use std::alloc::Global;
 use std::process::Abort;
@@ -173,6 +177,63 @@ fn an_image_replaces_bytes(rt: HostRuntime) -> Result<(), NoMemory> {
     let set = found_in(&rt, rt.alloc(), MANY_A_THEN_B)?;
     let image = byte_image(rt.alloc(), &set, &table)?;
     check(&rt, &image, &["Ab", "AAb"], &["ab", "AB"]);
+    Ok(())
+}
+
+fn set_of(alloc: Global, texts: &[&str]) -> Result<Dfa, NoMemory> {
+    let mut list = Vec::new(alloc);
+    for text in texts {
+        list.push(Text::copy_of(alloc, text.as_bytes())?)?;
+    }
+    listed(alloc, &list)
+}
+
+#[test]
+fn a_list_of_texts_is_their_set(rt: HostRuntime) -> Result<(), NoMemory> {
+    // The texts, others, and the states of the least automaton.
+    static ROWS: &[(&[&str], &[&str], u32)] = &[
+        (&[], &["", "a"], 1),
+        (&[""], &["a"], 2),
+        (&["ab", "ac", "ab"], &["", "a", "b", "abc"], 4),
+        (&["b", "", "ba"], &["a", "bb", "bab"], 4),
+    ];
+    for &(texts, others, states) in ROWS {
+        let set = set_of(rt.alloc(), texts)?;
+        check(&rt, &set, texts, others);
+        assert!(rt; set.states() == states);
+    }
+    Ok(())
+}
+
+// Texts of two bytes: a key counts the bytes that were read, up to three.
+#[derive(Clone, Copy)]
+struct OfTwo;
+
+impl Reading for OfTwo {
+    type Key = u32;
+
+    ghost is_key = { λ test count. count ≤ 3 };
+
+    ghost reads = { λ test count byte. if (nat_lt count 3) then count + 1 else count };
+
+    ghost holds = { λ test count. count == 2 };
+
+    fn next(&self, count: u32, _byte: u8) -> u32 {
+        if count < 3 { count + 1 } else { count }
+    }
+
+    fn holds(&self, count: u32) -> bool {
+        count == 2
+    }
+
+    ghost same = { Prim.search rules };
+}
+
+#[test]
+fn a_test_reads_byte_by_byte(rt: HostRuntime) -> Result<(), NoMemory> {
+    let set = tested(rt.alloc(), &OfTwo, 0)?;
+    check(&rt, &set, &["ab", "bb"], &["", "a", "abc", "abcde"]);
+    assert!(rt; set.states() == 4);
     Ok(())
 }
 

@@ -3,7 +3,9 @@ use hc_base::NoMemory;
 use hc_dfa::{
     Dfa, Inclusion, Keep, byte_image, complement, included, least, product, reduce, single,
 };
-use hc_pat_lang::{concat, matched, merge_slashes, prefix_quotient, suffix_quotient};
+use hc_pat_lang::{
+    behind, concat, concat_all, matched, merge_slashes, prefix_quotient, suffix_quotient,
+};
 use hc_pattern::{Pat, parse_pattern};
 use std::alloc::Global;
 use std::process::Abort;
@@ -218,6 +220,82 @@ fn sets_of_many_states_are_cut_in_a_moment(rt: HostRuntime) -> Result<(), NoMemo
     ];
     for (cut, first, second, wanted) in ROWS {
         let made = made_of_patterns(&rt, rt.alloc(), cut, first, second)?;
+        check_same(&rt, rt.alloc(), &made, wanted)?;
+    }
+    Ok(())
+}
+
+fn joined_of_patterns(rt: &impl Abort, alloc: Global, patterns: &[&str]) -> Result<Dfa, NoMemory> {
+    let mut sets = Vec::new(alloc);
+    for pattern in patterns {
+        sets.push(found_in(rt, alloc, pattern)?)?;
+    }
+    concat_all(alloc, &sets)
+}
+
+#[test]
+fn many_sets_are_joined(rt: HostRuntime) -> Result<(), NoMemory> {
+    static ROWS: &[(&[&str], &str)] = &[
+        (&[], "^$"),
+        (&["^a|b$"], "^a|b$"),
+        (&["^ab$", "^$", "^c?$", "^$"], "^abc?$"),
+        (&["^a*$", "^(ab)?$", "^b+$"], "^a*b+$"),
+        (&["a$", "^b", "c"], "ab.*c"),
+        (&["^a$", "a^", "^b$"], "a^"),
+    ];
+    for &(patterns, wanted) in ROWS {
+        let made = joined_of_patterns(&rt, rt.alloc(), patterns)?;
+        check_same(&rt, rt.alloc(), &made, wanted)?;
+    }
+    Ok(())
+}
+
+// A set so many times, one behind the other.
+fn repeated(alloc: Global, set: &Dfa, count: usize) -> Result<Dfa, NoMemory> {
+    let mut sets = Vec::new(alloc);
+    for _ in 0..count {
+        sets.push(set.clone()?)?;
+    }
+    concat_all(alloc, &sets)
+}
+
+#[test]
+fn thousands_of_sets_are_joined_in_a_moment(rt: HostRuntime) -> Result<(), NoMemory> {
+    let set = found_in(&rt, rt.alloc(), "^(a|bc)?d$")?;
+    let made = repeated(rt.alloc(), &set, 2700)?;
+    let text = "bcd".repeat(rt.alloc(), 2699)?;
+    assert!(rt; !made.accepts(text.as_bytes()));
+    let text = "bcd".repeat(rt.alloc(), 2700)?;
+    assert!(rt; made.accepts(text.as_bytes()));
+    Ok(())
+}
+
+fn behind_of_pattern(
+    rt: &impl Abort,
+    alloc: Global,
+    pattern: &str,
+    count: usize,
+) -> Result<Dfa, NoMemory> {
+    let set = found_in(rt, alloc, pattern)?;
+    behind(alloc, &set, count)
+}
+
+#[test]
+fn the_first_bytes_are_left_out(rt: HostRuntime) -> Result<(), NoMemory> {
+    static ROWS: &[(&str, usize, &str)] = &[
+        ("^abc$", 0, "^abc$"),
+        ("^abc$", 2, "^c$"),
+        ("^abc$", 3, "^$"),
+        ("^abc$", 1000, "^$"),
+        ("^(a|bcd)$", 1, "^(cd)?$"),
+        ("^a*b$", 2, "^(a*b)?$"),
+        ("^(ab)*$", 5, "^(b(ab)*)?$"),
+        ("^.*a.{10}$", 3, "^(.*a.{10}|.{8,10})$"),
+        ("b", 1, ""),
+        ("a^", 1, "a^"),
+    ];
+    for &(pattern, count, wanted) in ROWS {
+        let made = behind_of_pattern(&rt, rt.alloc(), pattern, count)?;
         check_same(&rt, rt.alloc(), &made, wanted)?;
     }
     Ok(())
