@@ -11,7 +11,7 @@ use Rattle.hc_rw_eval.specs.Groups.{group_length}
 use Rattle.hc_rw_eval.proofs.Leading.{leads_off, leads_then}
 
 -- The first group is a front of the conditions.
-abbrev IsSplit : ℕ → List (List Cond) → List Cond → Type 0
+abbrev pub IsSplit : ℕ → List (List Cond) → List Cond → Type 0
 IsSplit n groups conds = groups ≡ take n conds ∷ or_groups (drop n conds)
 
 first : (flag : Bool) (cond : Cond) (conds : List Cond)
@@ -28,12 +28,12 @@ grown : (cond : Cond) (conds : List Cond)
 grown cond [] = refl
 grown cond (next ∷ conds) = ap (into_group cond) (first next.or_next next conds (grown next conds))
 
-first_group : (conds : List Cond) → (length conds == 0) ≡ false
+pub first_group : (conds : List Cond) → (length conds == 0) ≡ false
     → IsSplit (group_length conds) (or_groups conds) conds
 first_group [] some = absurd (cc some)
 first_group (cond ∷ conds) some = first cond.or_next cond conds (grown cond conds)
 
-no_groups : (conds : List Cond) → (length conds == 0) ≡ true → or_groups conds ≡ []
+pub no_groups : (conds : List Cond) → (length conds == 0) ≡ true → or_groups conds ≡ []
 no_groups conds none = ap or_groups (nil_from_length conds (eqb-true _ 0 none))
 
 -- The loop over the groups: what is left from here on leads to the whole.

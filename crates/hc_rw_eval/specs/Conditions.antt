@@ -14,7 +14,7 @@ use Rattle.hc_model.specs.declared.walk.Kind.{Kind}
 use Rattle.hc_model.specs.declared.walk.Kind.TheVariants as kind
 use Rattle.hc_pattern.specs.Pattern.{Pattern}
 use Rattle.hc_rw_expand.specs.Contexts.{Context}
-use Rattle.hc_rw_expand.specs.Groups.{matched_in}
+use Rattle.hc_rw_expand.specs.Groups.{matched_in, newer}
 use Rattle.hc_rw_expand.specs.Lookups.{Looks, expanded}
 use Rattle.hc_rw_expand.specs.Values.{filling_in}
 use Rattle.hc_rw_expand.specs.declared.groups.Matched.{Matched}
@@ -79,12 +79,6 @@ seen_by (Search pattern) nocase text = leaves (by_pattern (searched text pattern
 seen_by (Equals wanted) nocase text = leaves (without_groups (is_text nocase wanted text))
 seen_by IsFile nocase text = stands_there is_file (path_named text) >>= λ holds. leaves (without_groups holds)
 seen_by IsDir nocase text = stands_there is_dir (dir_named text) >>= λ holds. leaves (without_groups holds)
-
--- The last pattern without negation that was found sets `%0` to `%9`.
-abbrev pub newer : Bool → Option Matched → Option Matched → Option Matched
-newer true found earlier = earlier
-newer false None earlier = earlier
-newer false (Some found) earlier = Some found
 
 abbrev pub counted : Bool → Bool → Bool
 counted true holds = not holds

@@ -2,7 +2,7 @@
 ghost use Rattle.std.specs.Prelude.{◌≡◌, ◌<◌, ◌≤◌, IfOk, length};
 ghost use Rattle.hc_rw_eval.specs.Conditions.{by_pattern, cond_told, cond_tried, conds_tried, counted, group_tried};
 ghost use Rattle.hc_rw_eval.specs.Conditions.{is_text};
-ghost use Rattle.hc_rw_eval.specs.Conditions.{newer, searched, seen_by, tested_by, text_tested, unless_held};
+ghost use Rattle.hc_rw_eval.specs.Conditions.{searched, seen_by, tested_by, text_tested, unless_held};
 ghost use Rattle.hc_rw_eval.specs.Conditions.{while_held};
 ghost use Rattle.hc_rw_eval.specs.Conditions.{without_groups};
 ghost use Rattle.hc_rw_eval.specs.Frames.{context_at, looks_at, shown_at};
@@ -16,7 +16,7 @@ use crate::told::tell_cond;
 use hc_base::{NoMemory, Text};
 use hc_match::first_match;
 use hc_model::{Cond, CondKind, Lookups, Regex};
-use hc_rw_expand::{Matched, RwState};
+use hc_rw_expand::{Matched, RwState, newer};
 use hc_steps::Log;
 use hc_world::World;
 use std::alloc::Global;
@@ -97,12 +97,6 @@ fn seen_by(
         CondKind::IsFile => Ok(without_groups(file_there(world, log, &text)?)),
         CondKind::IsDir => Ok(without_groups(dir_there(world, log, &text)?)),
     }
-}
-
-fn newer(negated: bool, found: Option<Matched>, earlier: Option<Matched>) -> Option<Matched>
-    ensures { result ≡ newer negated found earlier }
-{
-    if negated { earlier } else { found.or(earlier) }
 }
 
 fn tested_by(cond: &Cond, state: RwState, seen: Seen) -> Tested
@@ -208,8 +202,8 @@ fn while_held<P: Lookups>(
     group_tried(frame, log, tested.state, group)
 }
 
-// How many conditions the first group has.
-fn group_length(conds: &[Cond]) -> usize
+/// How many conditions the first group has: those up to the first without OR.
+pub fn group_length(conds: &[Cond]) -> usize
     ensures length { result ≡ group_length conds.now }
     ensures within { result ≤ length conds.now }
     ensures some { 0 < length conds.now → 0 < result }

@@ -10,7 +10,7 @@ use hc_rw_expand::Engine;
 use std::alloc::Global;
 
 /// A directory and a slash: `/` alone for `/`.
-pub(crate) fn with_slash(alloc: Global, dir: &[u8]) -> Result<Vec<u8>, NoMemory>
+pub fn with_slash(alloc: Global, dir: &[u8]) -> Result<Vec<u8>, NoMemory>
     ensures { IfOk result (λ made. made.items ≡ with_slash dir.now) }
 {
     let mut made = dir.to_vec(alloc)?;

@@ -25,6 +25,8 @@ mod told;
 mod variables;
 
 pub use attempt::{Attempt, Rewritten};
-pub use conditions::{Seen, Tested};
-pub use directories::url_path;
+pub use conditions::{Seen, Tested, group_length};
+pub use directories::{url_path, with_slash};
+pub use placement::{front_of, redirects, status_sent, stops};
 pub use run::{Finished, NextRound, Round, RulesRun, run_rules};
+pub use substitution::status_of;

@@ -27,14 +27,15 @@ use hc_target::is_url;
 use hc_template::push_origin;
 use std::alloc::Global;
 
-// R.
-fn redirects(flags: &Flags) -> bool
+/// R.
+pub fn redirects(flags: &Flags) -> bool
     ensures { result ≡ redirects flags.now }
 {
     flags.redirect != 0
 }
 
-fn status_sent(flags: &Flags) -> u16
+/// The status of a redirect: 302 where R names none.
+pub fn status_sent(flags: &Flags) -> u16
     ensures { result ≡ status_sent flags.now }
 {
     if redirects(flags) {
@@ -44,7 +45,8 @@ fn status_sent(flags: &Flags) -> u16
     }
 }
 
-fn stops(flags: &Flags) -> bool
+/// L or END.
+pub fn stops(flags: &Flags) -> bool
     ensures { result ≡ stops flags.now }
 {
     flags.last || flags.end
@@ -157,8 +159,8 @@ fn dir_front(alloc: Global, engine: &Engine<'_>) -> Result<Result<Text, Reason>,
     Ok(Ok(Text::from(with_slash(alloc, engine.dir.as_bytes())?)))
 }
 
-// What a relative text is put behind, by whether R is there.
-fn front_of(
+/// What a relative text is put behind, by whether R is there; a reason where that is outside.
+pub fn front_of(
     alloc: Global,
     engine: &Option<Engine<'_>>,
     redirected: bool,

@@ -47,8 +47,8 @@ fn redirect_status(status: u16) -> Option<u16>
     }
 }
 
-// The status that a rule answers with.
-fn status_of(flags: &Flags) -> Option<u16>
+/// The status that a rule answers with: F, G, or R with one that is no redirect.
+pub fn status_of(flags: &Flags) -> Option<u16>
     ensures { result ≡ status_of flags.now }
 {
     if flags.forbid {

@@ -1,7 +1,7 @@
 ghost use Rattle.std.specs.Prelude.{◌≡◌, map, IfOk};
 ghost use Rattle.std.specs.List.{range_with_len};
 ghost use Rattle.hc_match.specs.Settings.{captured};
-ghost use Rattle.hc_rw_expand.specs.Groups.{group_of, matched_in, span_at};
+ghost use Rattle.hc_rw_expand.specs.Groups.{group_of, matched_in, newer, span_at};
 
 use hc_base::{List, NoMemory, Span, Text, spanned};
 use hc_match::Captures;
@@ -70,4 +70,12 @@ fn span_at(spans: &[Option<Span>], number: u8) -> Option<Span>
         Some(span) => *span,
         None => None,
     }
+}
+
+/// What `%0` to `%9` hold behind a condition: what its pattern found, unless it is negated, and else what they held
+/// (Apache manual, mod_rewrite, RewriteCond).
+pub fn newer(negated: bool, found: Option<Matched>, earlier: Option<Matched>) -> Option<Matched>
+    ensures { result ≡ newer negated found earlier }
+{
+    if negated { earlier } else { found.or(earlier) }
 }

@@ -16,7 +16,7 @@ mod variables;
 
 pub use context::{Engine, RwContext};
 pub use filling::StateFilling;
-pub use groups::Matched;
+pub use groups::{Matched, newer};
 pub use lookups::{expand, looks_of};
 pub use query::{Split, split_query};
 pub use state::RwState;
