@@ -1,6 +1,6 @@
 -- The entries of a map, in their order, are those of the world that they stand for.
 use Rattle.hc_world.proofs.Common.{◌≡◌, ℕ, Bool, true, false, ◌&&◌, List, [], ◌∷◌, map, Vec, sym, ap}
-use Rattle.hc_world.proofs.Common.{◌∙◌, subst, T, Global, Less, from_sorted, entries-from_sorted}
+use Rattle.hc_world.proofs.Common.{◌∙◌, refl, subst, T, Global, Less, from_sorted, entries-from_sorted}
 use Rattle.hc_world.proofs.Common.{get-from_entries, get-from_sorted, keys, AllByRecursion, keys_of, is_lt, nat_cmp}
 use Rattle.hc_world.proofs.Common.{slice_cmp, nat_list_cmp_total, Entry, entry_of, world_of}
 use Rattle.std.specs.FinMap.Entries.{below_all, is_sorted}
@@ -37,3 +37,12 @@ keys-world_of entries s =
     same_answers _ _ (λ q. get-from_entries nat_list_cmp_total (map entry_of entries) q
     ∙ sym (get-from_sorted (slice_cmp nat_cmp) (map entry_of entries) q rises)) in
     ap keys same ∙ ap (map (λ e. e.0)) (entries-from_sorted (slice_cmp nat_cmp) (map entry_of entries) rises)
+
+entry_keys : (entries : Entries)
+    → map (λ e. e.0) (map entry_of entries) ≡ map (λ key. key.items) (keys_of entries)
+entry_keys [] = refl
+entry_keys (e ∷ es) = ap (λ l. e.0.items ∷ l) (entry_keys es)
+
+pub keys_in_order : (entries : Entries) → Ascend entries
+    → map (λ key. key.items) (keys_of entries) ≡ keys (world_of entries)
+keys_in_order entries s = sym (entry_keys entries) ∙ sym (keys-world_of entries s)

@@ -178,7 +178,7 @@ within_end w path place found paths so_far order first isnt =
 
 -- ---- which paths these are
 
-bytes_eq-is : (a b : Path) → bytes_eq a b ≡ same_path a b
+pub bytes_eq-is : (a b : Path) → bytes_eq a b ≡ same_path a b
 bytes_eq-is a b = by _ refl
   where
     by : (v : Bool) → same_path a b ≡ v → bytes_eq a b ≡ same_path a b
@@ -188,7 +188,7 @@ bytes_eq-is a b = by _ refl
         (λ t. false≢true (sym e ∙ ap (same_path a) (sym ((bytes_decides a b).0 t)) ∙ same_path-itself a))
         ∙ sym e
 
-among_filter : (p : Path → Bool) (ks : List Path) (q : Path) → is_among (filter p ks) q ≡ (p q && is_among ks q)
+pub among_filter : (p : Path → Bool) (ks : List Path) (q : Path) → is_among (filter p ks) q ≡ (p q && is_among ks q)
 among_filter p [] q = sym (and_false (p q))
   where
     and_false : (b : Bool) → (b && false) ≡ false

@@ -20,3 +20,4 @@ mod Slashes
 mod Worlds
 mod Walks
 pub mod Common
+pub mod Listed

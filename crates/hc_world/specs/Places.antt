@@ -1,13 +1,18 @@
--- The names in a directory, found from place to place among the paths of a world.
+-- The names in a directory, found from place to place among the paths of a world; and what lists its files and
+-- directories.
 use Rattle.std.specs.Prelude.{◌≡◌, ℕ, Bool, true, List, [], ◌∷◌, ◌++◌, length, drop}
 use Rattle.std.specs.Prelude.{if◌then◌else◌, nat_eq, Option, Some, None}
-use Rattle.std.specs.FinMap.{keys}
+use Rattle.std.specs.FinMap.{get, keys}
 use Rattle.std.specs.List.{filter, starts_with}
+use Rattle.std.specs.Str.{IsUtf8}
 use Rattle.std.specs.Ordering.{is_le, is_lt, nat_cmp}
 use Rattle.std.specs.Cmp.Lexicographic.{slice_cmp}
 use Rattle.hc_base.specs.Bytes.{slash}
 use Rattle.hc_base.specs.Paths.{ends_with_slash}
+use Rattle.hc_model.specs.Node.{Node, is_dir, is_file, text_of}
 use Rattle.hc_model.specs.World.{World, as_name}
+use Rattle.hc_world.specs.declared.world.ListKind.{ListKind}
+use Rattle.hc_world.specs.declared.world.ListKind.TheVariants.{Dir, File}
 
 -- ---- the order of bytes
 
@@ -45,3 +50,17 @@ GoesOn front path None = (key : List ℕ) → is_before path key ≡ true → na
 GoesOn front path (Some place) = (is_before path place ≡ true)
     × ((key : List ℕ) → is_before path key ≡ true → is_before key place ≡ true
     → name_behind front key ≡ None)
+
+-- ---- paths
+
+abbrev pub is_listed : ListKind → Option Node → Bool
+is_listed File node = is_file node
+is_listed Dir node = is_dir node
+
+-- The files, or the directories.
+abbrev pub paths_of : World → ListKind → List (List ℕ)
+paths_of world kind = filter (λ path. is_listed kind (get world path)) (keys world)
+
+-- Each text is UTF-8.
+abbrev pub HasUtf8 : World → Type 0
+HasUtf8 world = (path text : List ℕ) → text_of (get world path) ≡ Some text → IsUtf8 text

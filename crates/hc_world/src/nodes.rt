@@ -1,13 +1,15 @@
-ghost use Rattle.std.specs.Prelude.{◌≡◌, [], IfNone, IfOk, IfSome, OnErr, OnOk, option_map};
+ghost use Rattle.std.specs.Prelude.{◌≡◌, ◌∷◌, ◌++◌, [], IfNone, IfOk, IfSome, OnErr, OnOk, option_map};
 ghost use Rattle.std.specs.FinMap.{get, insert, remove};
+ghost use Rattle.std.specs.List.{filter};
 ghost use Rattle.std.specs.Option.{option_eq};
 ghost use Rattle.std.specs.Str.{bytes_eq};
-ghost use Rattle.hc_model.specs.Node.{is_dir, kind_of, text_of};
+ghost use Rattle.hc_model.specs.Node.{is_dir, is_file, kind_of, text_of};
 ghost use Rattle.hc_model.specs.World.{new_world};
 ghost use Rattle.hc_world.specs.Entries.{node_of};
-ghost use Rattle.hc_world.specs.Places.{IsFirstFrom, keys_from};
+ghost use Rattle.hc_world.specs.Places.{HasUtf8, IsFirstFrom, is_listed, keys_from, paths_of};
 
-use hc_base::NoMemory;
+use crate::world::ListKind;
+use hc_base::{List, NoMemory, Text};
 use hc_model::Kind;
 use std::alloc::Global;
 use std::collections::BTreeMap;
@@ -69,6 +71,53 @@ impl Nodes {
             Kind::File => false,
             Kind::Absent => false,
         }
+    }
+
+    fn is_file(&self, path: &[u8]) -> bool
+        ensures { result ≡ is_file (get self.now path.now) }
+    {
+        match self.kind(path) {
+            Kind::Dir => false,
+            Kind::File => true,
+            Kind::Absent => false,
+        }
+    }
+
+    fn is_listed(&self, kind: ListKind, path: &[u8]) -> bool
+        ensures { result ≡ is_listed kind (get self.now path.now) }
+    {
+        match kind {
+            ListKind::File => self.is_file(path),
+            ListKind::Dir => self.is_dir(path),
+        }
+    }
+
+    /// The paths of the files, or of the directories, in byte order.
+    pub(crate) fn paths(&self, alloc: Global, kind: ListKind) -> Result<List<Text>, NoMemory>
+        ensures paths { IfOk result (λ paths. paths ≡ paths_of self.now kind) }
+        ensures texts { HasUtf8 self.now }
+    {
+        let mut paths = List::new(alloc);
+        for path in self.entries.keys() {
+            self.push_listed(alloc, kind, path, &mut paths)?;
+        }
+        Ok(paths)
+    }
+
+    fn push_listed(
+        &self,
+        alloc: Global,
+        kind: ListKind,
+        path: &[u8],
+        paths: &mut List<Text>,
+    ) -> Result<(), NoMemory>
+        ensures { OnOk result (paths.new
+            ≡ paths.old ++ filter (λ path. is_listed kind (get self.now path)) (path.now ∷ [])) }
+    {
+        if self.is_listed(kind, path) {
+            paths.push(Text::copy_of(alloc, path)?)?;
+        }
+        Ok(())
     }
 
     /// The text of the file at a path.

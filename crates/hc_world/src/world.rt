@@ -6,6 +6,7 @@ ghost use Rattle.hc_model.specs.World.{IsWorld, names_in, new_world, put as put_
 ghost use Rattle.hc_model.specs.Walking.{walk as walk_in};
 ghost use Rattle.hc_world.specs.Edits.{Edits, EditsFiles, IsEdit, changed_at, dropped, lines_edited, listed};
 ghost use Rattle.hc_world.specs.Marks.{FilesMarked};
+ghost use Rattle.hc_world.specs.Places.{HasUtf8, paths_of};
 
 use crate::changes::Rows;
 use crate::drop::drop_path;
@@ -31,7 +32,7 @@ pub struct World {
     edits: u64,
 }
 
-/// What `World::list` makes.
+/// What `World::list` makes, and `World::paths` lists.
 #[derive(Clone, Copy, PartialEq, Eq)]
 pub enum ListKind {
     File,
@@ -94,6 +95,15 @@ impl World {
         ensures { IfOk result (λ names. names ≡ names_in self.now.files directory.now) }
     {
         names(self.files.alloc, &self.files.nodes, directory)
+    }
+
+    /// The paths of the files, or of the directories, in byte order.
+    pub fn paths(&self, kind: ListKind) -> Result<List<Text>, NoMemory>
+        ensures paths { IfOk result (λ paths. paths ≡ paths_of self.now.files kind) }
+        ensures valid { IsWorld self.now.files }
+        ensures texts { HasUtf8 self.now.files }
+    {
+        self.files.nodes.paths(self.files.alloc, kind)
     }
 
     /// Makes or replaces the file at a path, with this text, and makes its missing parents.
