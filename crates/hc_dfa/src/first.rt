@@ -1,4 +1,4 @@
-ghost use Rattle.std.specs.Prelude.{◌≡◌, ℕ, ◌+◌, ◌<◌, ◌^◌, ◌==◌, length, IfOk};
+ghost use Rattle.std.specs.Prelude.{◌+◌, ◌<◌, ◌^◌, ◌==◌, length, IfOk};
 ghost use Rattle.hc_dfa.specs.Automata.{accepts};
 ghost use Rattle.hc_dfa.specs.Built.{Accepts, AreFirst};
 ghost use Rattle.hc_dfa.specs.Singles.{AreOwn, single, single_step};

@@ -1,4 +1,4 @@
-ghost use Rattle.std.specs.Prelude.{◌≡◌, ℕ, ◌<◌, length, IfOk};
+ghost use Rattle.std.specs.Prelude.{◌≡◌, ◌<◌, length, IfOk};
 ghost use Rattle.hc_dfa.specs.Automata.{accepts, states};
 ghost use Rattle.hc_dfa.specs.Classings.{Classing, HasEnds, Tells};
 ghost use Rattle.hc_dfa.specs.Members.{IsOnlyOf, IsOnward};

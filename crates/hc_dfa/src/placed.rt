@@ -1,4 +1,4 @@
-ghost use Rattle.std.specs.Prelude.{◌≡◌, ℕ, ◌+◌, ◌<◌, ◌^◌, IfOk};
+ghost use Rattle.std.specs.Prelude.{◌≡◌, ◌+◌, ◌<◌, ◌^◌, IfOk};
 ghost use Rattle.hc_dfa.specs.Automata.{accepts, accepts_from, states};
 ghost use Rattle.hc_dfa.specs.Built.{Accepts};
 ghost use Rattle.hc_dfa.specs.Placings.{between, origin, placed_step};

@@ -1,5 +1,4 @@
-ghost use Rattle.std.specs.Prelude.{◌≡◌, ℕ, ◌+◌, ◌*◌, ◌<◌, ◌^◌, Bool, IfOk, OnOk, length};
-ghost use Rattle.hc_dfa.specs.Classings.{AreClasses};
+ghost use Rattle.std.specs.Prelude.{◌≡◌, ℕ, ◌+◌, ◌*◌, ◌<◌, Bool, IfOk, OnOk, length};
 ghost use Rattle.hc_dfa.specs.Tabled.{AreFilled, IsTabled, TellsAll};
 
 use crate::Dfa;
