@@ -3,12 +3,13 @@ use Rattle.std.proofs.Math.Seq.{take-length}
 use Rattle.hc_plan.proofs.Common.{◌≡◌, ◌∙◌, ℕ, ◌<◌, ◌≤◌, length, drop, arith, ◌&&◌}
 use Rattle.hc_plan.proofs.Common.{◌||◌, not, List, [], ◌∷◌}
 use Rattle.hc_plan.proofs.Common.{◌++◌, Bool, true, false, Option, None, Some, refl, ap, sym, either, inl, inr}
-use Rattle.hc_plan.proofs.Common.{append-nil, TextSet, and_right}
+use Rattle.hc_plan.proofs.Common.{append-nil, TextSet, and_right, subst}
 use Rattle.std.proofs.Common.{◌-◌, take, slice_index_or, cond}
 use Rattle.hc_cells.proofs.Places.{same_holds, slots_equal}
 use Rattle.hc_cells.specs.Cells.{Sets, holds, of_set, Restricts, set_at}
 use Rattle.hc_cells.specs.Slots.{same_slot}
-use Rattle.hc_cells.specs.Ties.{in_slots}
+use Rattle.hc_cells.specs.Ties.{in_slots, tied_to}
+use Rattle.hc_cells.specs.declared.ties.Ties.{Ties}
 use Rattle.hc_dfa.specs.Automata.{Automaton, accepts}
 use Rattle.hc_dfa.specs.Built.{Accepts}
 use Rattle.hc_dfa.specs.Texts.{IsEmptySet, IsText}
@@ -143,7 +144,7 @@ first_and_rest (y ∷ ys) x some is =
 
 -- ---- by another test of the same texts
 
-pub narrowed_alike : (sets : Sets) (slots : List Slot) (set other : TextSet)
+narrowed_alike : (sets : Sets) (slots : List Slot) (set other : TextSet)
     → ((m : List ℕ) → IsText m → set m ≡ other m) → (found : Option Sets)
     → NarrowedBy sets slots set found
     → NarrowedBy sets slots other found
@@ -172,10 +173,26 @@ joined_bytes [] other first second = second
 joined_bytes (b ∷ one) other first second = (first.0, joined_bytes one other first.1 second)
 
 -- The members of a slot whose text is on a side.
-pub framed : (side : Automaton) (met : TextSet) (sole : Sole) → Accepts side met → IsText sole.before
+framed : (side : Automaton) (met : TextSet) (sole : Sole) → Accepts side met → IsText sole.before
     → IsText sole.after
     → (m : List ℕ) → IsText m → between sole.before sole.skip sole.after (accepts side) m ≡ met
     (joined_with sole m)
 framed side met sole is before after m bytes =
     is (joined_with sole m) (joined_bytes sole.before (drop sole.skip m ++ sole.after) before
     (joined_bytes (drop sole.skip m) sole.after (dropped sole.skip m bytes) after))
+
+-- What a test leaves of a slot between known texts, by the members that keep it.
+pub sole_left : (sets : Sets) (ties : Ties) (sole : Sole) (side : Automaton) (own members : TextSet)
+    (before after : List ℕ) (slots : List Slot) (first found : Option Sets) → before ≡ sole.before
+    → after ≡ sole.after → IsText sole.before → IsText sole.after → Accepts side own
+    → ((m : List ℕ) → IsText m → members m ≡ accepts side (before ++ (drop sole.skip m ++ after)))
+    → slots ≡ tied_to ties sole.slot → first ≡ found → NarrowedOr sets sole.slot slots members first
+    → NarrowedBy sets (sole.slot ∷ tied_to ties sole.slot) (λ m. own (joined_with sole m)) found
+sole_left sets ties sole side own members before after slots first found is_before is_after text_before text_after
+    accepted keeps tied same narrowed =
+    narrowed_alike sets (sole.slot ∷ tied_to ties sole.slot) members (λ m. own (joined_with sole m))
+    (λ m bytes. keeps m bytes ∙ (λ i. accepts side (is_before i ++ (drop sole.skip m ++ is_after i)))
+    ∙ framed side own sole accepted text_before text_after m bytes)
+    found
+    (subst (λ tied. NarrowedOr sets sole.slot tied members found) tied
+    (subst (NarrowedOr sets sole.slot slots members) same narrowed))

@@ -36,7 +36,7 @@ use Rattle.hc_plan.specs.declared.shape.Shape.TheVariants as shape
 
 -- ---- shapes
 
-shape_known : (own : Option (List ℕ)) (sole : Option Sole) (text : List ℕ) → Known text ≡ shape_by own sole
+pub shape_known : (own : Option (List ℕ)) (sole : Option Sole) (text : List ℕ) → Known text ≡ shape_by own sole
     → own ≡ Some text
 shape_known (Some own) sole text is = ap (λ s. elim s [ Known own ↦ Some own | _ ↦ Some text ]) (sym is)
 shape_known None (Some sole) text is = absurd (cc)
@@ -53,7 +53,7 @@ shape_open (Some own) sole is = absurd (cc)
 shape_open None (Some sole) is = absurd (cc)
 shape_open None None is = refl
 
-the_text : {text other : List ℕ} → Some text ≡ Some other → text ≡ other
+pub the_text : {text other : List ℕ} → Some text ≡ Some other → text ≡ other
 the_text {text} is = ap (λ found. elim found [ Some z ↦ z | None ↦ text ]) is
 
 none_behind : (own : List ℕ) (now : List Part) (text : List ℕ) (rest : Option (List ℕ))
@@ -98,14 +98,14 @@ module _ (cell : Slot → TextSet) where
   reads_have (open_slot slot skip) now (inr is) x has = subst (λ now. PartHas cell now x) (sym is.1) has
   reads_have (free set) now reads x has = subst (λ now. PartHas cell now x) (sym reads) has
 
-  all_have : (parts now : List Part) → ReadNow cell parts now → (x : List ℕ) → PartsHave cell parts x
+  pub all_have : (parts now : List Part) → ReadNow cell parts now → (x : List ℕ) → PartsHave cell parts x
       → PartsHave cell now x
   all_have [] now reads x has = subst (λ now. PartsHave cell now x) (sym reads) has
   all_have (part ∷ parts) now reads x has = subst (λ now. PartsHave cell now x) (sym reads.2)
       (has.0, has.1, has.2, reads_have part reads.0 reads.3 has.0 has.3, all_have parts reads.1 reads.4 has.1 has.4)
 
   -- Parts that are known now have one text.
-  are_known : (now : List Part) (text x : List ℕ) → all_known now ≡ Some text → PartsHave cell now x
+  pub are_known : (now : List Part) (text x : List ℕ) → all_known now ≡ Some text → PartsHave cell now x
       → x ≡ text
   are_known [] text x is has = has ∙ the_text is
   are_known (known own ∷ now) text x is has =
@@ -131,7 +131,7 @@ module _ (cell : Slot → TextSet) where
   by_first part (open_slot slot skip) rest parts text reads is more = absurd (cc)
   by_first part (free set) rest parts text reads is more = absurd (cc)
 
-  has_known : (parts now : List Part) (text : List ℕ) → ReadNow cell parts now → all_known now ≡ Some text
+  pub has_known : (parts now : List Part) (text : List ℕ) → ReadNow cell parts now → all_known now ≡ Some text
       → PartsHave cell parts text
   has_known [] now text reads is = sym (the_text (subst (λ now. all_known now ≡ Some text) reads is))
   has_known (part ∷ parts) now text reads is =

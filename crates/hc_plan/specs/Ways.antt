@@ -7,14 +7,16 @@ use Rattle.hc_cells.specs.declared.ties.Ties.{Ties}
 use Rattle.hc_dfa.specs.Automata.{Automaton}
 use Rattle.hc_dfa.specs.Built.{Accepts}
 use Rattle.hc_dfa.specs.Texts.{IsEmptySet, IsText, TextSet}
-use Rattle.hc_pat_lang.specs.Sets.{AcceptsOnly}
+use Rattle.hc_pattern.specs.Pattern.{pattern_of}
 use Rattle.hc_plan.specs.Branches.{IsWay, others}
-use Rattle.hc_plan.specs.Hands.{HasParts, cell_of, parts_of, side_of}
+use Rattle.hc_plan.specs.Groups.{GroupHolds}
+use Rattle.hc_plan.specs.Hands.{HasParts, cell_of, parts_of, set_in, side_of}
 use Rattle.hc_plan.specs.Slots.{Slot}
 use Rattle.hc_plan.specs.States.{AbsState, AbsText, Has, Part, ReadNow, Sole, all_known, joined_with, on_side}
-use Rattle.hc_plan.specs.Texts.{Key, pick}
+use Rattle.hc_plan.specs.Texts.{IsSetOf, Key, pick}
 use Rattle.hc_plan.specs.declared.hand.Element.{Element}
 use Rattle.hc_plan.specs.declared.hand.Way.{Way}
+use Rattle.hc_plan.specs.declared.held.Found.{Found}
 
 -- The texts on this side of a test.
 abbrev pub on : Bool → TextSet → TextSet
@@ -127,4 +129,14 @@ lying set side x = set x && side_of side x
 -- The automaton of what a text in hand may be.
 abbrev pub IsHandSet : Sets → List Element → ℕ → Option Automaton → Automaton → Type 0
 IsHandSet sets elements off side made =
-    (own : AbsText) → IsHand (cell_of sets) elements off side own → AcceptsOnly (Has (cell_of sets) own) made
+    (own : AbsText) → IsHand (cell_of sets) elements off side own → IsSetOf (set_in made) (Has (cell_of sets) own)
+
+-- A text in which a pattern was found is this one.
+abbrev pub IsFound : Found → AbsText → Type 0
+IsFound found own = IsHand (cell_of found.cell) found.elements.items found.off found.side own
+
+-- The automaton of what a group holds there.
+abbrev pub IsGroupSet : Found → ℕ → Automaton → Type 0
+IsGroupSet found number made =
+    (own : AbsText) → IsFound found own
+    → IsSetOf (set_in made) (GroupHolds (Has (cell_of found.cell) own) (pattern_of found.pattern.now) number)

@@ -82,7 +82,7 @@ fn slot_set(alloc: Global, cell: &Cell, slot: &Slot) -> Result<Dfa, NoMemory>
 }
 
 /// All texts.
-fn every_text(alloc: Global) -> Result<Dfa, NoMemory>
+pub fn every_text(alloc: Global) -> Result<Dfa, NoMemory>
     ensures { IfOk result (λ made. Accepts made (λ text. true)) }
 {
     let empty = single(alloc, b"")?;
