@@ -1,0 +1,12 @@
+pub mod Beside
+pub mod Common
+pub mod Cutting
+pub mod Joins
+pub mod Merging
+pub mod Named
+pub mod Numbered
+pub mod Placing
+pub mod Queries
+pub mod Readings
+pub mod Roots
+pub mod Schemed

@@ -1,0 +1,13 @@
+-- What a test that reads byte by byte says.
+use Rattle.std.proofs.Common.{◌≡◌, ℕ, ◌<◌, List, [], ◌∷◌, Bool, ◌∙◌}
+use Rattle.hc_dfa.specs.Readings.{reading_from}
+use Rattle.hc_dfa.specs.Texts.{TextSet, IsText}
+
+-- It holds of the texts that its key means, where each byte leads to the key that means what is left.
+pub read_as : {K : Type 0} (reads : K → ℕ → K) (holds : K → Bool) (meant : K → TextSet)
+    → ((key : K) → holds key ≡ meant key [])
+    → ((key : K) (byte : ℕ) (text : List ℕ) → byte < 256 → meant (reads key byte) text ≡ meant key (byte ∷ text))
+    → (key : K) (text : List ℕ) → IsText text → reading_from reads holds key text ≡ meant key text
+read_as reads holds meant ends goes_on key [] bytes = ends key
+read_as reads holds meant ends goes_on key (byte ∷ text) bytes =
+    read_as reads holds meant ends goes_on (reads key byte) text bytes.1 ∙ goes_on key byte text bytes.0
