@@ -1,5 +1,5 @@
 -- The plan of E values comes to what they come to.
-use Rattle.hc_abs_rw.proofs.Common.{◌≡◌, ◌∙◌, ℕ, List, [], ◌∷◌, ◌++◌, Bool, true, false, not}
+use Rattle.hc_abs_rw.proofs.Common.{◌≡◌, ◌∙◌, ℕ, List, [], ◌∷◌, Bool, true, false}
 use Rattle.hc_abs_rw.proofs.Common.{if◌then◌else◌, Option, Some, None, refl, sym, ap, subst}
 use Rattle.hc_abs_rw.proofs.Common.{true≢false, Context, Looks, Shown, RwState, State, plan_run}
 use Rattle.hc_abs_rw.proofs.Common.{too_long, run, ◌>>=◌, Step, leaves, ends, say, look, Frame, frame_of}

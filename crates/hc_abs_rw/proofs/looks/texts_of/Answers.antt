@@ -1,0 +1,5 @@
+use Rattle.hc_abs_rw.proofs.LookedUp.{may_set}
+use Rattle.hc_abs_rw.proofs.looks.texts_of.Goals as goal
+
+pub returns : goal.returns
+returns c = may_set c.args.cell.now c.args.elements.now c.in_ok-set.set c.in_ok-set.ensures
