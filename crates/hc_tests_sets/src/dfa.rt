@@ -4,8 +4,8 @@ ghost use Rattle.std.proofs.Common.{rules};
 use crate::languages::found_in;
 use hc_base::{NoMemory, Text};
 use hc_dfa::{
-    Dfa, Inclusion, Keep, Reading, byte_image, complement, first_members, included, least, listed,
-    product, reduce, tested,
+    Between, Dfa, Inclusion, Keep, Reading, between, byte_image, complement, first_members,
+    included, least, listed, only_member, product, reduce, tested,
 };
 use std::alloc::Global;
 use std::process::Abort;
@@ -133,6 +133,68 @@ fn check_first(rt: &impl Abort, alloc: Global, set: &Dfa, texts: &[&str]) -> Res
     assert!(rt; found.as_slice().len() == texts.len());
     for (member, text) in found.as_slice().iter().zip(texts.iter()) {
         assert!(rt; member.as_bytes() == text.as_bytes());
+    }
+    Ok(())
+}
+
+#[test]
+fn the_text_of_a_set_of_one_is_found(rt: HostRuntime) -> Result<(), NoMemory> {
+    static ROWS: &[(&str, Option<&str>)] = &[
+        ("^$", Some("")),
+        ("^/index\\.php$", Some("/index.php")),
+        ("^a(b|c)$", None),
+        ("^(a|bc)$", None),
+        ("^ab?$", None),
+        (MANY_A_THEN_B, None),
+        (OTHERS, None),
+        (NOTHING, None),
+    ];
+    for &(set, text) in ROWS {
+        let set = found_in(&rt, rt.alloc(), set)?;
+        check_only(&rt, rt.alloc(), &set, text)?;
+    }
+    Ok(())
+}
+
+fn check_only(
+    rt: &impl Abort,
+    alloc: Global,
+    set: &Dfa,
+    text: Option<&str>,
+) -> Result<(), NoMemory> {
+    let found = only_member(alloc, set)?;
+    let only = found.as_ref().map(|text| text.as_bytes());
+    assert!(rt; only == text.map(|text| text.as_bytes()));
+    Ok(())
+}
+
+// A set, what stands before and how many bytes are left out, what stands behind, texts that are in it so, and others.
+static PLACES: &[(&str, &str, usize, &str, &[&str], &[&str])] = &[
+    ("^ab*c$", "", 0, "", &["ac", "abc"], &["", "ab"]),
+    ("^ab*c$", "ab", 0, "", &["c", "bc"], &["", "ac"]),
+    ("^ab*c$", "", 0, "bc", &["a", "abb"], &["", "c"]),
+    (
+        "^ab*c$",
+        "a",
+        2,
+        "c",
+        &["", "x", "xy", "xyb"],
+        &["xyz", "xybc"],
+    ),
+    ("^ab*c$", "c", 3, "", &[], &["", "xyzac"]),
+];
+
+#[test]
+fn texts_stand_between_others(rt: HostRuntime) -> Result<(), NoMemory> {
+    for &(set, before, skip, after, inside, outside) in PLACES {
+        let around = Between {
+            before: before.as_bytes(),
+            skip,
+            after: after.as_bytes(),
+        };
+        let set = found_in(&rt, rt.alloc(), set)?;
+        let made = between(rt.alloc(), &set, around)?;
+        check(&rt, &made, inside, outside);
     }
     Ok(())
 }
