@@ -1,10 +1,11 @@
 -- The names that the proofs of this crate cite, passed on from one place. Declares nothing.
 pub use Rattle.std.proofs.Common.{◌≡◌, ℕ, ◌<◌, ◌≤◌, suc, List, [], ◌∷◌, ◌++◌, map, refl}
 pub use Rattle.std.proofs.Common.{ap, sym, ◌∙◌, subst, cond, Bool, true, false, IsTrue, Option, None, Some}
-pub use Rattle.std.proofs.Common.{length, length-append, ◌↔◌, arith, rules, inl, inr, ◌⊎◌, ◌&&◌, not}
+pub use Rattle.std.proofs.Common.{◌+◌, ◌-◌, take, length, length-append, ◌↔◌, arith, rules, inl, inr, ◌⊎◌, ◌&&◌, not}
 pub use Rattle.std.proofs.Common.{Result}
-pub use Rattle.std.proofs.lemmas.List.{length-map}
-pub use Rattle.std.proofs.lemmas.Bool.{cases_lt, cases_order, and_parts, true≢false}
+pub use Rattle.std.proofs.lemmas.List.{length-map, take_more}
+pub use Rattle.std.proofs.lemmas.List.Sums.{sum_by-take-le, sum_by_push}
+pub use Rattle.std.proofs.lemmas.Bool.{lt-ltb, le-ltb, cases_lt, cases_order, and_parts, true≢false}
 pub use Rattle.std.proofs.lemmas.Map.Made.{lookup-map_values}
 pub use Rattle.std.proofs.lemmas.Map.Entries.{place_from_lookup}
 pub use Rattle.std.proofs.lemmas.Map.Keys.{Less-from_sorted}
@@ -24,9 +25,9 @@ pub use Rattle.std.specs.Result.{IfOk}
 pub use Rattle.std.specs.declared.cmp.Ordering.{Ordering}
 pub use Rattle.std.specs.declared.cmp.Ordering.TheVariants.{Less, Equal, Greater}
 pub use Rattle.std.specs.declared.rc.Rc.{Rc}
-pub use Rattle.hc_dfa.specs.Automata.{Automaton, accepts}
+pub use Rattle.hc_dfa.specs.Automata.{Automaton, accepts, states}
 pub use Rattle.hc_dfa.specs.Texts.{IsText, TextSet, IsEmptySet, IsLeast, IsLeastOf}
 pub use Rattle.hc_cells.specs.Cells.{Sets, shared_set, sets_in, set_at, of_set, holds, Puts, Restricts, HasEmptySlot}
-pub use Rattle.hc_cells.specs.Cells.{IsWithinAt, IsWithin, IsFirstOutside}
+pub use Rattle.hc_cells.specs.Cells.{IsWithinAt, IsWithin, IsFirstOutside, states_in, room_left}
 pub use Rattle.hc_cells.specs.Slots.{slot_cmp, same_slot}
 pub use Rattle.hc_cells.specs.declared.slot.Slot.{Slot}

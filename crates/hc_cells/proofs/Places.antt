@@ -7,6 +7,8 @@ use Rattle.hc_cells.proofs.Common.{slice_get-map, slice_get_within, get_or_from_
 use Rattle.hc_cells.proofs.Common.{IsEquivalence, eq_by_cmp_equiv, Equal-is, comparing, slice_get, IsStrictlySortedBy}
 use Rattle.hc_cells.proofs.Common.{lookup, keys_of, option_map, is_eq, Less, Equal, Rc, Automaton, accepts, IsText}
 use Rattle.hc_cells.proofs.Common.{TextSet, IsEmptySet, IsLeast, Sets, shared_set, sets_in, set_at, of_set, holds}
+use Rattle.hc_cells.proofs.Common.{◌+◌, ◌-◌, cond, take, take_more, sum_by_push, states, states_in, room_left}
+use Rattle.hc_cells.proofs.Common.{lt-ltb, le-ltb}
 use Rattle.hc_cells.proofs.Common.{HasEmptySlot, IsWithinAt, IsWithin, IsFirstOutside, slot_cmp, same_slot, Slot}
 
 pub slots_total : IsTotalOrder slot_cmp
@@ -40,6 +42,29 @@ each_more P sets xs x slot set at before own j e less here =
     by (inr h) =
         let last : length xs ≡ j = omega (arith, length-append xs (x ∷ [])) in
         subst (λ f. P f.0 f.1) (same_some _ _ (sym at ∙ ap (slice_get sets) last ∙ here)) own
+
+-- ---- room
+
+pub no_room : (room put : ℕ) → room < put → room_left room put ≡ None
+no_room room put h = ap (λ less. cond less None (Some (room - put))) (lt-ltb room put h)
+
+pub some_room : (room put left : ℕ) → put + left ≡ room → room_left room put ≡ Some left
+some_room room put left e = ap (λ less. cond less None (Some (room - put))) (le-ltb room put (omega (arith, e)))
+    ∙ ap Some (omega (arith, e))
+
+-- What the sets up to a place take of a room with what is left of it.
+pub takes_more : {A : Type 0} (sets : Sets) (xs : List A) (x : A) (entry : Slot × Automaton) (room left taken : ℕ)
+    → slice_get sets (length xs) ≡ Some entry → taken ≡ states entry.1
+    → states_in (take (length xs) sets) + left ≡ room
+    → states_in (take (length (xs ++ x ∷ [])) sets) + left ≡ room + taken
+takes_more sets xs x entry room left taken at is before =
+    let more : states_in (take (length (xs ++ x ∷ [])) sets) ≡ states_in (take (length xs) sets) + states entry.1 =
+    ap (λ n. states_in (take n sets)) (length-append xs (x ∷ []))
+    ∙ ap states_in (take_more sets (length xs) entry (slice_get_within sets (length xs) entry at)
+    ∙ ap (λ found. take (length xs) sets ++ found ∷ [])
+    (get_or_from_slice_get sets (length xs) entry entry at))
+    ∙ sum_by_push (λ e. states e.1) (take (length xs) sets) entry in
+    omega (arith, more, is, before)
 
 -- One slot by two names.
 pub same_holds : (sets : Sets) (slot other : Slot) → same_slot slot other ≡ true → (text : List ℕ)

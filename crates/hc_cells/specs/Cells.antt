@@ -1,10 +1,11 @@
 -- Cells: a set for each slot that is there.
-use Rattle.std.specs.Prelude.{◌≡◌, ℕ, ◌&&◌, not, cond, IsTrue, List, map, Option, None, Some, true}
+use Rattle.std.specs.List.{sum_by}
+use Rattle.std.specs.Prelude.{◌≡◌, ℕ, ◌-◌, nat_lt, ◌&&◌, not, cond, IsTrue, List, map, Option, None, Some, true}
 use Rattle.std.specs.Map.{lookup}
 use Rattle.std.specs.Rc.{rc_value}
 use Rattle.std.specs.declared.cmp.Ordering.TheVariants.{Less}
 use Rattle.std.specs.declared.rc.Rc.{Rc}
-use Rattle.hc_dfa.specs.Automata.{Automaton, accepts}
+use Rattle.hc_dfa.specs.Automata.{Automaton, accepts, states}
 use Rattle.hc_dfa.specs.Built.{Accepts}
 use Rattle.hc_dfa.specs.Texts.{IsText, TextSet, IsEmptySet, IsLeast}
 use Rattle.hc_cells.specs.Slots.{slot_cmp, same_slot}
@@ -41,6 +42,14 @@ pub record Restricts (sets : Sets) (slot : Slot) (set : TextSet) (made : Sets) :
   pub own : Automaton
   pub both : Accepts own (λ text. holds sets slot text && set text)
   pub puts : Puts sets slot own made
+
+-- How many states the sets have together.
+abbrev pub states_in : Sets → ℕ
+states_in sets = sum_by (λ entry. states entry.1) sets
+
+-- What is left of a room; nothing where what is put into it doesn't fit.
+abbrev pub room_left : ℕ → ℕ → Option ℕ
+room_left room put = cond (nat_lt room put) None (Some (room - put))
 
 -- Some slot holds no text.
 abbrev pub HasEmptySlot : Sets → Type 0

@@ -1,6 +1,7 @@
 ghost use Rattle.std.specs.Option.{option_copied};
 ghost use Rattle.std.specs.Prelude.{◌≡◌, ◌↔◌, [], IfOk, IsTrue, option_map};
-ghost use Rattle.hc_cells.specs.Cells.{HasEmptySlot, Puts, Restricts, holds, set_at, sets_in};
+ghost use Rattle.hc_cells.specs.Cells.{HasEmptySlot, Puts, Restricts, holds, room_left, set_at};
+ghost use Rattle.hc_cells.specs.Cells.{sets_in, states_in};
 ghost use Rattle.hc_dfa.specs.Members.{IsOnlyOf};
 ghost use Rattle.hc_dfa.specs.Texts.{IsEmptySet};
 ghost use Rattle.hc_dfa.specs.Automata.{accepts};
@@ -57,6 +58,21 @@ impl Cell {
             Some(set) => set.as_ref().only(),
             None => None,
         }
+    }
+
+    /// What is left of a room for states without those of the sets that are there; none where they don't fit.
+    pub fn room_left(&self, room: u64) -> Option<u64>
+        ensures { result ≡ room_left room (states_in self.now) }
+    {
+        let mut left = room;
+        'sets: for (_slot, set) in self.sets() {
+            let states = u64::from(set.as_ref().set().states());
+            if left < states {
+                return None;
+            }
+            left -= states;
+        }
+        Some(left)
     }
 
     /// The sets that are there, by their slots in order.
