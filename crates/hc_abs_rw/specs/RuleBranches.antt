@@ -1,7 +1,9 @@
 -- The branches of a rule, as code has them.
+use Rattle.std.specs.List.{sum_by}
 use Rattle.std.specs.Prelude.{◌≡◌, ◌⊎◌, ℕ, List, [], ◌∷◌, ◌++◌, map, Bool, true, false, Option}
 use Rattle.hc_addr.specs.Printed.{printed}
 use Rattle.hc_addr.specs.declared.addr.Addr.{Addr}
+use Rattle.hc_cells.specs.Cells.{Sets, states_in}
 use Rattle.hc_model.specs.declared.event.Decision.{Decision}
 use Rattle.hc_model.specs.declared.event.Decision.TheVariants as decision
 use Rattle.hc_model.specs.declared.outcome.Outcome.{Outcome}
@@ -96,6 +98,10 @@ module _ (frame : Frame) (client : Option Addr) (rule : Rule) (setting : Setting
   AreRuleBranches before so_far found =
       (state : AbsState) → Rests client before state
       → AreBranches (BranchFits client frame.caller) (attempt_plan frame rule setting so_far) state found
+
+-- How many states the cells have together of what is found.
+abbrev pub states_of : {A : Type 0} → (A → Sets) → List A → ℕ
+states_of cell found = sum_by (λ one. states_in (cell one)) found
 
 -- ---- cover
 

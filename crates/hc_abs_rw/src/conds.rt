@@ -14,6 +14,7 @@ ghost use Rattle.hc_rw_eval.specs.Conditions.{or_groups};
 use crate::elements::expanded;
 use crate::frame::{Frame, Surroundings};
 use crate::known::{Held, Known, shared};
+use crate::room::fit;
 use crate::ways::{Ways, found_texts, held_on, ways_of};
 use hc_base::{List, NoMemory};
 use hc_cells::Cell;
@@ -80,7 +81,8 @@ pub fn conds_trials<'r, S: Surroundings>(
     conds: &'r [Cond],
 ) -> Result<Vec<Trial<'r>>, NoMemory>
     ensures { IfOk result (λ found. IsTriedBy frame.now.client
-        (λ so_far. conds_plan (frame_at S.kind S.values frame.now) so_far (or_groups conds.now)) trial.entry found.items) }
+        (λ so_far. conds_plan (frame_at S.kind S.values frame.now) so_far (or_groups conds.now))
+        trial.entry found.items) }
 {
     let mut trials = Vec::new(alloc);
     trials.push(Trial {
@@ -137,6 +139,9 @@ fn group_trials<'r, S: Surroundings>(
     })?;
     for cond in group {
         trials = past_cond(alloc, frame, trials, cond)?;
+        if !fit(&trials, frame.room) {
+            return Err(NoMemory);
+        }
     }
     Ok(trials)
 }
@@ -281,7 +286,8 @@ fn groups_left<'r>(
 
 /// What is left where a condition doesn't hold.
 fn failed_trial<'r>(trial: Trial<'r>, cond: &Cond, way: Way) -> Result<Trial<'r>, NoMemory>
-    ensures { IfOk result (λ left. (elements : List Element) → IsLeft cond.now trial.entry false None elements way left) }
+    ensures { IfOk result (λ left. (elements : List Element)
+        → IsLeft cond.now trial.entry false None elements way left) }
 {
     let Trial {
         known,

@@ -55,4 +55,6 @@ pub struct Frame<'f, S> {
     /// The address of the client, where all have one.
     pub client: Option<Addr>,
     pub around: &'f S,
+    /// How many states the cells may have together that are found.
+    pub room: u64,
 }

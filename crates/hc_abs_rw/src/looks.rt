@@ -44,7 +44,7 @@ pub(crate) fn look_up<S: Surroundings>(
 }
 
 /// The text that elements joined are, where it is known.
-#[tactic(auto, using(crate::proofs::LookedUp::known_as, crate::proofs::LookedUp::sole_none, crate::proofs::LookedUp::open_none))]
+#[tactic(auto, using(crate::proofs::Keyed::known_as, crate::proofs::Keyed::sole_none, crate::proofs::Keyed::open_none))]
 fn known_text(alloc: Global, cell: &Cell, elements: &[Element]) -> Result<Option<Text>, NoMemory>
     ensures { IfOk result (IsKnownText cell.now elements.now) }
 {

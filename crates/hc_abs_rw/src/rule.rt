@@ -1,9 +1,9 @@
 //! The branches of one rule (Apache manual, mod_rewrite, RewriteRule; "Apache mod_rewrite Technical Details", "Ruleset
 //! Processing").
-ghost use Rattle.std.specs.Prelude.{◌≡◌, ◌∷◌, [], ◌++◌, IfOk, OnOk};
+ghost use Rattle.std.specs.Prelude.{◌≡◌, ◌≤◌, ◌∷◌, [], ◌++◌, IfOk, OnOk};
 ghost use Rattle.hc_abs_rw.specs.Known.{frame_at};
 ghost use Rattle.hc_abs_rw.specs.RuleBranches.{AddsPattern, AddsTested, AreRuleBranches, AreTested, CoverAttempts};
-ghost use Rattle.hc_abs_rw.specs.RuleBranches.{matched, unmatched};
+ghost use Rattle.hc_abs_rw.specs.RuleBranches.{matched, states_of, unmatched};
 ghost use Rattle.hc_model.specs.declared.event.Decision.TheVariants as decision;
 
 use crate::apply::{Applied, Made, Next, Setting};
@@ -11,6 +11,7 @@ use crate::conds::{Trial, conds_trials};
 use crate::effect::applied;
 use crate::frame::{Frame, Surroundings};
 use crate::pattern::{Looked, look_for_pattern};
+use crate::room::fit;
 use hc_base::{List, NoMemory};
 use hc_model::{Decision, Rule};
 use hc_plan::Tied;
@@ -26,7 +27,7 @@ pub struct RuleBranch {
 }
 
 /// The branches of a rule over the states of a set of requests, in the order of its tests, each time first the way in
-/// which the test holds.
+/// which the test holds. Branches that have more states together than the frame has room for are refused as memory is.
 pub fn rule_branches<S: Surroundings>(
     alloc: Global,
     frame: &Frame<'_, S>,
@@ -35,8 +36,9 @@ pub fn rule_branches<S: Surroundings>(
     before: Tied,
     so_far: &List<Decision>,
 ) -> Result<Vec<RuleBranch>, NoMemory>
-    ensures branches { IfOk result (λ found. AreRuleBranches (frame_at S.kind S.values frame.now) frame.now.client rule.now
-        setting before so_far.now found.items) }
+    ensures branches { IfOk result (λ found. AreRuleBranches (frame_at S.kind S.values frame.now)
+        frame.now.client rule.now setting before so_far.now found.items) }
+    ensures room { IfOk result (λ found. states_of (λ branch. branch.tied.cell) found.items ≤ frame.now.room) }
     ensures cover { IfOk result (λ found. CoverAttempts (frame_at S.kind S.values frame.now) frame.now.client rule.now
         setting before so_far.now found.items) }
 {
@@ -45,6 +47,9 @@ pub fn rule_branches<S: Surroundings>(
     let mut found = Vec::new(alloc);
     for one in looked {
         past_pattern(alloc, frame, rule, setting, so_far, one, &mut found)?;
+    }
+    if !fit(&found, frame.room) {
+        return Err(NoMemory);
     }
     Ok(found)
 }

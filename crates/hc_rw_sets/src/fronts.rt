@@ -55,7 +55,8 @@ pub fn texts_like(alloc: Global, nocase: bool, wanted: &[u8]) -> Result<Dfa, NoM
 }
 
 fn wanted_texts(alloc: Global, wanted: Wanted) -> Result<Dfa, NoMemory>
-    ensures { IfOk result (λ made. Accepts made (is_wanted wanted.entry.nocase wanted.entry.goes_on wanted.entry.text.now)) }
+    ensures { IfOk result (λ made. Accepts made
+        (is_wanted wanted.entry.nocase wanted.entry.goes_on wanted.entry.text.now)) }
 {
     let made = tested(alloc, &wanted, Spot::At(0))?;
     Ok(made)

@@ -1,6 +1,6 @@
 use Rattle.hc_abs_rw.proofs.Common.{subst}
 use Rattle.hc_plan.specs.Hands.{IsShape}
-use Rattle.hc_abs_rw.proofs.LookedUp.{open_none, sole_none}
+use Rattle.hc_abs_rw.proofs.Keyed.{open_none, sole_none}
 use Rattle.hc_abs_rw.proofs.looks.known_text.Goals as goal
 
 pub returns-in-Sole : goal.returns-in-Sole

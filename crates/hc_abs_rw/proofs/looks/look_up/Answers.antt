@@ -2,7 +2,7 @@ use Rattle.hc_abs_rw.proofs.Common.{subst}
 use Rattle.hc_abs_rw.specs.Elements.{AreElementsOf}
 use Rattle.hc_abs_rw.specs.Known.{frame_at}
 use Rattle.hc_abs_rw.specs.Looks.{IsKnownText, IsValue, IsValues, KnownAs, NoneKnown}
-use Rattle.hc_abs_rw.proofs.LookedUp.{known_looks, open_looks}
+use Rattle.hc_abs_rw.proofs.Keyed.{known_looks, open_looks}
 use Rattle.hc_abs_rw.proofs.looks.look_up.Goals as goal
 
 pub returns-in-Some : goal.returns-in-Some

@@ -1,4 +1,4 @@
-use Rattle.hc_abs_rw.proofs.LookedUp.{may_set}
+use Rattle.hc_abs_rw.proofs.Keyed.{may_set}
 use Rattle.hc_abs_rw.proofs.looks.texts_of.Goals as goal
 
 pub returns : goal.returns

@@ -1,7 +1,7 @@
 use Rattle.hc_abs_rw.proofs.Common.{subst}
 use Rattle.hc_dfa.specs.Automata.{accepts}
 use Rattle.hc_map.specs.Images.{IsImageOf}
-use Rattle.hc_abs_rw.proofs.LookedUp.{all_values, some_values}
+use Rattle.hc_abs_rw.proofs.Keyed.{all_values, some_values}
 use Rattle.hc_abs_rw.proofs.looks.values.Goals as goal
 
 pub returns-then-not-image : goal.returns-then-not-image
