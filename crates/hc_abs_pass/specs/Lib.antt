@@ -1,5 +1,6 @@
 pub mod Authorizing
 pub mod Ends
+pub mod Listing
 pub mod Mapping
 pub mod Naming
 pub mod Passing

@@ -1,4 +1,5 @@
-//! The branches of a pass over a set of requests: plans of its steps, and laws of them. No code.
+//! The branches of a pass over a set of requests: plans of its steps, laws of them, and `list_branches`, the code for
+//! one round of a list of rules.
 //!
 //! `specs/` has the plans, in the form of hc_plan: the walk along a file name (`Walks`), conditions (`Views`), the
 //! sections that apply (`Sections`), who may pass (`Authorizing`), redirects, aliases and the document root
@@ -24,3 +25,6 @@
 #![tactic(auto)]
 
 pub mod laws;
+mod list;
+
+pub use list::{Listed, SoFar, Stop, list_branches};
