@@ -1,6 +1,6 @@
 -- Each text that a walk can begin with is one of exactly one end's, and this end is the walk's.
 use Rattle.hc_abs_pass.proofs.Common.{◌≡◌, ◌∙◌, ℕ, zero, suc, ◌+◌, ◌<◌, ◌≤◌, List, []}
-use Rattle.hc_abs_pass.proofs.Common.{◌∷◌, ◌++◌, map, length, drop, Bool, true, false, ◌&&◌, ◌||◌}
+use Rattle.hc_abs_pass.proofs.Common.{◌∷◌, ◌++◌, map, length, drop, Bool, true, false, ◌&&◌}
 use Rattle.hc_abs_pass.proofs.Common.{if◌then◌else◌, Option, Some, None, refl, sym, ap, ap₂, subst, arith}
 use Rattle.hc_abs_pass.proofs.Common.{◌⊎◌, inl, inr, true≢false, append_assoc, append-nil, length-append}
 use Rattle.hc_abs_pass.proofs.Common.{option_map, eqb-true, place_in, run, Shown, Step, leaves, look, ◌>>=◌}
@@ -24,6 +24,7 @@ use Rattle.hc_abs_rw.proofs.Expanding.{Quiet}
 use Rattle.hc_abs_rw.specs.Templates.{main}
 use Rattle.hc_abs_pass.specs.Walks.{WalkLike, arrived, stored_at, walk_plan}
 use Rattle.hc_steps.specs.Walking.{walk}
+use Rattle.hc_abs_pass.proofs.Components.{cut, or_false}
 use Rattle.hc_abs_pass.specs.Walks.{Followed, IsListed, AreNames, WalkEnd, absent_end, at_root, below}
 use Rattle.hc_abs_pass.specs.Walks.{behind_component, behind_slash, component, dir_end, end_at, ends_by, ends_in}
 use Rattle.hc_abs_pass.specs.Walks.{ends_named, file_end, front_end, into, is_absent, is_empty}
@@ -182,30 +183,6 @@ module _ (further : Followed → List WalkEnd) (shown : Shown) (at : Followed) (
 
 -- ---- texts
 
--- A text is cut behind its first component, which has no slash; what follows begins with one.
-record IsCut (rest own tail : List ℕ) : Type 0 where
-  whole : rest ≡ own ++ tail
-  plain : list_any is_slash own ≡ false
-  next : (tail ≡ []) ⊎ ((b : ℕ) × (more : List ℕ) × (tail ≡ b ∷ more) × (is_slash b ≡ true))
-
-cut : (rest : List ℕ) → IsCut rest (component rest) (behind_component rest)
-cut [] = record { whole = refl; plain = refl; next = inl refl }
-cut (b ∷ bs) = by (is_slash b) refl (cut bs)
-  where
-    by : (is : Bool) → is_slash b ≡ is → IsCut bs (component bs) (behind_component bs)
-        → IsCut (b ∷ bs) (elim is [ true ↦ [] | false ↦ b ∷ component bs ])
-        (elim is [ true ↦ b ∷ bs | false ↦ behind_component bs ])
-    by true is later = record { whole = refl; plain = refl; next = inr (b, bs, refl, is) }
-    by false is later = record {
-      whole = ap (λ rest. b ∷ rest) later.whole;
-      plain = ap (λ first. first || list_any is_slash (component bs)) is ∙ later.plain;
-      next = later.next;
-    }
-
-or_false : (one other : Bool) → (one || other) ≡ false → (one ≡ false) × (other ≡ false)
-or_false false other none = (refl, none)
-or_false true other none = absurd (true≢false none)
-
 -- No two slashes behind a front of a text.
 single_behind : (own tail : List ℕ) → has_double_slash (own ++ tail) ≡ false → has_double_slash tail ≡ false
 single_behind [] tail none = none
@@ -233,13 +210,13 @@ at_slash seen more b is =
     ap (λ slash. if slash then (seen, b ∷ more) ∷ steps (seen ++ b ∷ []) more
     else steps (seen ++ b ∷ []) more) is
 
-last_of : (seen : List ℕ) (b : ℕ) (own : List ℕ) → ends_with_slash (seen ++ b ∷ own) ≡ ends_with_slash
+pub last_of : (seen : List ℕ) (b : ℕ) (own : List ℕ) → ends_with_slash (seen ++ b ∷ own) ≡ ends_with_slash
     (b ∷ own)
 last_of [] b own = refl
 last_of (a ∷ []) b own = refl
 last_of (a ∷ c ∷ seen) b own = last_of (c ∷ seen) b own
 
-no_last : (b : ℕ) (own : List ℕ) → list_any is_slash (b ∷ own) ≡ false → ends_with_slash (b ∷ own)
+pub no_last : (b : ℕ) (own : List ℕ) → list_any is_slash (b ∷ own) ≡ false → ends_with_slash (b ∷ own)
     ≡ false
 no_last b [] plain = (or_false _ _ plain).0
 no_last b (c ∷ own) plain = no_last c own (or_false _ _ plain).1
@@ -326,7 +303,7 @@ module _ (most : ℕ) (shown : Shown) (listed : IsListed most shown) where
         (absent_end shown at ∷ []) rest
         ∙ ap (λ found. or_else found (first_in (absent_end shown at ∷ []) rest))
         (found_among further shown at rest (names_at shown at.path) name end refl
-        (stays.names name (cut rest).plain there) found)
+        (stays.names name some (cut rest).plain there) found)
 
     absent_first : shown (KindOf path) ≡ kind.Absent
         → first_in (ends_in (suc levels) shown at) rest ≡ Some (absent_end shown at)

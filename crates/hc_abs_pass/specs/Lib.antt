@@ -7,4 +7,6 @@ pub mod Passing
 pub mod Restarting
 pub mod Sections
 pub mod Views
+pub mod WalkSets
+pub mod Walking
 pub mod Walks

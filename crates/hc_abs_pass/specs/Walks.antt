@@ -9,7 +9,7 @@ use Rattle.std.specs.Str.{bytes_eq}
 use Rattle.hc_base.specs.Bytes.{slash}
 use Rattle.hc_base.specs.Paths.{begins_with_slash, has_double_slash, is_slash}
 use Rattle.hc_dfa.specs.Texts.{TextSet}
-use Rattle.hc_model.specs.World.{root}
+use Rattle.hc_model.specs.World.{IsWorld, World, root}
 use Rattle.hc_model.specs.declared.event.Decision.{Decision}
 use Rattle.hc_model.specs.declared.outcome.Outcome.{Outcome}
 use Rattle.hc_model.specs.declared.read.Read.TheVariants.{KindOf, NamesOf}
@@ -25,6 +25,7 @@ use Rattle.hc_plan.specs.States.{AbsState}
 use Rattle.hc_plan.specs.Texts.{all_three, pick}
 use Rattle.hc_steps.specs.Run as steps
 use Rattle.hc_steps.specs.Run.{Way, goes_on}
+use Rattle.hc_steps.specs.Shown.{shown_by}
 use Rattle.hc_steps.specs.Step.{Path, Shown}
 use Rattle.hc_steps.specs.Walking.{walk}
 use Rattle.hc_abs_rw.specs.Laws.{BranchLike}
@@ -163,15 +164,23 @@ ends_in (suc levels) shown at =
 -- What stands at a name behind a front is among the names of a path.
 abbrev pub AreNames : Shown → Path → Path → Type 0
 AreNames shown path front =
-    (name : List ℕ) → list_any is_slash name ≡ false → is_absent (shown (KindOf (front ++ name))) ≡ false
-    → Among name (names_at shown path)
+    (name : List ℕ) → is_empty name ≡ false → list_any is_slash name ≡ false
+    → is_absent (shown (KindOf (front ++ name))) ≡ false → Among name (names_at shown path)
 
--- The names of a directory are all that stands in it, and no directory's path is longer than so many levels.
+-- The names of a directory are all that stands in it, nothing stands by its text with a slash, and no directory's path
+-- is longer than so many levels. The root is there.
 pub record IsListed (levels : ℕ) (shown : Shown) : Type 0 where
+  pub root_stands : is_absent (shown (KindOf root)) ≡ false
+  pub fronts : (path : Path) → shown (KindOf path) ≡ kind.Dir
+      → is_absent (shown (KindOf (path ++ slash ∷ []))) ≡ true
   pub at_root : AreNames shown root root
   pub each : (path : Path) → shown (KindOf path) ≡ kind.Dir → AreNames shown path (path ++ slash ∷ [])
   pub short : (path : Path) → shown (KindOf path) ≡ kind.Dir → length path + 1 < levels
   pub some : 1 < levels
+
+-- Each world is listed, as deep as paths may be long.
+abbrev pub WorldsAreListed : Type 0
+WorldsAreListed = (world : World) → IsWorld world → IsListed 4098 (shown_by world)
 
 -- ---- the plan
 

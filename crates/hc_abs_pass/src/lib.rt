@@ -1,5 +1,5 @@
-//! The branches of a pass over a set of requests: plans of its steps, laws of them, and `list_branches`, the code for
-//! one round of a list of rules.
+//! The branches of a pass over a set of requests: plans of its steps, laws of them, and code for two of them:
+//! `list_branches` for one round of a list of rules, `walk_branches` for the walk along a file name.
 //!
 //! `specs/` has the plans, in the form of hc_plan: the walk along a file name (`Walks`), conditions (`Views`), the
 //! sections that apply (`Sections`), who may pass (`Authorizing`), redirects, aliases and the document root
@@ -10,7 +10,7 @@
 //! Each law in `laws` says, for all configurations, requests and worlds, that where the slots of a state have what the
 //! request has come to, the run of a plan from this state comes to what hc_serve's steps come to:
 //! - `walk_agrees`: where all names of the world are listed, no run is left out, and each ends with the name, the path
-//!   information, the kind and the directories of the walk.
+//!   information, the kind and the directories of the walk. `worlds_are_listed`: the names of each world are.
 //! - `sections_agree`: the sections that apply, tested one by one, come to what is in force, but for what is told of
 //!   them. It asks that a section which merges nothing sets nothing (`Settles`), that those of the first group stand in
 //!   no other, and that around one that merges something stands one that does (`AreNested`).
@@ -26,5 +26,9 @@
 
 pub mod laws;
 mod list;
+mod walk;
+mod walk_ends;
+mod walk_sets;
 
 pub use list::{Listed, SoFar, Stop, list_branches};
+pub use walk::{Named, Walked, walk_branches};
