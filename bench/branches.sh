@@ -13,10 +13,11 @@ room=$(mktemp -d)
 trap 'rm -rf -- "$room"' EXIT
 
 cp -a -- "$top/crates" "$top/crates.txt" "$room/"
-mkdir -p -- "$room/crates/hc_branches/src"
+mkdir -p -- "$room/crates/hc_branches/src" "$room/crates/hc_branches/proofs/config_of"
 printf 'hc_branches: %s\n' 'hc_abs_rw hc_addr hc_base hc_cells hc_config hc_dfa hc_include hc_model hc_pat_lang hc_pattern hc_plan
 hc_rw_expand hc_rw_sets hc_world' | tr '\n' ' ' >> "$room/crates.txt"
 cp -- "$bench/branches/main" "$room/crates/hc_branches/src/main.rt"
+cp -- "$bench/branches/config_of" "$room/crates/hc_branches/proofs/config_of/Invariants.antt"
 if ! (cd -- "$room/crates/hc_branches" && rt run -- 1 calls) > "$room/built" 2>&1; then
     tail -n 20 -- "$room/built" >&2
     exit 2
