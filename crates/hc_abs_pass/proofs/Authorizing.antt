@@ -1,7 +1,10 @@
 -- What the answers at the leaves come to is the value of the tree.
 use Rattle.hc_abs_pass.proofs.Common.{◌≡◌, ◌∙◌, List, [], ◌∷◌, ◌++◌, map, Bool, true, false}
 use Rattle.hc_abs_pass.proofs.Common.{◌||◌, refl, sym, ap, ap₂, subst, append-nil, ℕ, Some, None, plan_run}
+use Rattle.std.specs.List.{list_any}
+use Rattle.hc_addr.specs.Networks.{holds_in}
 use Rattle.hc_addr.specs.declared.addr.Addr.{Addr}
+use Rattle.hc_addr.specs.declared.net.Net.{Net}
 use Rattle.hc_authz.specs.Values.{all_value, any_value, is_denied, is_granted, is_met, level_value, line_value}
 use Rattle.hc_authz.specs.Values.{none_value}
 use Rattle.hc_authz.specs.Values.{some_denied, some_granted, value}
@@ -19,7 +22,8 @@ use Rattle.hc_abs_rw.specs.Frames.{common}
 use Rattle.hc_abs_pass.specs.Authorizing.{AdmittedAgrees, admitted_plan, is_let_in}
 use Rattle.hc_authz.specs.declared.tree.Tri.TheVariants as tri
 use Rattle.hc_model.specs.declared.authorization.Need.TheVariants as need
-use Rattle.hc_abs_pass.specs.Authorizing.{Asked, Leaf, asked_by, asked_of, first_answer, leaves_of, level_asked}
+use Rattle.hc_abs_pass.specs.Authorizing.{Asked, Leaf, asked_by, asked_of, in_net, leaves_of, level_asked, line_answer, line_asked}
+use Rattle.hc_abs_pass.specs.Authorizing.{need_leaves, some_first}
 use Rattle.hc_abs_pass.specs.Authorizing.{of_members}
 use Rattle.hc_abs_pass.specs.Authorizing.{over_members}
 
@@ -98,15 +102,32 @@ module _ (request : Request) (client : Addr) (method : List ℕ) (caller : Calle
       (value_of_members container (values (trees members))) is_asked is_own
       (over_all container members false false)
 
+  first_read : (leaves : List Leaf) (rest : List Bool)
+      → some_first leaves (told leaves ++ rest) ≡ (list_any (λ is. is) (told leaves), rest)
+  first_read [] rest = refl
+  first_read (leaf ∷ leaves) rest =
+      ap (λ (read : Bool × List Bool). (leaf client method || read.0, read.1)) (first_read leaves rest)
+
+  nets_told : (nets : List Net)
+      → list_any (λ is. is) (told (map in_net nets)) ≡ list_any (λ net. holds_in net client) nets
+  nets_told [] = refl
+  nets_told (net ∷ nets) = ap (λ rest. holds_in net client || rest) (nets_told nets)
+
+  need_told : (need : Need)
+      → list_any (λ is. is) (told (need_leaves request need)) ≡ is_met (asked_by request client method) need
+  need_told need.Granted = refl
+  need_told need.Denied = refl
+  need_told (need.Ip nets) = nets_told nets
+  need_told (need.Method names) = or_none (is_met (asked_by request client method) (need.Method names))
+  need_told need.Local = or_none (is_met (asked_by request client method) need.Local)
+
   leaf_reads : (level : ReqTree-F ReqTree) (negated : Bool) (need : Need)
-      → asked_of request (roll-ReqTree level) ≡ record {
-        leaves = (λ client method. is_met (asked_by request client method) need) ∷ [];
-        value = first_answer (line_value negated);
-      }
+      → asked_of request (roll-ReqTree level) ≡ line_asked request negated need
       → value caller (roll-ReqTree level) ≡ line_value negated (is_met caller.request need) → ReadsLevel level
   leaf_reads level negated need is_asked is_own =
-      led level _ (line_value negated (is_met caller.request need)) is_asked is_own
-      (λ rest. ap (λ is. (line_value negated is, rest)) (same need))
+      led level (line_asked request negated need) (line_value negated (is_met caller.request need)) is_asked is_own
+      (λ rest. ap (line_answer negated) (first_read (need_leaves request need) rest)
+      ∙ ap (λ is. (line_value negated is, rest)) (need_told need ∙ same need))
 
   abbrev read_tree : (member : (tree : ReqTree) × Reads tree) → ReqTree
   read_tree member = member.0

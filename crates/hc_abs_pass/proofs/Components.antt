@@ -1,9 +1,11 @@
 -- A text is its first component and what follows that.
-use Rattle.hc_abs_pass.proofs.Common.{◌≡◌, ◌∙◌, ℕ, List, [], ◌∷◌, ◌++◌, Bool, true, false, ◌||◌, refl, sym, ap}
-use Rattle.hc_abs_pass.proofs.Common.{subst, ◌⊎◌, inl, inr, true≢false}
+use Rattle.hc_abs_pass.proofs.Common.{◌≡◌, ◌∙◌, ℕ, ◌+◌, List, [], ◌∷◌, ◌++◌, drop, Bool, true, false, not, ◌||◌}
+use Rattle.hc_abs_pass.proofs.Common.{refl, sym, ap, subst, ◌⊎◌, inl, inr, true≢false}
+use Rattle.std.proofs.Common.{cond, one-add, take}
 use Rattle.std.proofs.lemmas.Bool.{and_from, and_parts}
-use Rattle.std.specs.List.{list_any}
+use Rattle.std.specs.List.{list_any, position_or_len}
 use Rattle.std.specs.Str.{bytes_eq}
+use Rattle.hc_base.specs.Bytes.{slash}
 use Rattle.hc_base.specs.Paths.{is_slash}
 use Rattle.hc_dfa.specs.Automata.{Automaton, accepts}
 use Rattle.hc_dfa.specs.Built.{Accepts, product_of}
@@ -12,8 +14,31 @@ use Rattle.hc_dfa.specs.Texts.{IsText}
 use Rattle.hc_dfa.specs.declared.products.Keep.TheVariants.{Both}
 use Rattle.hc_pat_lang.specs.Sets.{AcceptsOnly, IsJoined}
 use Rattle.hc_rw_sets.proofs.Joins.{text_parts}
+use Rattle.hc_rw_sets.specs.Cuts.{part_at}
 use Rattle.hc_rw_sets.specs.Made.{MadeOf}
+use Rattle.hc_rw_sets.specs.declared.cuts.Part.TheVariants.{Before, From}
 use Rattle.hc_abs_pass.specs.Walks.{behind_component, component, is_empty}
+
+-- It is what stands before the first slash; what follows it is the text from that slash on.
+pub component_is : (text : List ℕ) → part_at slash Before text ≡ component text
+component_is [] = refl
+component_is (b ∷ text) = by (is_slash b) (component_is text)
+  where
+    by : (is : Bool) → part_at slash Before text ≡ component text
+        → take (cond (not is) (1 + position_or_len is_slash text) 0) (b ∷ text)
+        ≡ elim is [ true ↦ [] | false ↦ b ∷ component text ]
+    by true later = refl
+    by false later = rw one-add (ap (λ rest. b ∷ rest) later)
+
+pub behind_is : (text : List ℕ) → part_at slash From text ≡ behind_component text
+behind_is [] = refl
+behind_is (b ∷ text) = by (is_slash b) (behind_is text)
+  where
+    by : (is : Bool) → part_at slash From text ≡ behind_component text
+        → drop (cond (not is) (1 + position_or_len is_slash text) 0) (b ∷ text)
+        ≡ elim is [ true ↦ b ∷ text | false ↦ behind_component text ]
+    by true later = refl
+    by false later = rw one-add later
 
 pub or_false : (one other : Bool) → (one || other) ≡ false → (one ≡ false) × (other ≡ false)
 or_false false other none = (refl, none)

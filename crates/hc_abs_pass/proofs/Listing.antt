@@ -40,6 +40,7 @@ use Rattle.hc_abs_rw.specs.declared.apply.Next.{Next}
 use Rattle.hc_abs_rw.specs.declared.apply.Next.TheVariants as next
 use Rattle.hc_abs_rw.specs.declared.apply.Setting.{Setting}
 use Rattle.hc_abs_rw.specs.declared.rule.RuleBranch.{RuleBranch}
+use Rattle.hc_plan.proofs.Sequence.{in_turn}
 use Rattle.hc_abs_pass.specs.Listing.{AreBehind, AreListed, ArePast, HasEnd, IsPast, IsPlaced, LeadsTo, ListedFits}
 use Rattle.hc_abs_pass.specs.Listing.{PlaceFits, Standing, attempted_plan, before, ended_at, flagged_plan, flagged_so}
 use Rattle.hc_abs_pass.specs.Listing.{left, matched_plan, placed_at, rest_plan, rule_plan, so_far_of, standing_at}
@@ -51,30 +52,6 @@ use Rattle.hc_abs_pass.specs.declared.list.Placed.{Placed}
 use Rattle.hc_abs_pass.specs.declared.list.SoFar.{SoFar}
 use Rattle.hc_abs_pass.specs.declared.list.Stop.{Stop}
 use Rattle.hc_abs_pass.specs.declared.list.Stop.TheVariants as stop
-
--- ---- one plan after another, and a third
-
-module _ {A B C : Type 0} (first : A → Plan B) (second : B → Plan C) where
-  abbrev Both : A → Plan C
-  Both end = and_then (first end) second
-
-  in_turn : (plan : Plan A) → and_then (and_then plan first) second ≡ and_then plan Both
-  unfolding and_then
-  in_turn (done end) = refl
-  in_turn (take_up key items plan) = ap (take_up key items) (in_turn plan)
-  in_turn (test key set plan) = ap (test key set) (fun_ext (λ is. in_turn (plan is)))
-  in_turn (sort key sets plan) = ap (sort key sets) (fun_ext (λ place. in_turn (plan place)))
-  in_turn (look_for to pattern key plan) = ap (look_for to pattern key) (fun_ext (λ is. in_turn (plan is)))
-  in_turn (shorten key count plan) = ap (shorten key count) (in_turn plan)
-  in_turn (tidy key set image plan) = ap (tidy key set image) (in_turn plan)
-  in_turn (make key image one other plan) = ap (make key image one other) (in_turn plan)
-  in_turn (look_up to number table key fallback plan) = ap (look_up to number table key fallback) (in_turn plan)
-  in_turn (bound key set plan) = ap (bound key set) (in_turn plan)
-  in_turn (store stored plan) = ap (store stored) (in_turn plan)
-  in_turn (rename sources looked kept plan) = ap (rename sources looked kept) (in_turn plan)
-  in_turn (let_go key plan) = ap (let_go key) (in_turn plan)
-  in_turn (choose question plan) = ap (choose question) (fun_ext (λ is. in_turn (plan is)))
-  in_turn leave_out = refl
 
 -- ---- a rule, and what is left behind it
 

@@ -4,7 +4,7 @@ use Rattle.hc_abs_pass.proofs.Common.{true, false, if◌then◌else◌, Option, 
 use Rattle.hc_abs_pass.proofs.Common.{subst, append_assoc, append-nil, State, PlanRun, Plan, plan_run, item_text}
 use Rattle.hc_abs_pass.proofs.Common.{text_of, in_hand, option_map, pick, Slot, Item}
 use Rattle.hc_alias.specs.Filling.{filling_with}
-use Rattle.hc_alias.specs.Locations.{absolute, location, query_part}
+use Rattle.hc_alias.specs.Locations.{location}
 use Rattle.hc_alias.specs.Mapping.{aliased, away_by, mapped_among, maps_of, named_by, or_named, redirect_spot}
 use Rattle.hc_alias.specs.Mapping.{redirects_of}
 use Rattle.hc_alias.specs.Mapping.{root_of, under_root, unless_away}
@@ -21,19 +21,14 @@ use Rattle.hc_model.specs.declared.request.Caller.{Caller}
 use Rattle.hc_model.specs.declared.template.Piece.{Piece}
 use Rattle.hc_model.specs.declared.template.Piece.TheVariants as piece
 use Rattle.hc_pattern.specs.Pattern.{Pattern}
-use Rattle.hc_plan.specs.Plan.{done, let_go}
-use Rattle.hc_plan.specs.Running.{holding, run_then, with_groups}
-use Rattle.hc_plan.specs.Texts.{Three}
-use Rattle.hc_plan.proofs.Sequence.{runs_in_turn}
-use Rattle.hc_target.specs.Escapes.{escaped}
+use Rattle.hc_plan.specs.Running.{ended, holding, with_groups}
 use Rattle.hc_target.specs.Urls.{is_redirection}
 use Rattle.hc_template.specs.Filled.{filled}
 use Rattle.hc_ways.specs.Kept.{Held, first_match}
 use Rattle.hc_abs_rw.specs.Templates.{groups, main}
-use Rattle.hc_abs_rw.specs.Frames.{common}
 use Rattle.hc_abs_pass.specs.Ends.{Left, sent, status}
-use Rattle.hc_abs_pass.specs.Mapping.{Maps, Placing, Sends, alias_named, aliases_plan, away_plan}
-use Rattle.hc_abs_pass.specs.Mapping.{entries_plan, location_plan, map_plan, over, redirects_plan, rest_items}
+use Rattle.hc_abs_pass.specs.Mapping.{Maps, Placing, Sends, alias_named, aliases_plan}
+use Rattle.hc_abs_pass.specs.Mapping.{entries_plan, map_plan, over, redirects_plan, rest_items}
 use Rattle.hc_abs_pass.specs.Mapping.{sent_away, taken, under_root_plan}
 use Rattle.hc_abs_pass.specs.Mapping.{target_items}
 
@@ -68,64 +63,47 @@ text_of_both s (item ∷ one) other =
     ap (λ rest. item_text s item ++ rest) (text_of_both s one other)
     ∙ sym (append_assoc (item_text s item) (text_of s one) (text_of s other))
 
-rest_text : (from : PathTest) (s : State) (texts : Three (List ℕ))
-    → text_of (record s { texts = texts }) (rest_items from) ≡ text_of s (rest_items from)
-rest_text (Prefix from) s texts = refl
-rest_text (Search pattern) s texts = refl
-
-module _ {A : Type 0} (give : Left → A) (caller : Caller) where
-  module _ (redirect : Redirect) (found : Found) (s : State) (holds : Holds redirect.from found s) where
-    abbrev further : Left → State → PlanRun A
-    further left s = plan_run (let_go groups (done (give left))) s
-
-    location_is : (query : List ℕ) → s.slots Slot.Query ≡ query
-        → (absolute (common caller) (text_of s (target_items redirect.from redirect.to))
-        ++ escaped (text_of s (rest_items redirect.from)))
-        ++ query_part (text_of s (target_items redirect.from redirect.to)) (s.slots Slot.Query ++ [])
-        ≡ location caller redirect found query
-    location_is query same =
-        let target = filled (filling_with found.groups) redirect.to in
-        ap₂ (λ target query. (absolute caller target ++ escaped (text_of s (rest_items redirect.from)))
-        ++ query_part target query)
-        (target_is redirect.from found s holds redirect.to) (append-nil (s.slots Slot.Query) ∙ same)
-        ∙ ap (λ rest. (absolute caller target ++ escaped rest) ++ query_part target query)
-        (rest_is redirect.from found s holds)
-
-    sends : (query : List ℕ) → s.slots Slot.Query ≡ query
-        → Sends give (plan_run (sent_away give (common caller) redirect) s) (away_by caller query (redirect, found))
-    unfolding plan_run
-    sends query same =
-        subst (λ first. Sends give first (away_by caller query (redirect, found)))
-        (sym (runs_in_turn (λ left. let_go groups (done (give left))) (away_plan (common caller) redirect) s))
-        (by (is_redirection redirect.status))
+-- The first entry that takes a path does take it.
+takes : {E : Type 0} (from : E → PathTest) (path : List ℕ) (entries : List E) (taken : E × Found)
+    → first_taking from entries path ≡ Some taken → found_by (from taken.0) path ≡ Some taken.1
+takes from path [] taken is = absurd (let none = is in cc)
+takes {E} from path (entry ∷ entries) taken is = by (found_by (from entry) path) refl (takes from path entries taken) is
+  where
+    by : (own : Option Found) → found_by (from entry) path ≡ own
+        → (first_taking from entries path ≡ Some taken → found_by (from taken.0) path ≡ Some taken.1)
+        → or_later entry own (first_taking from entries path) ≡ Some taken → found_by (from taken.0) path ≡ Some taken.1
+    by (Some found) own_is more is =
+        subst (λ (taken : E × Found). found_by (from taken.0) path ≡ Some taken.1) (inside (entry, found) taken is) own_is
       where
-        held : Three (List ℕ)
-        held = record {
-          first = text_of s (target_items redirect.from redirect.to);
-          second = s.texts.second;
-          third = query_part (text_of s (target_items redirect.from redirect.to)) (s.slots Slot.Query ++ []);
-        }
+        inside : (one other : E × Found) → Some one ≡ Some other → one ≡ other
+        inside one other same = let e = same in cc
+    by None own_is more is = more is
 
-        by : (is : Bool) → Sends give
-            (run_then (plan_run (if is then location_plan (common caller) redirect else done
-            (status redirect.status)) s)
-            further)
-            (record {
-              outcome =
-                  if is then outcome.Redirect redirect.status (location caller redirect found query)
-                  else outcome.Status redirect.status;
-              from = redirect_spot redirect;
-            })
-        by false = (_, status redirect.status, refl, refl)
-        by true = (
-          _,
-          sent redirect.status,
-          refl,
-          ap (outcome.Redirect redirect.status) (sym (ap (λ rest.
-              (absolute (common caller) (text_of s (target_items redirect.from redirect.to)) ++ escaped rest)
-              ++ query_part (text_of s (target_items redirect.from redirect.to)) (s.slots Slot.Query ++ []))
-              (rest_text redirect.from s held) ∙ location_is query same)),
-        )
+module _ {A : Type 0} (give : Left → A) (caller : Caller) (path query : List ℕ) (redirect : Redirect) (found : Found)
+    (taken_is : found_by redirect.from path ≡ Some found) where
+  sends : (s : State) → s.slots Slot.Path ≡ path → s.slots Slot.Query ≡ query
+      → Sends caller give (plan_run (sent_away give redirect) s) (away_by caller query (redirect, found))
+  unfolding plan_run
+  sends s meets asked = by (is_redirection redirect.status)
+    where
+      by : (is : Bool) → Sends caller give
+          (ended (holding s groups (λ at. [])) (give (if is then sent redirect else status redirect.status)))
+          (record {
+            outcome = if is then outcome.Redirect redirect.status (location caller redirect found query)
+                else outcome.Status redirect.status;
+            from = redirect_spot redirect;
+          })
+      by true = (
+        _,
+        sent redirect,
+        refl,
+        (
+          found,
+          ap (found_by redirect.from) meets ∙ taken_is,
+          ap (λ query. outcome.Redirect redirect.status (location caller redirect found query)) (sym asked),
+        ),
+      )
+      by false = (_, status redirect.status, refl, refl)
 
 -- ---- entries in order
 
@@ -228,7 +206,7 @@ module _ (caller : Caller) (servers : List Server) (path query : List ℕ) where
   named_plan = aliases_plan (maps_of servers) rooted
 
   root_maps : (s : State) → s.slots Slot.Path ≡ path → (root : Option (List ℕ))
-      → Maps s (plan_run (under_root_plan root Slot.Path) s) (under_root root path)
+      → Maps caller s (plan_run (under_root_plan root Slot.Path) s) (under_root root path)
   unfolding plan_run
   root_maps s meets None = (s, refl)
   root_maps s meets (Some root) =
@@ -236,13 +214,13 @@ module _ (caller : Caller) (servers : List Server) (path query : List ℕ) where
 
   -- Maps looks at slots and client alone.
   moved : (s later : State) (first : PlanRun Placing) → later.slots ≡ s.slots → later.client ≡ s.client
-      → (own : Mapped) → Maps later first own → Maps s first own
+      → (own : Mapped) → Maps caller later first own → Maps caller s first own
   moved s later first slots client (mapped.Name name from) is = (is.0, is.1, is.2, is.3 ∙ slots, is.4 ∙ client)
   moved s later first slots client (mapped.Away away) is = is
   moved s later first slots client mapped.NoRoot is = is
 
   aliases_map : (s : State) → s.slots Slot.Path ≡ path
-      → Maps s (plan_run named_plan s) (or_named (aliased (maps_of servers) path) (under_root (root_of servers) path))
+      → Maps caller s (plan_run named_plan s) (or_named (aliased (maps_of servers) path) (under_root (root_of servers) path))
   unfolding plan_run
   aliases_map s meets =
       by (first_taking (λ alias. alias.from) (maps_of servers) path) (plan_run named_plan s)
@@ -250,9 +228,9 @@ module _ (caller : Caller) (servers : List Server) (path query : List ℕ) where
     where
       by : (own : Option (Alias × Found)) (first : PlanRun Placing)
           → Entered (λ alias. alias.from) alias_named path rooted s first own
-          → Maps s first (or_named (option_map named_by own) (under_root (root_of servers) path))
+          → Maps caller s first (or_named (option_map named_by own) (under_root (root_of servers) path))
       by None first is =
-          subst (λ first. Maps s first (under_root (root_of servers) path)) (sym is.1)
+          subst (λ first. Maps caller s first (under_root (root_of servers) path)) (sym is.1)
           (moved s is.0 (plan_run rooted is.0) is.2 is.3 (under_root (root_of servers) path)
           (root_maps is.0 (ap (λ slots. slots Slot.Path) is.2 ∙ meets) (root_of servers)))
       by (Some own) first is = (
@@ -267,23 +245,25 @@ module _ (caller : Caller) (servers : List Server) (path query : List ℕ) where
       )
 
   pub map_goes : (s : State) → s.slots Slot.Path ≡ path → s.slots Slot.Query ≡ query
-      → Maps s (plan_run (map_plan (common caller) servers) s) (mapped_among servers path query caller)
+      → Maps caller s (plan_run (map_plan servers) s) (mapped_among servers path query caller)
   unfolding map_plan
   map_goes s meets asked =
-      by (first_taking (λ redirect. redirect.from) (redirects_of servers) path)
-      (plan_run (redirects_plan over (common caller) (redirects_of servers) named_plan) s)
-      (entries_go (λ redirect. redirect.from) (sent_away over (common caller)) path (redirects_of servers) named_plan s
-      meets)
+      by (first_taking (λ redirect. redirect.from) (redirects_of servers) path) refl
+      (plan_run (redirects_plan over (redirects_of servers) named_plan) s)
+      (entries_go (λ redirect. redirect.from) (sent_away over) path (redirects_of servers) named_plan s meets)
     where
-      by : (own : Option (Redirect × Found)) (first : PlanRun Placing)
-          → Entered (λ redirect. redirect.from) (sent_away over (common caller)) path named_plan s first own
-          → Maps s first (unless_away (option_map (away_by caller query) own)
+      by : (own : Option (Redirect × Found)) → first_taking (λ redirect. redirect.from) (redirects_of servers) path ≡ own
+          → (first : PlanRun Placing)
+          → Entered (λ redirect. redirect.from) (sent_away over) path named_plan s first own
+          → Maps caller s first (unless_away (option_map (away_by caller query) own)
           (or_named (aliased (maps_of servers) path) (under_root (root_of servers) path)))
-      by None first is =
+      by None own_is first is =
           let mapped = or_named (aliased (maps_of servers) path) (under_root (root_of servers) path) in
-          subst (λ first. Maps s first mapped) (sym is.1)
+          subst (λ first. Maps caller s first mapped) (sym is.1)
           (moved s is.0 (plan_run named_plan is.0) is.2 is.3 mapped
           (aliases_map is.0 (ap (λ slots. slots Slot.Path) is.2 ∙ meets)))
-      by (Some own) first is =
-          subst (λ first. Sends over first (away_by caller query own)) (sym is.1)
-          (sends over caller own.0 own.1 is.0 is.2 query (ap (λ slots. slots Slot.Query) is.3 ∙ asked))
+      by (Some own) own_is first is =
+          subst (λ first. Sends caller over first (away_by caller query own)) (sym is.1)
+          (sends over caller path query own.0 own.1
+          (takes (λ redirect. redirect.from) path (redirects_of servers) own own_is) is.0
+          (ap (λ slots. slots Slot.Path) is.3 ∙ meets) (ap (λ slots. slots Slot.Query) is.3 ∙ asked))

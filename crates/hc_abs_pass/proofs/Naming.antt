@@ -20,7 +20,6 @@ unfoldable use Rattle.hc_serve.specs.Passing.{path_left, path_without_dots, text
 use Rattle.hc_serve.specs.ServerRules.{context_at, first_component, pass_with}
 use Rattle.hc_serve.specs.Site.{Site}
 use Rattle.hc_vhost.specs.Servers.{servers_of}
-use Rattle.hc_abs_rw.specs.Frames.{common}
 use Rattle.hc_abs_rw.specs.Templates.{header_slot, main}
 use Rattle.hc_abs_pass.specs.Ends.{Left, MeetsOn, outside, sent, status}
 use Rattle.hc_abs_pass.specs.Mapping.{Maps, Outcomes, Placing, map_plan, over, under_root_plan}
@@ -53,7 +52,7 @@ module _ (site : Site) (shown : Shown) where
 
   -- A name is in hand, or the pass has ended, as the mapping says.
   named_like : (pass : Pass) (s : State) (first : PlanRun Placing) (own : Mapped) → MeetsOn site pass s
-      → Maps s first own
+      → Maps site.caller s first own
       → Like (NamedLike site) first (run (named pass own) shown)
   unfolding run named
   named_like pass s first (mapped.Name name from) meets is =
@@ -63,9 +62,9 @@ module _ (site : Site) (shown : Shown) where
       subst (λ first. Like (NamedLike site) first (run (named pass (mapped.Away away)) shown)) (sym is.2)
       (by is.1 is.3)
     where
-      by : (left : Left) → Outcomes is.0 left away.outcome
+      by : (left : Left) → Outcomes site.caller is.0 left away.outcome
           → Like (NamedLike site) (ended is.0 (over left)) (run (named pass (mapped.Away away)) shown)
-      by (sent number) is = (refl, ap is_over is)
+      by (sent redirect) is = (refl, away.outcome, refl, is)
       by (status number) is = (refl, ap is_over is)
       by other is = absurd is
   named_like pass s first mapped.NoRoot meets is =
@@ -96,7 +95,7 @@ module _ (site : Site) (shown : Shown) where
     same_text = append-nil (s.slots Slot.Text) ∙ meets.text
 
     abbrev mapping : Plan Placing
-    mapping = map_plan (common site.caller) (servers_of site.config site.host)
+    mapping = map_plan (servers_of site.config site.host)
 
     mapped_like : Like (NamedLike site) (plan_run mapping s) (run (mapped_at site own_pass) shown)
     unfolding mapped_at
@@ -187,7 +186,7 @@ module _ (site : Site) (shown : Shown) where
     distributed false end one plan is = is
 
     text_by : (passed : Bool) → Like (NamedLike site)
-        (plan_run (text_plan shown (common site.caller) (servers_of site.config site.host) passed)
+        (plan_run (text_plan shown (servers_of site.config site.host) passed)
         (in_hand s main text))
         (run (absolute_left site passed own_pass left.text >>= name_of site) shown)
     unfolding plan_run run path_left path_without_dots absolute_left name_of mapped_at ◌>>=◌
@@ -202,12 +201,12 @@ module _ (site : Site) (shown : Shown) where
         (sym (ap (first_exists shown) same_text)) (file_by (there shown (first_component left.text))))
 
     slash_like : (passed : Bool) → Like (NamedLike site)
-        (plan_run (placed_plan shown (common site.caller) (servers_of site.config site.host) true passed) s)
+        (plan_run (placed_plan shown (servers_of site.config site.host) true passed) s)
         (run (text_left site passed own_pass left.text >>= name_of site) shown)
     unfolding plan_run run placed_plan text_left ◌>>=◌
     slash_like passed =
         subst (λ own. Like (NamedLike site)
-        (plan_run (placed_plan shown (common site.caller) (servers_of site.config site.host) true passed) s)
+        (plan_run (placed_plan shown (servers_of site.config site.host) true passed) s)
         (run ((if own then absolute_left site passed own_pass left.text else ends
         (Status 400)) >>= name_of site) shown))
         (ap begins_with_slash same_text) (by (begins_with_slash text))
@@ -215,7 +214,7 @@ module _ (site : Site) (shown : Shown) where
         by : (begins : Bool) → Like (NamedLike site)
             (plan_run (elim (not begins) [
               | true ↦ done (over (status 400))
-              | false ↦ text_plan shown (common site.caller) (servers_of site.config site.host) passed
+              | false ↦ text_plan shown (servers_of site.config site.host) passed
             ]) (in_hand s main text))
             (run ((if begins then absolute_left site passed own_pass left.text else ends (Status 400)) >>= name_of site)
             shown)
@@ -223,7 +222,7 @@ module _ (site : Site) (shown : Shown) where
         by false = (refl, refl)
 
     placed_like : (substituted passed : Bool) → Like (NamedLike site)
-        (plan_run (placed_plan shown (common site.caller) (servers_of site.config site.host) substituted passed) s)
+        (plan_run (placed_plan shown (servers_of site.config site.host) substituted passed) s)
         (run (finished site pass (record { left = record { state = left; substituted = substituted }; passed = passed })
         >>= name_of site) shown)
     unfolding plan_run run placed_plan finished name_of ◌>>=◌

@@ -11,7 +11,7 @@ use Rattle.hc_base.specs.Paths.{begins_with_slash, is_slash}
 use Rattle.hc_dfa.specs.Automata.{accepts}
 use Rattle.hc_dfa.specs.Texts.{IsText, TextSet}
 use Rattle.hc_model.specs.World.{root}
-use Rattle.hc_plan.proofs.Coded.{Follows, both_fit}
+use Rattle.hc_plan.proofs.Coded.{Follows, both_fit, side_fits}
 use Rattle.hc_plan.specs.Branches.{Branch, Branches, OnSide, Sorted, meet, others}
 use Rattle.hc_plan.specs.Coded.{AllFit, AreBranches}
 use Rattle.hc_plan.specs.Cover.{Among}
@@ -26,7 +26,6 @@ use Rattle.hc_abs_pass.proofs.Alike.{IsEnd, IsSeen, root_fit}
 use Rattle.hc_abs_pass.proofs.Apart.{ApartFrom, AreApart, none_slashed, root_apart}
 use Rattle.hc_abs_pass.proofs.Arriving.{arrived_fits, from_leads, to_leads}
 use Rattle.hc_abs_pass.proofs.Components.{both_ways}
-use Rattle.hc_abs_pass.proofs.Sides.{side_fits}
 use Rattle.hc_abs_pass.proofs.Somewhere.{root_has}
 use Rattle.hc_abs_pass.specs.Walking.{AreEnds, AreTried, AreWalked, AreWalkedOn, HasName, IsLeftOut, IsTried}
 use Rattle.hc_abs_pass.specs.Walking.{WalkedFits, leads_somewhere}
@@ -88,8 +87,8 @@ module _ (client : Option Addr) (state : AbsState) (named : Named) (has : HasNam
       × OnSide state main (meet rest (rooted end)) (λ now. Branches plan now) branches
       × AllFit (WalkedFits client) found branches
   on_end rest code end plan found is_end tried within is =
-      side_fits (WalkedFits client) named.tied.cell named.tied.ties named.text.items named.side state
-      has.text.stands (meet rest (rooted end)) (on true (accepts tried.set)) plan tried.way found
+      side_fits (WalkedFits client) named.tied.cell named.tied.ties named.text.items 0 named.side state main
+      has.text.stands (λ now. now) (meet rest (rooted end)) (on true (accepts tried.set)) plan tried.way found
       alike tried.tested (follows tried.way tried.left)
     where
       alike : (x : List ℕ) → IsText x → meet rest (rooted end) x ≡ accepts tried.set x
@@ -115,8 +114,8 @@ module _ (client : Option Addr) (state : AbsState) (named : Named) (has : HasNam
       → (branches : List (Branch WalkEnd)) × OnSide state main rest (λ now. Branches plan now) branches
       × AllFit (WalkedFits client) [] branches
   on_none rest plan way out same is =
-      side_fits (WalkedFits client) named.tied.cell named.tied.ties named.text.items named.side state
-      has.text.stands rest (on false (accepts out.set)) plan way []
+      side_fits (WalkedFits client) named.tied.cell named.tied.ties named.text.items 0 named.side state main
+      has.text.stands (λ now. now) rest (on false (accepts out.set)) plan way []
       (λ x bytes. same x ∙ ap not (sym (out.are x bytes))) out.tested (follows way)
     where
       follows : (way : Option Way)

@@ -18,6 +18,7 @@ use Rattle.hc_model.specs.declared.template.Var.{Var}
 use Rattle.hc_model.specs.declared.template.Var.TheVariants as var
 use Rattle.hc_plan.specs.Branches.{finds}
 use Rattle.hc_plan.specs.Plan.{client, held, literal, slot_behind}
+use Rattle.hc_plan.specs.Running.{compares}
 use Rattle.hc_abs_pass.specs.Sections.{bare}
 use Rattle.hc_rw_eval.specs.Conditions.{counted}
 use Rattle.hc_template.specs.Filled.{filled_piece}
@@ -25,9 +26,9 @@ use Rattle.hc_table.specs.declared.variable.Variable.{Variable}
 use Rattle.hc_table.specs.declared.variable.Variable.TheVariants as variable
 use Rattle.hc_template.specs.Variables.{on_off, scheme_name, seen_by, value_of, variable_value}
 use Rattle.hc_template.specs.ViewFilling.{filling_of}
-use Rattle.hc_abs_pass.specs.Views.{Scene, Sees, Ways, compared, is_one, is_same, left_first, level_ways, literal_of}
+use Rattle.hc_abs_pass.specs.Views.{Scene, Sees, Ways, compared, is_same, left_first, level_ways}
 use Rattle.hc_abs_pass.specs.Views.{named_item}
-use Rattle.hc_abs_pass.specs.Views.{one_if, piece_item, same_as, tested, view_item, view_items, ways_of}
+use Rattle.hc_abs_pass.specs.Views.{piece_item, tested, view_item, view_items, ways_of}
 
 -- ---- texts
 
@@ -63,21 +64,6 @@ module _ (scene : Scene) (view : View) (s : State) (sees : Sees scene view s) wh
   pieces_are [] = refl
   pieces_are (piece ∷ pieces) = ap₂ (λ front rest. front ++ rest) (piece_is piece) (pieces_are pieces)
 
-literal_is : (s : State) (items : List Item) (x : List ℕ) → literal_of items ≡ Some x → text_of s items ≡ x
-literal_is s [] x is = let e = is in cc
-literal_is s (literal own ∷ items) x is =
-    by (literal_of items) (λ rest some. literal_is s items rest some) is
-  where
-    by : (found : Option (List ℕ)) → ((rest : List ℕ) → found ≡ Some rest → text_of s items ≡ rest)
-        → option_map (λ rest. own ++ rest) found ≡ Some x
-        → text_of s (literal own ∷ items) ≡ x
-    by None each is = absurd (let e = is in cc)
-    by (Some rest) each is =
-        let same : own ++ rest ≡ x = let e = is in cc in ap (λ rest. own ++ rest) (each rest refl) ∙ same
-literal_is s (slot_behind slot count ∷ items) x is = absurd (let e = is in cc)
-literal_is s (held key at ∷ items) x is = absurd (let e = is in cc)
-literal_is s (client ∷ items) x is = absurd (let e = is in cc)
-
 query_bare : (item : Item) (s : State) → item_text (bare s) item ≡ item_text s item
 query_bare (literal own) s = refl
 query_bare (slot_behind slot count) s = refl
@@ -111,31 +97,17 @@ module _ (A : Type 0) (scene : Scene) (view : View) where
   tested_goes pieces set negated plan s sees =
       ap (λ text. plan_run (plan (counted negated (set text))) (bare s)) (pieces_are scene view s sees pieces)
 
+  compares_so : (negated : Bool) (text also : List ℕ) → compares (not negated) text also ≡ counted negated (bytes_eq text also)
+  compares_so true text also = refl
+  compares_so false text also = refl
+
   compared_goes : (left right : List Piece)
       → Goes (compared scene left right) (bytes_eq (text_seen view left) (text_seen view right))
   unfolding plan_run
   compared_goes left right negated plan s sees =
-      ap₂ (λ text also. plan_run (plan (counted negated (is_one (one_if (bytes_eq text also))))) (bare s))
+      ap₂ (λ text also. plan_run (plan (compares (not negated) text also)) (bare s))
       (pieces_are scene view s sees left) (pieces_are scene view s sees right)
-      ∙ ap (λ is. plan_run (plan (counted negated is)) (bare s))
-      (by (bytes_eq (text_seen view left) (text_seen view right)))
-    where
-      by : (is : Bool) → is_one (one_if is) ≡ is
-      by true = refl
-      by false = refl
-
-  same_goes : (left right : List Piece) (own other : Option (List ℕ)) → literal_of (view_items scene left) ≡ own
-      → literal_of (view_items scene right) ≡ other
-      → Goes (same_as scene left right own other) (bytes_eq (text_seen view left) (text_seen view right))
-  same_goes left right own (Some x) is_own is negated plan s sees =
-      tested_goes left (λ text. bytes_eq text x) negated plan s sees
-      ∙ ap (λ x. plan_run (plan (counted negated (bytes_eq (text_seen view left) x))) (bare s))
-      (sym (literal_is s (view_items scene right) x is) ∙ pieces_are scene view s sees right)
-  same_goes left right (Some x) None is other negated plan s sees =
-      tested_goes right (λ text. bytes_eq x text) negated plan s sees
-      ∙ ap (λ x. plan_run (plan (counted negated (bytes_eq x (text_seen view right)))) (bare s))
-      (sym (literal_is s (view_items scene left) x is) ∙ pieces_are scene view s sees left)
-  same_goes left right None None is other negated plan s sees = compared_goes left right negated plan s sees
+      ∙ ap (λ is. plan_run (plan is) (bare s)) (compares_so negated (text_seen view left) (text_seen view right))
 
   -- ---- expressions
 
@@ -208,7 +180,7 @@ module _ (A : Type 0) (scene : Scene) (view : View) where
   by_level (Expr-F.Same left right) =
       let level = Expr-F.Same left right in
       led level _ _ (fold-roll-Expr (Ways A) (level_ways scene) level) (fold-roll-Expr Bool (level_holds view) level)
-      (same_goes left right _ _ refl refl)
+      (compared_goes left right)
   by_level (Expr-F.Search left pattern) =
       let level = Expr-F.Search left pattern in
       led level _ _ (fold-roll-Expr (Ways A) (level_ways scene) level) (fold-roll-Expr Bool (level_holds view) level)

@@ -1,17 +1,26 @@
 -- How a pass ends, and what a request has come to at the cuts between its steps.
-use Rattle.std.specs.Prelude.{◌≡◌, ℕ, List, [], None}
+use Rattle.std.specs.Prelude.{◌≡◌, ℕ, List, [], Option, None, Some}
 use Rattle.std.specs.List.{IsDistinct}
 use Rattle.std.specs.Map.{keys_of}
 use Rattle.std.specs.Str.{bytes_eq}
+use Rattle.hc_alias.specs.Locations.{location}
+use Rattle.hc_alias.specs.Tests.{Found, found_by}
+use Rattle.hc_addr.specs.declared.addr.Addr.{Addr}
 use Rattle.hc_base.specs.declared.place.Refusal.{Refusal}
 use Rattle.hc_model.specs.declared.event.Decision.{Decision}
+use Rattle.hc_model.specs.declared.mapping.Redirect.{Redirect}
 use Rattle.hc_model.specs.declared.outcome.LimitKind.{LimitKind}
 use Rattle.hc_model.specs.declared.outcome.Outcome.{Outcome}
 use Rattle.hc_model.specs.declared.outcome.Outcome.TheVariants as outcome
 use Rattle.hc_model.specs.declared.outcome.Reason.{Reason}
+use Rattle.hc_model.specs.declared.request.Caller.{Caller}
 use Rattle.hc_model.specs.declared.walk.Kind.{Kind}
+use Rattle.hc_plan.specs.Hands.{cell_of}
 use Rattle.hc_plan.specs.Running.{State}
 use Rattle.hc_plan.specs.Slots.{Slot}
+use Rattle.hc_plan.specs.States.{AbsState, this}
+use Rattle.hc_plan.specs.Texts.{all_three}
+use Rattle.hc_plan.specs.declared.storing.Tied.{Tied}
 use Rattle.hc_rw_expand.specs.Variables.{Variables}
 use Rattle.hc_rw_expand.specs.declared.state.RwState.{RwState}
 use Rattle.hc_serve.specs.Passing.{outcome_at}
@@ -20,18 +29,37 @@ use Rattle.hc_serve.specs.Site.{Site}
 use Rattle.hc_serve.specs.declared.stage.Here.{Here}
 use Rattle.hc_serve.specs.declared.stage.Pass.{Pass}
 use Rattle.hc_steps.specs.Run.{Way, goes_on, is_over}
+use Rattle.hc_abs_rw.specs.Known.{client_given}
 use Rattle.hc_abs_rw.specs.Standing.{Meets}
+use Rattle.hc_abs_pass.specs.declared.ends.Left.{Left as LeftIn}
+use Rattle.hc_abs_pass.specs.declared.ends.Left.TheVariants as left
 
--- An answer of this status; outside; what stands at the slots `name` and `info`; sent to the slot `location`; a
--- `.htaccess` that is refused; a limit that is reached; another pass.
+-- An answer of this status; outside; what stands at the slots `name` and `info`; sent away by a redirect; a `.htaccess`
+-- that is refused; a limit that is reached; another pass.
 pub data Left : Type 0 where
   status : ℕ → Left
   outside : Reason → Left
   found : Kind → Left
-  sent : ℕ → Left
+  sent : Redirect → Left
   refused : Refusal → Left
   limit : LimitKind → Left
   next_pass : Left
+
+abbrev pub left_of : LeftIn → Left
+left_of (left.Status number) = status number
+left_of (left.Outside reason) = outside reason
+left_of (left.Found kind) = found kind
+left_of (left.Sent redirect) = sent redirect.now
+left_of (left.Refused refusal) = refused refusal
+left_of (left.Limit kind) = limit kind
+left_of left.NextPass = next_pass
+
+-- What is known at an end, where nothing is held. No text in hand is looked at.
+pub record EndsAt (client : Option Addr) (tied : Tied) (state : AbsState) : Type 0 where
+  pub cell : state.cell ≡ cell_of tied.cell
+  pub ties : state.ties ≡ tied.ties
+  pub given : state.given ≡ all_three (λ at. this [])
+  pub printed : state.printed ≡ client_given client
 
 -- ---- cuts
 
@@ -66,11 +94,17 @@ pub record MeetsHere (site : Site) (here : Here) (left : RwState) (state : State
 
 -- ---- ends
 
+-- Where a redirect sends a request whose slots have its path and query.
+abbrev pub SentBy : Caller → State → Redirect → Outcome → Type 0
+SentBy caller state redirect own = (found : Found)
+    × (found_by redirect.from (state.slots Slot.Path) ≡ Some found)
+    × (own ≡ outcome.Redirect redirect.status (location caller redirect found (state.slots Slot.Query)))
+
 abbrev pub Ends : Site → State → Left → Way Outcome Pass → Type 0
 Ends site state (status number) way = way ≡ is_over (outcome.Status number)
 Ends site state (outside reason) way = way ≡ is_over (outcome.Outside reason)
 Ends site state (found kind) way = way ≡ is_over (outcome_at kind (state.slots Slot.Name) (state.slots Slot.Info))
-Ends site state (sent number) way = way ≡ is_over (outcome.Redirect number (state.slots Slot.Location))
+Ends site state (sent redirect) way = (own : Outcome) × (way ≡ is_over own) × SentBy site.caller state redirect own
 Ends site state (refused refusal) way = way ≡ is_over (outcome.HtRefused refusal)
 Ends site state (limit kind) way = way ≡ is_over (outcome.Limit kind)
 Ends site state next_pass way =

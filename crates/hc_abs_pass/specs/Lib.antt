@@ -7,6 +7,5 @@ pub mod Passing
 pub mod Restarting
 pub mod Sections
 pub mod Views
-pub mod WalkSets
 pub mod Walking
 pub mod Walks

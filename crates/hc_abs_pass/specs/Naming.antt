@@ -31,7 +31,7 @@ use Rattle.hc_steps.specs.Step.{◌>>=◌}
 use Rattle.hc_vhost.specs.Servers.{servers_of}
 use Rattle.hc_abs_rw.specs.Frames.{common}
 use Rattle.hc_abs_rw.specs.Standing.{Like, Meets}
-use Rattle.hc_abs_pass.specs.Ends.{MeetsOn, sent}
+use Rattle.hc_abs_pass.specs.Ends.{MeetsOn, SentBy, sent}
 use Rattle.hc_serve.specs.declared.stage.Named.{Named}
 use Rattle.hc_serve.specs.declared.stage.Pass.{Pass}
 use Rattle.hc_abs_pass.specs.Mapping.{Placing, map_plan, named, over, under_root_plan}
@@ -51,12 +51,12 @@ tidy_plan ended plan = tidy main has_double_slash merge_slashes (test main has_d
   | false ↦ plan
 ]))
 
-module _ (shown : Shown) (caller : Caller) (servers : List Server) where
+module _ (shown : Shown) (servers : List Server) where
   -- With PT the text is a URL path; else a file name, or what stands under the document root.
   abbrev pub text_plan : Bool → Plan Placing
   text_plan true =
       take_up main (slot_item Slot.Text ∷ [])
-      (tidy_plan over (store ((Slot.Path, from_hand main) ∷ []) (map_plan caller servers)))
+      (tidy_plan over (store ((Slot.Path, from_hand main) ∷ []) (map_plan servers)))
   text_plan false =
       take_up main (slot_item Slot.Text ∷ []) (test main (first_exists shown) (λ own. elim own [
         | true ↦ done (named true)
@@ -64,7 +64,7 @@ module _ (shown : Shown) (caller : Caller) (servers : List Server) where
       ]))
 
   unfoldable pub placed_plan : Bool → Bool → Plan Placing
-  placed_plan false passed = map_plan caller servers
+  placed_plan false passed = map_plan servers
   placed_plan true passed =
       take_up main (slot_item Slot.Text ∷ []) (test main (others begins_with_slash) (λ relative. elim relative [
         | true ↦ done (over (status 400))
@@ -81,8 +81,8 @@ NamedLike site state (over (status number)) way decisions =
     (decisions ≡ []) × (way ≡ is_over (outcome.Status number))
 NamedLike site state (over (outside reason)) way decisions =
     (decisions ≡ []) × (way ≡ is_over (outcome.Outside reason))
-NamedLike site state (over (sent number)) way decisions =
-    (decisions ≡ []) × (way ≡ is_over (outcome.Redirect number (state.slots Slot.Location)))
+NamedLike site state (over (sent redirect)) way decisions = (decisions ≡ []) × (own : Outcome) × (way ≡ is_over own)
+    × SentBy site.caller state redirect own
 NamedLike site state (over other) way decisions = ⊥
 
 -- Behind the run of the server's rules.
@@ -90,6 +90,5 @@ abbrev pub NamingAgrees : Type 0
 NamingAgrees = (site : Site) (pass : Pass) (finished_run : Finished) (shown : Shown) (state : State)
     → Meets (context_at site pass) finished_run.left.state state
     → Like (NamedLike site)
-    (run (placed_plan shown (common site.caller) (servers_of site.config site.host) finished_run.left.substituted
-    finished_run.passed) state)
+    (run (placed_plan shown (servers_of site.config site.host) finished_run.left.substituted finished_run.passed) state)
     (steps.run (finished site pass finished_run >>= name_of site) shown)

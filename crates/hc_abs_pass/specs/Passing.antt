@@ -9,6 +9,7 @@ use Rattle.hc_dfa.specs.Texts.{TextSet}
 use Rattle.hc_merge.specs.Order.{ordered_sections}
 use Rattle.hc_merge.specs.Overriding.{Files_at, wanted_by}
 use Rattle.hc_merge.specs.Settings.{merged}
+use Rattle.hc_model.specs.declared.authorization.ReqTree.{ReqTree}
 use Rattle.hc_model.specs.declared.event.Decision.{Decision}
 use Rattle.hc_model.specs.declared.outcome.Outcome.{Outcome}
 use Rattle.hc_model.specs.declared.outcome.Outcome.TheVariants as outcome
@@ -65,12 +66,17 @@ pub data Finish : Type 0 where
   server_round : Rule → SoFar → Finish
   dir_round : Settings → Rule → SoFar → Finish
 
+-- With it stays the tree of Require lines that is in force.
 pub record Segment : Type 0 where
   pub decisions : List Decision
+  pub require : Option ReqTree
   pub finish : Finish
 
-abbrev pub ends_so : List Decision → Left → Segment
-ends_so decisions left = record { decisions = decisions; finish = stopped left }
+abbrev pub finished_so : Option ReqTree → List Decision → Finish → Segment
+finished_so require decisions finish = record { decisions = decisions; require = require; finish = finish }
+
+abbrev pub ends_so : Option ReqTree → List Decision → Left → Segment
+ends_so require decisions left = finished_so require decisions (stopped left)
 
 abbrev pub begun_with : List Decision → Bool → SoFar
 begun_with decisions substituted = record { decisions = decisions; substituted = substituted; replaced = false }
@@ -97,10 +103,10 @@ module _ (ground : Ground) where
 
   abbrev pub left_plan : Settings → List Decision → Bool → Plan Segment
   left_plan settings decisions ran =
-      redirects_plan (ends_so decisions) ground.site.caller settings.force.redirects (elim ran [
+      redirects_plan (ends_so settings.force.require decisions) settings.force.redirects (elim ran [
         | true ↦ and_then (restart_plan settings.end.kind ground.last (path_of settings) ground.names)
-            (λ left. done (ends_so decisions left))
-        | false ↦ done (ends_so decisions (found settings.end.kind))
+            (λ left. done (ends_so settings.force.require decisions left))
+        | false ↦ done (ends_so settings.force.require decisions (found settings.end.kind))
       ])
 
   abbrev pub any_slot : Slot → Bool
@@ -116,8 +122,9 @@ module _ (ground : Ground) where
   dir_left settings listed = elim listed.stop [
     | is_over_so passed ↦
         path_untied (passed && listed.left.substituted) (left_plan settings listed.left.decisions true)
-    | again rule ↦ done (record { decisions = listed.left.decisions; finish = dir_round settings rule listed.left })
-    | answered next ↦ done (record { decisions = listed.left.decisions; finish = ruled next })
+    | again rule ↦
+        done (finished_so settings.force.require listed.left.decisions (dir_round settings rule listed.left))
+    | answered next ↦ done (finished_so settings.force.require listed.left.decisions (ruled next))
   ]
 
   -- One round of a directory's list.
@@ -144,7 +151,7 @@ module _ (ground : Ground) where
   abbrev pub follow_plan : Settings → List ℕ → List Decision → Plan Segment
   follow_plan settings dir decisions = elim settings.force.follow [
     | true ↦ dir_begun settings (engine_by settings dir) decisions
-    | false ↦ done (ends_so decisions (status 403))
+    | false ↦ done (ends_so settings.force.require decisions (status 403))
   ]
 
   -- First that END was not met, and then that the name is not the directory itself.
@@ -169,7 +176,7 @@ module _ (ground : Ground) where
   abbrev pub force_plan : Settings → List Decision → Plan Segment
   force_plan settings decisions = admitted_plan ground.site.caller settings.force.require (λ is. elim is [
     | true ↦ directory_plan settings decisions settings.force.dir
-    | false ↦ done (ends_so decisions (status 403))
+    | false ↦ done (ends_so settings.force.require decisions (status 403))
   ])
 
   abbrev pub sections_from : Scene → (Settings → Plan Segment) → Bool → WalkEnd → Files_at → Plan Segment
@@ -200,26 +207,25 @@ module _ (ground : Ground) where
   abbrev pub there_plan : Bool → List Decision → WalkEnd → Plan Segment
   there_plan aliased decisions end = files_by
       (sections_from (scene_with (slot_item Slot.Query)) (λ settings. force_plan settings decisions) aliased end)
-      (λ left. done (ends_so decisions left)) (files_at end)
+      (λ left. done (ends_so None decisions left)) (files_at end)
 
   abbrev pub name_plan : List Decision → Placing → Plan Segment
-  name_plan decisions (over left) = done (ends_so decisions left)
+  name_plan decisions (over left) = done (ends_so None decisions left)
   name_plan decisions (named aliased) =
-      tidy_plan (ends_so decisions)
+      tidy_plan (ends_so None decisions)
       (and_then (walk_plan (ends_in ground.levels ground.shown at_root)) (there_plan aliased decisions))
 
   -- ---- the rules of the server
 
   abbrev pub placed_from : List Decision → Bool → Bool → Plan Segment
   placed_from decisions substituted passed =
-      and_then (placed_plan ground.shown ground.site.caller (servers_of ground.site.config ground.site.host) substituted
-      passed) (name_plan decisions)
+      and_then (placed_plan ground.shown (servers_of ground.site.config ground.site.host) substituted passed) (name_plan decisions)
 
   abbrev pub server_left : Listed → Plan Segment
   server_left listed = elim listed.stop [
     | is_over_so passed ↦ placed_from listed.left.decisions listed.left.substituted passed
-    | again rule ↦ done (record { decisions = listed.left.decisions; finish = server_round rule listed.left })
-    | answered next ↦ done (record { decisions = listed.left.decisions; finish = ruled next })
+    | again rule ↦ done (finished_so None listed.left.decisions (server_round rule listed.left))
+    | answered next ↦ done (finished_so None listed.left.decisions (ruled next))
   ]
 
   -- One round of the server's list.

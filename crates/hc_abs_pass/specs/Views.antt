@@ -1,10 +1,8 @@
 -- Expressions as plans: split by their structure, the left part first, and the right one where the left does not
 -- decide.
 -- Apache manual, "Expressions in Apache HTTP Server".
-use Rattle.std.specs.Prelude.{ℕ, ◌≡◌, List, [], ◌∷◌, ◌++◌, map, Bool, true, false, not, Option}
-use Rattle.std.specs.Prelude.{None, Some}
-use Rattle.std.specs.Prelude.{codes, decimal, if◌then◌else◌, option_map}
-use Rattle.std.specs.Str.{bytes_eq}
+use Rattle.std.specs.Prelude.{ℕ, ◌≡◌, List, [], ◌∷◌, map, Bool, true, false, not}
+use Rattle.std.specs.Prelude.{codes, decimal}
 use Rattle.hc_addr.specs.Addresses.{addr_of}
 use Rattle.hc_dfa.specs.Texts.{TextSet}
 use Rattle.hc_expr.specs.Values.{is_in}
@@ -17,7 +15,7 @@ use Rattle.hc_model.specs.declared.template.Piece.TheVariants as piece
 use Rattle.hc_model.specs.declared.template.Var.{Var}
 use Rattle.hc_model.specs.declared.template.Var.TheVariants as var
 use Rattle.hc_plan.specs.Branches.{finds}
-use Rattle.hc_plan.specs.Plan.{Item, Plan, client, literal, make, put_down, take_up, test}
+use Rattle.hc_plan.specs.Plan.{Item, Plan, client, compare, literal, put_down, take_up, test}
 use Rattle.hc_plan.specs.Running.{State, item_text}
 use Rattle.hc_plan.specs.Slots.{Slot}
 use Rattle.hc_rw_eval.specs.Conditions.{counted}
@@ -75,29 +73,10 @@ abbrev pub tested : {A : Type 0} → Scene → List Piece → TextSet → Ways A
 tested scene pieces set negated plan =
     take_up main (view_items scene pieces) (test main (counted_set negated set) (λ is. put_down (plan is)))
 
-abbrev pub literal_of : List Item → Option (List ℕ)
-literal_of [] = Some []
-literal_of (literal own ∷ items) = option_map (λ rest. own ++ rest) (literal_of items)
-literal_of (other ∷ items) = None
-
-abbrev pub one_if : Bool → List ℕ
-one_if is = if is then codes "1" else []
-
-abbrev pub is_one : TextSet
-is_one text = bytes_eq text (codes "1")
-
--- Two texts of which neither is a literal: nothing is narrowed.
 abbrev pub compared : {A : Type 0} → Scene → List Piece → List Piece → Ways A
 compared scene left right negated plan =
     take_up main (view_items scene left) (take_up second (view_items scene right)
-    (make main (λ text also. one_if (bytes_eq text also)) main second
-    (test main (counted_set negated is_one) (λ is. put_down (plan is)))))
-
-abbrev pub same_as : {A : Type 0} → Scene → List Piece → List Piece → Option (List ℕ) → Option
-    (List ℕ) → Ways A
-same_as scene left right own (Some text) = tested scene left (λ x. bytes_eq x text)
-same_as scene left right (Some text) None = tested scene right (λ x. bytes_eq text x)
-same_as scene left right None None = compared scene left right
+    (compare main second (not negated) (λ is. put_down (plan is))))
 
 -- ---- expressions
 
@@ -118,8 +97,7 @@ level_ways scene Expr-F.No negated plan = put_down (plan (counted negated false)
 level_ways scene (Expr-F.Not ways) negated plan = ways (not negated) plan
 level_ways scene (Expr-F.And left right) negated plan = left_first false left right negated plan
 level_ways scene (Expr-F.Or left right) negated plan = left_first true left right negated plan
-level_ways scene (Expr-F.Same left right) negated plan =
-    same_as scene left right (literal_of (view_items scene left)) (literal_of (view_items scene right)) negated plan
+level_ways scene (Expr-F.Same left right) negated plan = compared scene left right negated plan
 level_ways scene (Expr-F.Search left pattern) negated plan = tested scene left (finds pattern) negated plan
 level_ways scene (Expr-F.IpMatch left net) negated plan = tested scene left (λ x. is_in net (addr_of x)) negated plan
 

@@ -24,11 +24,13 @@
 //! what the run leaves.
 #![tactic(auto)]
 
+mod ends;
 pub mod laws;
 mod list;
 mod walk;
 mod walk_ends;
 mod walk_sets;
 
+pub use ends::Left;
 pub use list::{Listed, SoFar, Stop, list_branches};
 pub use walk::{Named, Walked, walk_branches};

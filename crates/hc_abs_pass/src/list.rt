@@ -1,21 +1,20 @@
 //! One round of a list of rules over a set of requests (Apache manual, "Apache mod_rewrite Technical Details", "Ruleset
 //! Processing"; "RewriteRule Flags": C, S, N, L, END, PT).
-ghost use Rattle.std.specs.Prelude.{◌≡◌, ◌≤◌, ◌||◌, IfOk, OnOk, length, map};
-ghost use Rattle.std.specs.List.{prefix_len};
+ghost use Rattle.std.specs.Prelude.{◌≡◌, ◌≤◌, ◌||◌, IfOk, OnOk, map};
 ghost use Rattle.hc_abs_pass.specs.Listing.{AddsPlaced, AreBehind, AreListed, ArePast, HasEnd, IsPast, IsPlaced};
 ghost use Rattle.hc_abs_pass.specs.Listing.{LeadsTo, ended_at, flagged_plan, matched_plan, placed_at, so_far_of};
 ghost use Rattle.hc_abs_pass.specs.Listing.{stop_at};
 ghost use Rattle.hc_abs_pass.specs.declared.list.Place.TheVariants as place;
 ghost use Rattle.hc_abs_rw.specs.Known.{frame_at};
 ghost use Rattle.hc_abs_rw.specs.RuleBranches.{states_of};
-ghost use Rattle.hc_rw_eval.specs.Lists.{has_chain, is_followed, skipped_chain, stops_run};
 
 use hc_abs_rw::{Celled, Frame, Made, Next, RuleBranch, Setting, Surroundings, fit, rule_branches};
 use hc_base::{List, NoMemory};
 use hc_cells::{Cell, Slot};
 use hc_dfa::single;
-use hc_model::{Decision, Flags, Rule};
+use hc_model::{Decision, Rule};
 use hc_plan::{Stored, Tied, store};
+use hc_rw_eval::{is_followed, skipped_chain, stops_run};
 use std::alloc::Global;
 
 /// What rules have come to: the decisions, and whether a text and a query were put in place of the old ones.
@@ -177,12 +176,6 @@ fn tried<'r, S: Surroundings>(
     all_behind(alloc, rule, behind, &left, branches)
 }
 
-fn is_followed(behind: &[Rule]) -> bool
-    ensures { result ≡ is_followed behind.now }
-{
-    !behind.is_empty()
-}
-
 /// Where the branches of a rule stand.
 fn all_behind<'r>(
     alloc: Global,
@@ -297,37 +290,6 @@ fn with_end(alloc: Global, end: bool, tied: Tied) -> Result<Tied, NoMemory>
         set,
     })?;
     store(alloc, tied, &stored)
-}
-
-/// PT, L and END stop the run.
-fn stops_run(flags: &Flags) -> bool
-    ensures { result ≡ stops_run flags.now }
-{
-    flags.pass || flags.last || flags.end
-}
-
-/// How many rules with C come first.
-fn chain_length(rules: &[Rule]) -> usize
-    ensures value { result ≡ prefix_len has_chain rules.now }
-    ensures within { result ≤ length rules.now }
-{
-    for (place, rule) in rules.iter().enumerate() {
-        if !rule.flags.chain {
-            return place;
-        }
-    }
-    rules.len()
-}
-
-/// How many rules a rule that doesn't match skips: with C those up to the first without it.
-fn skipped_chain(rule: &Rule, behind: &[Rule]) -> usize
-    ensures { result ≡ skipped_chain rule.now behind.now }
-{
-    if rule.flags.chain {
-        chain_length(behind) + 1
-    } else {
-        0
-    }
 }
 
 /// Where all rules were tried, the list is over.

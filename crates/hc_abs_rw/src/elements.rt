@@ -85,15 +85,15 @@ fn plain_element<S: Surroundings>(
 {
     match piece {
         Piece::Bytes(bytes) => Ok(Element::Known(bytes.clone()?)),
-        Piece::Group(number) => group(alloc, &known.groups, *number),
-        Piece::CondGroup(number) => group(alloc, &known.cond_groups, *number),
+        Piece::Group(number) => group_element(alloc, &known.groups, *number),
+        Piece::CondGroup(number) => group_element(alloc, &known.cond_groups, *number),
         Piece::Var(var) => variable(alloc, frame, var),
         Piece::Lookup { .. } => Ok(Element::Known(Text::new(alloc))),
     }
 }
 
 /// What a group holds.
-fn group(alloc: Global, held: &Held<'_>, number: u8) -> Result<Element, NoMemory>
+pub fn group_element(alloc: Global, held: &Held<'_>, number: u8) -> Result<Element, NoMemory>
     ensures { IfOk result (IsGroupOf held.now number) }
 {
     match held {
@@ -117,7 +117,7 @@ fn variable<S: Surroundings>(
             let host = shared(alloc, frame, Variable::HttpHost)?;
             Ok(Element::Known(host))
         }
-        Var::Header(name) => header(alloc, name.as_bytes()),
+        Var::Header(name) => header_element(alloc, name.as_bytes()),
         Var::Env(name) => Ok(open(Slot::Env(name.clone()?))),
         Var::Named(named) => named_element(alloc, frame, *named),
     }
@@ -137,11 +137,11 @@ fn named_element<S: Surroundings>(
         Variable::RequestUri => Ok(open(Slot::Path)),
         Variable::QueryString => Ok(open(Slot::Query)),
         Variable::RequestMethod => Ok(open(Slot::Method)),
-        Variable::HttpCookie => header(alloc, b"Cookie"),
-        Variable::HttpAccept => header(alloc, b"Accept"),
-        Variable::HttpUserAgent => header(alloc, b"User-Agent"),
-        Variable::HttpReferer => header(alloc, b"Referer"),
-        Variable::RemoteAddr => client(alloc, frame.client),
+        Variable::HttpCookie => header_element(alloc, b"Cookie"),
+        Variable::HttpAccept => header_element(alloc, b"Accept"),
+        Variable::HttpUserAgent => header_element(alloc, b"User-Agent"),
+        Variable::HttpReferer => header_element(alloc, b"Referer"),
+        Variable::RemoteAddr => client_element(alloc, frame.client),
         _ => {
             let text = shared(alloc, frame, variable)?;
             Ok(Element::Known(text))
@@ -156,7 +156,8 @@ fn open(slot: Slot) -> Element
     Element::Open(slot, 0)
 }
 
-fn header(alloc: Global, name: &[u8]) -> Result<Element, NoMemory>
+/// The value of a header.
+pub fn header_element(alloc: Global, name: &[u8]) -> Result<Element, NoMemory>
     ensures { IfOk result (λ made. made ≡ element.Open (header_slot name.now) 0) }
 {
     let slot = Slot::header(alloc, name)?;
@@ -164,7 +165,7 @@ fn header(alloc: Global, name: &[u8]) -> Result<Element, NoMemory>
 }
 
 /// The client's address as it is printed: where it may be any, any text.
-fn client(alloc: Global, client: Option<Addr>) -> Result<Element, NoMemory>
+pub fn client_element(alloc: Global, client: Option<Addr>) -> Result<Element, NoMemory>
     ensures { IfOk result (λ made. IsGiven (client_given client) (part_of made)) }
 {
     match client {

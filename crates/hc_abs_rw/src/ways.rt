@@ -18,13 +18,13 @@ use std::rc::Rc;
 
 /// What a test leaves: where it holds, its negation counted, and where it doesn't.
 #[derive(Drop)]
-pub(crate) struct Ways {
+pub struct Ways {
     pub held: Option<Way>,
     pub failed: Option<Way>,
 }
 
 /// The ways of a test of a text by a set.
-pub(crate) fn ways_of(
+pub fn ways_of(
     alloc: Global,
     cell: &Cell,
     ties: Ties,
@@ -47,7 +47,7 @@ pub(crate) fn ways_of(
 
 /// The texts in which a pattern is found.
 #[tactic(auto, using(crate::proofs::Knowing::found_set))]
-pub(crate) fn found_texts(alloc: Global, pattern: &Pat) -> Result<Dfa, NoMemory>
+pub fn found_texts(alloc: Global, pattern: &Pat) -> Result<Dfa, NoMemory>
     ensures { IfOk result (λ set. Accepts set (finds (pattern_of pattern.now))) }
 {
     let set = matched(alloc, pattern)?;
@@ -55,7 +55,7 @@ pub(crate) fn found_texts(alloc: Global, pattern: &Pat) -> Result<Dfa, NoMemory>
 }
 
 /// The groups of a pattern that was found in a text, on this way.
-pub(crate) fn held_on<'r>(
+pub fn held_on<'r>(
     alloc: Global,
     pattern: &'r Pat,
     cell: Cell,

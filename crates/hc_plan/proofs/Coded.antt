@@ -234,7 +234,7 @@ module _ {A B : Type 0} (Fit : B → Branch A → Type 0) (sets : Sets) (ties : 
       (now : AbsState) → Stands way.cell ties elements off way.side now key → Keeps state key set now
       → AreBranches Fit plan (after now) found
 
-  side_fits : (after : AbsState → AbsState) (asked set : TextSet) (plan : Plan A) (way : Option Way) (found : List B)
+  pub side_fits : (after : AbsState → AbsState) (asked set : TextSet) (plan : Plan A) (way : Option Way) (found : List B)
       → ((x : List ℕ) → IsText x → asked x ≡ set x) → IsTested sets ties elements off side set way
       → Follows after asked plan way found
       → (branches : List (Branch A)) × OnSide state key asked (λ now. Branches plan (after now)) branches

@@ -28,5 +28,6 @@ pub use attempt::{Attempt, Rewritten};
 pub use conditions::{Seen, Tested, group_length};
 pub use directories::{url_path, with_slash};
 pub use placement::{front_of, redirects, status_sent, stops};
+pub use round::{is_followed, skipped_chain, stops_run};
 pub use run::{Finished, NextRound, Round, RulesRun, run_rules};
 pub use substitution::status_of;

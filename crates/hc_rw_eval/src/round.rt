@@ -48,8 +48,8 @@ fn chain_length(rules: &[Rule]) -> usize
     rules.len()
 }
 
-// How many rules a rule that does not match skips.
-fn skipped_chain(rule: &Rule, behind: &[Rule]) -> usize
+/// How many rules a rule that does not match skips: with C those up to the first without it.
+pub fn skipped_chain(rule: &Rule, behind: &[Rule]) -> usize
     ensures { result ≡ skipped_chain rule.now behind.now }
 {
     if rule.flags.chain {
@@ -66,8 +66,8 @@ fn beyond(rules: &[Rule], count: usize) -> &[Rule]
     rules.split_at(rules.len().min(count)).1
 }
 
-// PT, L and END stop the run.
-fn stops_run(flags: &Flags) -> bool
+/// PT, L and END stop the run.
+pub fn stops_run(flags: &Flags) -> bool
     ensures { result ≡ stops_run flags.now }
 {
     flags.pass || flags.last || flags.end
@@ -128,7 +128,8 @@ fn turned(rule: &Rule, behind: &[Rule], round: u32, attempt: Attempt) -> Result<
     turned_match(rule, round, attempt.left)
 }
 
-fn is_followed(behind: &[Rule]) -> bool
+/// Whether there are rules behind one.
+pub fn is_followed(behind: &[Rule]) -> bool
     ensures { result ≡ is_followed behind.now }
 {
     !behind.is_empty()

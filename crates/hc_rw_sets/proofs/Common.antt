@@ -3,7 +3,7 @@ pub use Rattle.std.proofs.Common.{◌≡◌, ◌≢◌, ℕ, suc, ◌+◌, ◌<�
 pub use Rattle.std.proofs.Common.{◌∷◌}
 pub use Rattle.std.proofs.Common.{◌++◌, length, take, drop, Bool, true, false, not, cond, ◌&&◌}
 pub use Rattle.std.proofs.Common.{◌||◌, if◌then◌else◌}
-pub use Rattle.std.proofs.Common.{nat_eq, Option, Some, None, refl, sym, ◌∙◌, ap, ap₂, subst, inl, inr, arith}
+pub use Rattle.std.proofs.Common.{nat_eq, Option, Some, None, refl, sym, ◌∙◌, ap, subst, inl, inr, arith}
 pub use Rattle.std.proofs.Common.{append-nil, append_assoc, eqb-true, ◌==◌, slice_index, ⊎_elim}
 pub use Rattle.std.proofs.lemmas.Bool.Decides.{eqb_tells}
 pub use Rattle.std.specs.Prelude.{IsTrue}

@@ -1,5 +1,7 @@
 -- What a test that reads byte by byte says.
-use Rattle.std.proofs.Common.{◌≡◌, ℕ, ◌<◌, List, [], ◌∷◌, Bool, ◌∙◌}
+use Rattle.std.proofs.Common.{◌≡◌, ℕ, ◌<◌, List, [], ◌∷◌, Bool, true, false, ◌||◌, refl, ◌∙◌}
+use Rattle.std.specs.List.{list_any}
+use Rattle.hc_base.specs.Bytes.{is_question}
 use Rattle.hc_dfa.specs.Readings.{reading_from}
 use Rattle.hc_dfa.specs.Texts.{TextSet, IsText}
 
@@ -11,3 +13,11 @@ pub read_as : {K : Type 0} (reads : K → ℕ → K) (holds : K → Bool) (meant
 read_as reads holds meant ends goes_on key [] bytes = ends key
 read_as reads holds meant ends goes_on key (byte ∷ text) bytes =
     read_as reads holds meant ends goes_on (reads key byte) text bytes.1 ∙ goes_on key byte text bytes.0
+
+pub read_any : (text : List ℕ) (found : Bool)
+    → reading_from (λ found byte. found || is_question byte) (λ found. found) found text
+    ≡ (found || list_any is_question text)
+read_any [] true = refl
+read_any [] false = refl
+read_any (b ∷ text) true = read_any text true
+read_any (b ∷ text) false = read_any text (is_question b)

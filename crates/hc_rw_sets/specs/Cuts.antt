@@ -1,40 +1,38 @@
--- What a part of a text is, before the first `?` or behind it, and the graph that keeps it of an automaton's texts.
-use Rattle.std.specs.Prelude.{ℕ, ◌||◌, not, List, [], ◌∷◌, Bool, false, Option, None, Some}
+-- Parts of a text by the first mark in it, and the graph that keeps such a part of an automaton's texts.
+use Rattle.std.specs.Prelude.{ℕ, ◌||◌, ◌==◌, not, List, drop, Bool, Option, None, Some}
 use Rattle.std.specs.Prelude.{if◌then◌else◌}
-use Rattle.hc_base.specs.Bytes.{is_question}
+use Rattle.std.specs.List.{after_first, before_first, position_or_len}
 use Rattle.hc_dfa.specs.Automata.{Automaton, next_state, is_final}
 use Rattle.hc_dfa.specs.Graphs.{GraphOf}
 use Rattle.hc_dfa.specs.declared.graphs.Choice.{Choice}
 use Rattle.hc_dfa.specs.declared.graphs.Choice.TheVariants.{Byte, One, Other}
 use Rattle.hc_dfa.specs.declared.graphs.Move.{Move}
-use Rattle.hc_rw_sets.specs.declared.questions.Cut.{Cut}
-use Rattle.hc_rw_sets.specs.declared.questions.Part.{Part}
-use Rattle.hc_rw_sets.specs.declared.questions.Part.TheVariants.{Before, Behind}
+use Rattle.hc_rw_sets.specs.declared.cuts.Cut.{Cut}
+use Rattle.hc_rw_sets.specs.declared.cuts.Part.{Part}
+use Rattle.hc_rw_sets.specs.declared.cuts.Part.TheVariants.{Before, Behind, From}
 
--- A byte is one of the part; whether a `?` was read.
-abbrev pub keeps : Part → Bool → ℕ → Bool
-keeps Before found byte = not (found || is_question byte)
-keeps Behind found byte = found
+-- What stands before the first mark, behind it, or from it on. Where there is none, all stands before it.
+abbrev pub part_at : ℕ → Part → List ℕ → List ℕ
+part_at mark Before text = before_first (λ b. b == mark) text
+part_at mark Behind text = after_first (λ b. b == mark) text
+part_at mark From text = drop (position_or_len (λ b. b == mark) text) text
 
--- The part of what is left of a text.
-abbrev pub cut_from : Part → Bool → List ℕ → List ℕ
-cut_from part found [] = []
-cut_from part found (byte ∷ text) = if keeps part found byte
-    then byte ∷ cut_from part (found || is_question byte) text else cut_from part (found || is_question byte) text
-
-abbrev pub part_of : Part → List ℕ → List ℕ
-part_of part text = cut_from part false text
-
-abbrev pub cut_next : Automaton → Cut → ℕ → Cut
-cut_next a cut byte =
-    record { state = next_state a cut.state byte; found = cut.found || is_question byte }
+-- A byte is one of the part: by whether the mark was read before it, and whether it was read with it.
+abbrev pub keeps : Part → Bool → Bool → Bool
+keeps Before was found = not found
+keeps Behind was found = was
+keeps From was found = found
 
 -- Each byte of the part is read, and the others are passed.
-abbrev pub cut_moves : Automaton → Part → Cut → Choice → Option (Move Cut)
-cut_moves a part cut (Byte byte) =
-    Some (record { byte = if keeps part cut.found byte then Some byte else None; to = cut_next a cut byte })
-cut_moves a part cut One = None
-cut_moves a part cut Other = None
+abbrev pub cut_moves : Automaton → ℕ → Part → Cut → Choice → Option (Move Cut)
+cut_moves a mark part cut (Byte byte) =
+    let found = cut.found || byte == mark in
+    Some (record {
+      byte = if keeps part cut.found found then Some byte else None;
+      to = record { state = next_state a cut.state byte; found = found };
+    })
+cut_moves a mark part cut One = None
+cut_moves a mark part cut Other = None
 
-abbrev pub cut_graph : Automaton → Part → GraphOf Cut
-cut_graph a part = record { moves = cut_moves a part; is_final = λ cut. is_final a cut.state }
+abbrev pub cut_graph : Automaton → ℕ → Part → GraphOf Cut
+cut_graph a mark part = record { moves = cut_moves a mark part; is_final = λ cut. is_final a cut.state }

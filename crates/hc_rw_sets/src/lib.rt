@@ -1,6 +1,7 @@
 //! The sets that rewriting rules test, and the sets of what they make, as automata.
 #![tactic(auto)]
 
+mod cuts;
 mod fronts;
 mod locations;
 mod naming;
@@ -9,6 +10,7 @@ mod ports;
 mod questions;
 mod tests;
 
+pub use cuts::{Part, cut_at};
 pub use fronts::{beginning_with, beginning_without_case, texts_like};
 pub use locations::{own_paths, own_urls, schemes, urls};
 pub use naming::{dirs_named, files_named};

@@ -1,21 +1,19 @@
-ghost use Rattle.std.specs.Prelude.{◌≡◌, ◌≢◌, ◌<◌, ◌||◌, IfOk, IsTrue, [], true};
+ghost use Rattle.std.specs.Prelude.{◌≡◌, ◌≢◌, ◌||◌, IfOk, IsTrue, [], true};
 ghost use Rattle.std.specs.List.{after_first, before_first, list_any};
 ghost use Rattle.hc_base.specs.Bytes.{is_question};
 ghost use Rattle.hc_base.specs.Paths.{begins_with_slash};
-ghost use Rattle.hc_dfa.specs.Automata.{accepts, states};
+ghost use Rattle.hc_dfa.specs.Automata.{accepts};
 ghost use Rattle.hc_dfa.specs.Built.{Accepts};
 ghost use Rattle.hc_pat_lang.specs.Sets.{AcceptsOnly};
 ghost use Rattle.hc_rw_expand.specs.Queries.{appended};
-ghost use Rattle.hc_rw_sets.specs.Cuts.{cut_graph, keeps, part_of};
 ghost use Rattle.hc_rw_sets.specs.Joins.{AreBoth};
 ghost use Rattle.hc_rw_sets.specs.Made.{MadeOf, MadeOfBoth};
 ghost use Rattle.std.proofs.Common.{rules};
 
+use crate::cuts::{Part, cut_at};
 use crate::paths::put_behind;
 use hc_base::NoMemory;
-use hc_dfa::{
-    Choice, Dfa, Graph, Keep, Move, Reading, automaton, complement, listed, product, single, tested,
-};
+use hc_dfa::{Dfa, Keep, Reading, complement, listed, product, single, tested};
 use hc_pat_lang::concat;
 use std::alloc::Global;
 
@@ -55,80 +53,14 @@ impl Reading for HasQuestion {
 pub fn before_question(alloc: Global, set: &Dfa) -> Result<Dfa, NoMemory>
     ensures { IfOk result (AcceptsOnly (MadeOf (before_first is_question) (accepts set.now))) }
 {
-    let made = parts(alloc, set, Part::Before)?;
-    Ok(made)
+    cut_at(alloc, set, b'?', Part::Before)
 }
 
 /// What stands behind it: nothing where there is none.
 pub fn after_question(alloc: Global, set: &Dfa) -> Result<Dfa, NoMemory>
     ensures { IfOk result (AcceptsOnly (MadeOf (after_first is_question) (accepts set.now))) }
 {
-    let made = parts(alloc, set, Part::Behind)?;
-    Ok(made)
-}
-
-/// A part of a text: what stands before its first `?`, or behind it.
-#[derive(Clone, Copy)]
-pub enum Part {
-    Before,
-    Behind,
-}
-
-/// The parts of the texts of a set.
-fn parts(alloc: Global, set: &Dfa, part: Part) -> Result<Dfa, NoMemory>
-    ensures { IfOk result (AcceptsOnly (MadeOf (part_of part) (accepts set.now))) }
-{
-    let first = Cut {
-        state: set.start(),
-        found: false,
-    };
-    let made = automaton(alloc, &Cutting { set, part }, first)?;
-    Ok(made)
-}
-
-/// A state, and whether a `?` was read.
-#[derive(Clone, Copy, PartialEq, Eq, Hash, Drop)]
-pub struct Cut {
-    pub state: u32,
-    pub found: bool,
-}
-
-#[derive(Clone, Copy)]
-struct Cutting<'a> {
-    set: &'a Dfa,
-    part: Part,
-}
-
-impl<'a> Graph for Cutting<'a> {
-    type Key = Cut;
-
-    ghost is_key = { λ cutting cut. cut.state < states cutting.set.now };
-
-    ghost graph = { λ cutting. cut_graph cutting.set.now cutting.part };
-
-    fn step(&self, cut: Cut, choice: Choice) -> Option<Move<Cut>> {
-        let Choice::Byte(byte) = choice else {
-            return None;
-        };
-        let found = cut.found || byte == b'?';
-        let kept = match self.part {
-            Part::Before => !found,
-            Part::Behind => cut.found,
-        };
-        Some(Move {
-            byte: if kept { Some(byte) } else { None },
-            to: Cut {
-                state: self.set.next_state(cut.state, byte),
-                found,
-            },
-        })
-    }
-
-    fn is_final(&self, cut: Cut) -> bool {
-        self.set.is_final(cut.state)
-    }
-
-    ghost same = { Prim.search rules };
+    cut_at(alloc, set, b'?', Part::Behind)
 }
 
 /// The queries of one set with those of the other behind them, and `&` between them where neither is empty.

@@ -1,6 +1,7 @@
-use Rattle.hc_abs_pass.proofs.Cutting.{behind_is}
+use Rattle.std.proofs.lemmas.Result.{IfOk-weaker}
+use Rattle.hc_abs_pass.proofs.Components.{behind_is}
 use Rattle.hc_rw_sets.proofs.Joins.{made_alike}
 use Rattle.hc_abs_pass.proofs.walk_sets.behind_components.Goals as goal
 
 pub returns : goal.returns
-returns c = made_alike _ _ _ _ behind_is c.in_ok-made.ensures
+returns c = IfOk-weaker _ _ _ (λ made. made_alike _ _ _ made behind_is) c.cut_at.ensures

@@ -1,5 +1,5 @@
 use Rattle.hc_rw_sets.proofs.Common.{◌∙◌, false}
-use Rattle.hc_rw_sets.proofs.Cutting.{read_any}
+use Rattle.hc_rw_sets.proofs.Readings.{read_any}
 use Rattle.hc_rw_sets.proofs.questions.with_question.Goals as goal
 
 pub returns : goal.returns

@@ -1,5 +1,5 @@
 use Rattle.hc_abs_rw.proofs.Knowing.{group_found}
-use Rattle.hc_abs_rw.proofs.elements.group.Goals as goal
+use Rattle.hc_abs_rw.proofs.elements.group_element.Goals as goal
 
 pub returns-in_ok-texts-in-Some : goal.returns-in_ok-texts-in-Some
 returns-in_ok-texts-in-Some c =

@@ -1,5 +1,5 @@
 use Rattle.hc_abs_rw.proofs.Knowing.{every_given}
-use Rattle.hc_abs_rw.proofs.elements.client.Goals as goal
+use Rattle.hc_abs_rw.proofs.elements.client_element.Goals as goal
 
 pub returns-in_ok-every-in-None : goal.returns-in_ok-every-in-None
 returns-in_ok-every-in-None c =
