@@ -1,0 +1,12 @@
+pub mod Bits
+pub mod Branching
+pub mod Common
+pub mod Keeping
+pub mod Lines
+pub mod Locals
+pub mod MethodSets
+pub mod Networks
+pub mod Open
+pub mod Sequences
+pub mod TreeSets
+pub mod ValueSets
