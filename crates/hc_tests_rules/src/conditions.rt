@@ -26,19 +26,22 @@ static ROWS: &[Row] = &[
         how: How::Server,
         rules: "RewriteCond %{QUERY_STRING} ^(.)$\nRewriteCond %{REQUEST_METHOD} !^(P)\nRewriteRule ^ /%1\n",
         sets: &[("text", "^/t$"), ("query", "^[ab]$"), ("method", "^[GP]$")],
-        branches: "c1+ c2+ r3+ on new text, text /a /b, query a b, method G\nc1+ c2- r3- on, text /t, query a b, method P\n",
+        branches: "c1+ c2+ r3+ on new text, text /a /b, query a b, method G\n\
+            c1+ c2- r3- on, text /t, query a b, method P\n",
     },
     Row {
         how: How::Server,
         rules: "RewriteCond %{QUERY_STRING} ^a$ [OR]\nRewriteCond %{QUERY_STRING} ^b$\nRewriteRule ^ - [F]\n",
         sets: &[("text", "^/t$"), ("query", "^[abc]$")],
-        branches: "c1+ r3+ 403, text /t, query a\nc1- c2+ r3+ 403, text /t, query b\nc1- c2- r3- on, text /t, query c\n",
+        branches: "c1+ r3+ 403, text /t, query a\nc1- c2+ r3+ 403, text /t, query b\n\
+            c1- c2- r3- on, text /t, query c\n",
     },
     Row {
         how: How::Server,
         rules: "RewriteCond %{QUERY_STRING} a\nRewriteCond %{REQUEST_METHOD} G\nRewriteRule ^ - [G]\n",
         sets: &[("text", "^/t$"), ("query", "^[ab]$"), ("method", "^[GP]$")],
-        branches: "c1+ c2+ r3+ 410, text /t, query a, method G\nc1+ c2- r3- on, text /t, query a, method P\nc1- r3- on, text /t, query b, method G P\n",
+        branches: "c1+ c2+ r3+ 410, text /t, query a, method G\nc1+ c2- r3- on, text /t, query a, method P\n\
+            c1- r3- on, text /t, query b, method G P\n",
     },
     Row {
         how: How::Server,
@@ -54,21 +57,26 @@ static ROWS: &[Row] = &[
     },
     Row {
         how: How::Server,
-        rules: "RewriteCond %{QUERY_STRING} ^a$ [OR]\nRewriteCond %{QUERY_STRING} ^b$\nRewriteCond %{REQUEST_METHOD} ^G\nRewriteRule ^ - [F]\n",
+        rules: "RewriteCond %{QUERY_STRING} ^a$ [OR]\nRewriteCond %{QUERY_STRING} ^b$\n\
+            RewriteCond %{REQUEST_METHOD} ^G\nRewriteRule ^ - [F]\n",
         sets: &[("text", "^/t$"), ("query", "^[abc]$"), ("method", "^[GP]$")],
-        branches: "c1+ c3+ r4+ 403, text /t, query a, method G\nc1+ c3- r4- on, text /t, query a, method P\nc1- c2+ c3+ r4+ 403, text /t, query b, method G\nc1- c2+ c3- r4- on, text /t, query b, method P\nc1- c2- r4- on, text /t, query c, method G P\n",
+        branches: "c1+ c3+ r4+ 403, text /t, query a, method G\nc1+ c3- r4- on, text /t, query a, method P\n\
+            c1- c2+ c3+ r4+ 403, text /t, query b, method G\n\
+            c1- c2+ c3- r4- on, text /t, query b, method P\nc1- c2- r4- on, text /t, query c, method G P\n",
     },
     Row {
         how: How::Server,
         rules: "RewriteCond %{QUERY_STRING} !^a$ [OR]\nRewriteCond %{REQUEST_METHOD} ^G\nRewriteRule ^ - [F]\n",
         sets: &[("text", "^/t$"), ("query", "^[ab]$"), ("method", "^[GP]$")],
-        branches: "c1+ r3+ 403, text /t, query b, method G P\nc1- c2+ r3+ 403, text /t, query a, method G\nc1- c2- r3- on, text /t, query a, method P\n",
+        branches: "c1+ r3+ 403, text /t, query b, method G P\nc1- c2+ r3+ 403, text /t, query a, method G\n\
+            c1- c2- r3- on, text /t, query a, method P\n",
     },
     Row {
         how: How::Server,
         rules: "RewriteCond %{QUERY_STRING} ^(a)$ [OR]\nRewriteCond %{REQUEST_METHOD} ^(G)\nRewriteRule ^ /%1\n",
         sets: &[("text", "^/t$"), ("query", "^[ab]$"), ("method", "^G$")],
-        branches: "c1+ r3+ on new text, text /a, query a, method G\nc1- c2+ r3+ on new text, text /G, query b, method G\n",
+        branches: "c1+ r3+ on new text, text /a, query a, method G\n\
+            c1- c2+ r3+ on new text, text /G, query b, method G\n",
     },
     Row {
         how: How::Server,

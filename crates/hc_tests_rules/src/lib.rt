@@ -9,7 +9,11 @@ mod directories;
 #[cfg(test)]
 mod files;
 #[cfg(test)]
+mod lists;
+#[cfg(test)]
 mod maps;
+#[cfg(test)]
+mod networks;
 #[cfg(test)]
 mod patterns;
 #[cfg(test)]
@@ -24,3 +28,5 @@ mod ties;
 mod urls;
 #[cfg(test)]
 mod variables;
+#[cfg(test)]
+mod walks;

@@ -1,10 +1,11 @@
 //! Branches as texts.
 
+use hc_abs_pass::{Listed, Stop, Walked};
 use hc_abs_rw::{Next, RuleBranch};
 use hc_base::{NoMemory, Text};
 use hc_cells::{Cell, Slot};
 use hc_dfa::{Dfa, first_members};
-use hc_model::Decision;
+use hc_model::{Decision, Kind};
 use hc_plan::Tied;
 use std::alloc::Global;
 
@@ -162,6 +163,62 @@ pub fn shown_branches(alloc: Global, branches: &[RuleBranch]) -> Result<Vec<u8>,
     let mut shown = Vec::new(alloc);
     for branch in branches {
         push_branch(alloc, &mut shown, branch)?;
+    }
+    Ok(shown)
+}
+
+fn push_stop(alloc: Global, shown: &mut Vec<u8>, stop: &Stop<'_>) -> Result<(), NoMemory> {
+    match stop {
+        Stop::Over { passed: true } => shown.extend_from_slice(b"passed"),
+        Stop::Over { passed: false } => shown.extend_from_slice(b"over"),
+        Stop::Again(rule) => {
+            shown.extend_from_slice(b"again at ")?;
+            push_number(alloc, shown, u64::from(rule.place.line))
+        }
+        Stop::Answered(next) => push_next(alloc, shown, *next),
+    }
+}
+
+fn push_listed(alloc: Global, shown: &mut Vec<u8>, listed: &Listed<'_>) -> Result<(), NoMemory> {
+    let left = &listed.left;
+    push_decisions(alloc, shown, left.decisions.as_slice())?;
+    push_stop(alloc, shown, &listed.stop)?;
+    push_left(alloc, shown, left.substituted, left.replaced, &listed.tied)
+}
+
+/// Branches of a list, one a line.
+pub fn shown_lists(alloc: Global, found: &[Listed<'_>]) -> Result<Vec<u8>, NoMemory> {
+    let mut shown = Vec::new(alloc);
+    for listed in found {
+        push_listed(alloc, &mut shown, listed)?;
+    }
+    Ok(shown)
+}
+
+fn kind_name(kind: Kind) -> &'static [u8] {
+    match kind {
+        Kind::Absent => b"absent",
+        Kind::Dir => b"dir",
+        Kind::File => b"file",
+    }
+}
+
+// What stands there, the directories on the way, and the sets of the slots.
+fn push_walked(alloc: Global, shown: &mut Vec<u8>, walked: &Walked) -> Result<(), NoMemory> {
+    shown.extend_from_slice(kind_name(walked.kind))?;
+    shown.extend_from_slice(b" in")?;
+    for dir in walked.dirs.as_slice() {
+        shown.push(b' ')?;
+        shown.extend_from_slice(dir.as_bytes())?;
+    }
+    push_left(alloc, shown, false, false, &walked.tied)
+}
+
+/// Branches of a walk, one a line.
+pub fn shown_walks(alloc: Global, found: &[Walked]) -> Result<Vec<u8>, NoMemory> {
+    let mut shown = Vec::new(alloc);
+    for walked in found {
+        push_walked(alloc, &mut shown, walked)?;
     }
     Ok(shown)
 }

@@ -38,7 +38,8 @@ static ROWS: &[Row] = &[
             ("origin", "^/[ab]$"),
             ("name", "^/[ab]$"),
         ],
-        branches: "r1+ 403, path /a, text /a, origin /a, name /a, tied\nr1- on, path /b, text /b, origin /b, name /b, tied\n",
+        branches: "r1+ 403, path /a, text /a, origin /a, name /a, tied\n\
+            r1- on, path /b, text /b, origin /b, name /b, tied\n",
     },
     Row {
         how: How::Chained,
@@ -60,7 +61,8 @@ static ROWS: &[Row] = &[
             ("origin", "^/[ab]$"),
             ("name", "^/[ab]$"),
         ],
-        branches: "c1+ r2+ 410, path /a, text /a, origin /a, name /a, tied\nc1- r2- on, path /b, text /b /c, origin /b, name /b, tied\n",
+        branches: "c1+ r2+ 410, path /a, text /a, origin /a, name /a, tied\n\
+            c1- r2- on, path /b, text /b /c, origin /b, name /b, tied\n",
     },
 ];
 

@@ -155,7 +155,8 @@ static MORE_ROWS: &[Row] = &[
         how: How::Server,
         rules: "RewriteRule ^/(.*)$ $1 [R]\n",
         sets: &[("text", "^/(http://b\\.example/|x)$")],
-        branches: "r1+ to 302, text /x /http://b.example/, location http://b.example/\nr1+ outside, text /x /http://b.example/\n",
+        branches: "r1+ to 302, text /x /http://b.example/, location http://b.example/\n\
+            r1+ outside, text /x /http://b.example/\n",
     },
 ];
 
