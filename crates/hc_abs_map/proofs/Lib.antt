@@ -1,0 +1,11 @@
+pub mod Along
+pub mod Behind
+pub mod Common
+pub mod Components
+pub mod Going
+pub mod Names
+pub mod Placing
+pub mod Prefixes
+pub mod Segments
+pub mod Taking
+pub mod Targets

@@ -1,0 +1,9 @@
+pub mod Aliases
+pub mod Along
+pub mod Dots
+pub mod Ends
+pub mod Entries
+pub mod First
+pub mod Mapped
+pub mod Names
+pub mod Places
