@@ -1,0 +1,9 @@
+pub mod Answering
+pub mod Each
+pub mod LastIn
+pub mod Marks
+pub mod Nesting
+pub mod Prefixes
+pub mod Settling
+pub mod Stepping
+pub mod Tried

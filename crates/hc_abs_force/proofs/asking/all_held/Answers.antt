@@ -1,0 +1,12 @@
+use Rattle.hc_merge.specs.Reaching.{chained}
+use Rattle.hc_abs_force.specs.Asking.{exprs, holding}
+use Rattle.hc_abs_force.specs.Marking.{AnswersFor, IsTried}
+use Rattle.hc_abs_force.proofs.Each.{each_added}
+use Rattle.hc_abs_force.proofs.asking.all_held.Goals as goal
+
+pub loop-one-preserved : goal.loop-one-preserved
+loop-one-preserved c =
+    each_added
+    (IsTried (AnswersFor c.args.scene (holding (chained (exprs c.args.chain.now) c.args.expr.now))) c.args.parent)
+    c.loop-one.yielded c.in-Some.one c.loop-one.later.items c.in_ok-found.found.items c.append.new.self.items
+    c.loop-one.invariant c.in_ok-append.ensures.items c.in_ok-found.ensures
