@@ -9,4 +9,6 @@ mod expressions;
 #[cfg(test)]
 mod maps;
 #[cfg(test)]
+mod sections;
+#[cfg(test)]
 mod site;
