@@ -1,6 +1,7 @@
 -- Cells: a set for each slot that is there.
 use Rattle.std.specs.List.{sum_by}
-use Rattle.std.specs.Prelude.{◌≡◌, ℕ, ◌-◌, nat_lt, ◌&&◌, not, cond, IsTrue, List, map, Option, None, Some, true}
+use Rattle.std.specs.Prelude.{◌≡◌, ℕ, ◌-◌, nat_lt, ◌&&◌, not, cond, IsTrue, List, map, Option, None, Some, Bool, true}
+use Rattle.std.specs.Prelude.{false}
 use Rattle.std.specs.Map.{lookup}
 use Rattle.std.specs.Rc.{rc_value}
 use Rattle.std.specs.declared.cmp.Ordering.TheVariants.{Less}
@@ -10,6 +11,7 @@ use Rattle.hc_dfa.specs.Built.{Accepts}
 use Rattle.hc_dfa.specs.Texts.{IsText, TextSet, IsEmptySet, IsLeast}
 use Rattle.hc_cells.specs.Slots.{slot_cmp, same_slot}
 use Rattle.hc_cells.specs.declared.slot.Slot.{Slot}
+use Rattle.hc_cells.specs.declared.slot.Slot.TheVariants as slot
 
 -- The sets that are there, in the order of their slots.
 abbrev pub Sets : Type 0
@@ -42,6 +44,14 @@ pub record Restricts (sets : Sets) (slot : Slot) (set : TextSet) (made : Sets) :
   pub own : Automaton
   pub both : Accepts own (λ text. holds sets slot text && set text)
   pub puts : Puts sets slot own made
+
+abbrev pub is_variable : Slot → Bool
+is_variable (slot.Env name) = true
+is_variable other = false
+
+-- The slots of variables are not there, and all others are as they were.
+abbrev pub LacksVariables : Sets → Sets → Type 0
+LacksVariables sets made = (slot : Slot) → set_at made slot ≡ cond (is_variable slot) None (set_at sets slot)
 
 -- How many states the sets have together.
 abbrev pub states_in : Sets → ℕ

@@ -1,6 +1,6 @@
 ghost use Rattle.std.specs.Option.{option_copied};
 ghost use Rattle.std.specs.Prelude.{◌≡◌, ◌↔◌, [], IfOk, IsTrue, option_map};
-ghost use Rattle.hc_cells.specs.Cells.{HasEmptySlot, Puts, Restricts, holds, room_left, set_at};
+ghost use Rattle.hc_cells.specs.Cells.{HasEmptySlot, LacksVariables, Puts, Restricts, holds, room_left, set_at};
 ghost use Rattle.hc_cells.specs.Cells.{sets_in, states_in};
 ghost use Rattle.hc_dfa.specs.Members.{IsOnlyOf};
 ghost use Rattle.hc_dfa.specs.Texts.{IsEmptySet};
@@ -117,6 +117,20 @@ pub fn restrict(alloc: Global, cell: &Cell, slot: &Slot, set: &Dfa) -> Result<Ce
             with(alloc, cell, slot, &fewer)
         }
     }
+}
+
+/// The cell without the sets of variables.
+pub fn without_variables(cell: &Cell) -> Result<Cell, NoMemory>
+    ensures { IfOk result (λ made. LacksVariables cell.now made) }
+{
+    let mut made = cell.clone()?;
+    'sets: for (slot, _set) in cell.sets() {
+        if !slot.is_variable() {
+            continue;
+        }
+        made.sets.remove(slot);
+    }
+    Ok(made)
 }
 
 /// Whether some slot holds no text.

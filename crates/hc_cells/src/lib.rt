@@ -7,7 +7,7 @@ mod shared;
 mod slot;
 mod ties;
 
-pub use cell::{Cell, is_empty, restrict, with};
+pub use cell::{Cell, is_empty, restrict, with, without_variables};
 pub use containment::{Containment, within};
 pub use slot::Slot;
 pub use ties::Ties;

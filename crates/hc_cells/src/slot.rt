@@ -4,6 +4,7 @@ ghost use Rattle.std.specs.Cmp.Rules.{comparing};
 ghost use Rattle.std.specs.Ordering.{as_partial_cmp, eq_by_cmp};
 ghost use Rattle.std.specs.Prelude.{◌≡◌, IfOk};
 ghost use Rattle.std.specs.Str.{str_to_ascii_lowercase};
+ghost use Rattle.hc_cells.specs.Cells.{is_variable};
 ghost use Rattle.hc_cells.specs.Slots.{name_of, rank_of, slot_cmp};
 
 use hc_base::{NoMemory, Text};
@@ -50,6 +51,15 @@ impl Slot {
             .map(|byte| byte.to_ascii_lowercase())
             .collect(alloc)?;
         Ok(Slot::Header(Text::from(bytes)))
+    }
+
+    pub(crate) fn is_variable(&self) -> bool
+        ensures { result ≡ is_variable self.now }
+    {
+        match self {
+            Slot::Env(_) => true,
+            _ => false,
+        }
     }
 }
 
