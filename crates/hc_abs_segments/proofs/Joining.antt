@@ -6,46 +6,17 @@ use Rattle.hc_abs_segments.proofs.Common.{run_then, saying, run, Shown, Step, le
 use Rattle.hc_abs_segments.proofs.Common.{Like, decision_of, decisions_in}
 use Rattle.hc_include.proofs.Ending.{end_run, end_way, run_ending}
 use Rattle.hc_model.specs.declared.authorization.ReqTree.{ReqTree}
+pub use Rattle.hc_serve.proofs.Segments.{parted}
 use Rattle.hc_serve.specs.Passing.{followed_by, with_tree}
 use Rattle.hc_serve.specs.Segments.{Cut, at_pass}
 use Rattle.hc_serve.specs.Site.{Site}
 use Rattle.hc_serve.specs.declared.stage.Ended.{Ended}
 use Rattle.hc_serve.specs.declared.stage.Pass.{Pass}
+pub use Rattle.hc_rw_eval.proofs.Turns.{assoc}
 use Rattle.hc_steps.proofs.Running.{in_turn}
-use Rattle.hc_abs_rw.proofs.Staging.{Relation}
+use Rattle.hc_abs_rw.proofs.Staging.{Relation, decisions_joined}
 use Rattle.hc_abs_pass.specs.Passing.{Segment}
 use Rattle.hc_abs_segments.specs.Agreeing.{LikeSegment, SegmentLike, led}
-
--- ---- steps
-
-decisions_joined : (one other : List Event) → decisions_in (one ++ other) ≡ decisions_in one ++ decisions_in other
-decisions_joined [] other = refl
-decisions_joined (event ∷ one) other =
-    ap (λ rest. decision_of event ++ rest) (decisions_joined one other)
-    ∙ sym (append_assoc (decision_of event) (decisions_in one) (decisions_in other))
-
-pub assoc : {E A B C : Type 0} (step : Step E A) (next : A → Step E B) (last : B → Step E C)
-    → (step >>= next) >>= last ≡ step >>= λ value. next value >>= last
-unfolding ◌>>=◌
-assoc (leaves value) next last = refl
-assoc (ends end) next last = refl
-assoc (say event step) next last = ap (say event) (assoc step next last)
-assoc (look read step) next last = λ i. look read (λ shown. assoc (step shown) next last i)
-
-ending_then : {E F A B : Type 0} (end : E → F) (step : Step E A) (next : A → Step E B)
-    → ending end (step >>= next) ≡ ending end step >>= (λ value. ending end (next value))
-unfolding ◌>>=◌ ending
-ending_then end (leaves value) next = refl
-ending_then end (ends with) next = refl
-ending_then end (say event step) next = ap (say event) (ending_then end step next)
-ending_then end (look read step) next = λ i. look read (λ shown. ending_then end (step shown) next i)
-
--- What ends in another way goes on with the same.
-pub parted : {E F A B C : Type 0} (end : E → F) (step : Step E A) (next : A → Step E B) (last : B → Step F C)
-    → ending end (step >>= next) >>= last ≡ ending end step >>= (λ value. ending end (next value) >>= last)
-parted end step next last =
-    ap (λ step. step >>= last) (ending_then end step next)
-    ∙ assoc (ending end step) (λ value. ending end (next value)) last
 
 -- ---- a step that ends with a tree, and what follows it
 

@@ -4,10 +4,7 @@ use Rattle.hc_abs_segments.proofs.Common.{if◌then◌else◌, Option, Some, Non
 use Rattle.hc_abs_segments.proofs.Common.{RwState, Way, goes_on, run, Shown, Step, leaves, ends, say, look}
 use Rattle.hc_abs_segments.proofs.Common.{◌>>=◌}
 use Rattle.std.specs.Prelude.{Result, Ok, Err, nat_le}
-use Rattle.std.specs.List.{AllByRecursion, IsDistinct}
-use Rattle.std.specs.Map.{keys_of}
 use Rattle.std.specs.Str.{bytes_eq}
-use Rattle.std.proofs.lemmas.Map.Keys.{IsDistinct-cons, IsDistinct-from_apart, IsDistinct-head, IsDistinct-tail}
 use Rattle.hc_model.specs.declared.outcome.Outcome.TheVariants as outcome
 use Rattle.hc_model.specs.declared.outcome.Reason.{Reason}
 use Rattle.hc_model.specs.declared.outcome.Reason.TheVariants.{Scheme}
@@ -43,14 +40,10 @@ use Rattle.hc_rw_expand.specs.Variables.{Variables, with_value}
 use Rattle.hc_rw_expand.specs.declared.groups.Matched.{Matched}
 use Rattle.hc_steps.specs.Step.{Shows, in_order}
 use Rattle.hc_target.specs.Urls.{is_url}
+pub use Rattle.hc_abs_pass.proofs.Restarting.{none_once, once_more}
+pub use Rattle.hc_abs_pass.specs.Ends.{AreOnce}
 
 -- ---- names
-
-abbrev pub AreOnce : Variables → Type 0
-AreOnce vars = IsDistinct bytes_eq (keys_of vars)
-
-abbrev HasNone : List ℕ → List (List ℕ) → Type 0
-HasNone name names = AllByRecursion (λ other. bytes_eq name other ≡ false) names
 
 differ : (one other : List ℕ) → (one ≡ other → ⊥) → bytes_eq one other ≡ false
 differ one other apart = by (bytes_eq one other) refl
@@ -69,33 +62,6 @@ same_turned one other = by (bytes_eq one other) refl
     by : (is : Bool) → bytes_eq one other ≡ is → is ≡ bytes_eq other one
     by true is = sym (ap (bytes_eq other) (same_bytes one other is) ∙ own_bytes other)
     by false is = sym (turned one other is)
-
-none_more : (other name value : List ℕ) (vars : Variables) → bytes_eq other name ≡ false
-    → HasNone other (keys_of vars) → HasNone other (keys_of (with_value vars name value))
-none_more other name value [] apart none = (apart, none)
-none_more other name value (each ∷ vars) apart none =
-    by (bytes_eq name each.0) (none_more other name value vars apart none.1)
-  where
-    by : (is : Bool) → HasNone other (keys_of (with_value vars name value))
-        → HasNone other (keys_of (if is then (each.0, value) ∷ vars else each ∷ with_value vars name value))
-    by true later = none
-    by false later = (none.0, later)
-
-pub none_once : AreOnce []
-none_once = IsDistinct-from_apart bytes_eq [] (λ i j d before within. absurd (omega (arith, within)))
-
-pub once_more : (name value : List ℕ) (vars : Variables) → AreOnce vars → AreOnce (with_value vars name value)
-once_more name value [] once = IsDistinct-cons bytes_eq name [] tt once
-once_more name value (each ∷ vars) once =
-    by (bytes_eq name each.0) refl
-    (once_more name value vars (IsDistinct-tail bytes_eq each.0 (keys_of vars) once))
-  where
-    by : (is : Bool) → bytes_eq name each.0 ≡ is → AreOnce (with_value vars name value)
-        → AreOnce (if is then (each.0, value) ∷ vars else each ∷ with_value vars name value)
-    by true is later = once
-    by false is later = IsDistinct-cons bytes_eq each.0 (keys_of (with_value vars name value))
-        (none_more each.0 name value vars (turned name each.0 is)
-        (IsDistinct-head bytes_eq each.0 (keys_of vars) once)) later
 
 -- ---- what steps leave
 

@@ -7,7 +7,7 @@ use Rattle.hc_model.specs.declared.outcome.LimitKind.TheVariants.{Rounds}
 use Rattle.hc_model.specs.declared.outcome.Outcome.{Outcome}
 use Rattle.hc_model.specs.declared.outcome.Outcome.TheVariants as outcome
 use Rattle.hc_model.specs.declared.outcome.Reason.TheVariants.{LongText}
-use Rattle.hc_plan.proofs.Covering.{covered}
+use Rattle.hc_plan.proofs.Covering.{among_one, among_other, covered}
 use Rattle.hc_plan.specs.Branches.{Branch, Branches}
 use Rattle.hc_plan.specs.Cover.{Among, Covers}
 use Rattle.hc_plan.specs.Running.{Run as PlanRun, State, ended, left_out, run as plan_run, too_long}
@@ -23,6 +23,7 @@ use Rattle.hc_serve.specs.declared.stage.Pass.{Pass}
 use Rattle.hc_steps.proofs.Running.{in_turn}
 use Rattle.hc_steps.specs.Run.{Run, Way, behind, goes_on, is_over, on_way, run_then}
 unfoldable use Rattle.hc_steps.specs.Run.{run}
+use Rattle.hc_abs_rw.proofs.Staging.{decisions_joined}
 use Rattle.hc_abs_rw.specs.Standing.{Leads, decision_of, decisions_in, rewritten_so}
 use Rattle.hc_abs_rw.specs.Substitutions as then_so
 use Rattle.hc_abs_rw.specs.Substitutions.{Then}
@@ -41,15 +42,6 @@ unfoldable use Rattle.hc_abs_tree.specs.Trees.{TreeIn}
 use Rattle.hc_abs_tree.proofs.Meeting.{MeetsCut, decided_at, number_is, plan_agrees}
 
 -- ---- leaves behind a branch
-
-among_one : {B : Type 0} (x : B) (one other : List B) → Among x one → Among x (one ++ other)
-among_one x [] other among = absurd among
-among_one x (y ∷ one) other (inl is) = inl is
-among_one x (y ∷ one) other (inr among) = inr (among_one x one other among)
-
-among_other : {B : Type 0} (x : B) (one other : List B) → Among x other → Among x (one ++ other)
-among_other x [] other among = among
-among_other x (y ∷ one) other among = inr (among_other x one other among)
 
 abbrev AllAmong : List Leaf → List Leaf → Type 0
 AllAmong one leaves = (leaf : Leaf) → Among leaf one → Among leaf leaves
@@ -71,12 +63,6 @@ grown_at Further node branch (first ∷ branches) leaves (inr among) grown =
     )
 
 -- ---- steps
-
-decisions_joined : (one other : List Event) → decisions_in (one ++ other) ≡ decisions_in one ++ decisions_in other
-decisions_joined [] other = refl
-decisions_joined (event ∷ one) other =
-    ap (λ rest. decision_of event ++ rest) (decisions_joined one other)
-    ∙ sym (append_assoc (decision_of event) (decisions_in one) (decisions_in other))
 
 over_is : (one other : Ended) → ◌≡◌ {A = Way Ended Cut} (is_over one) (is_over other) → one ≡ other
 over_is one other is = ap by is

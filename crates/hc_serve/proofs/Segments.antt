@@ -44,7 +44,7 @@ use Rattle.hc_steps.specs.Step.{Shown, Step, ends, leaves, look, say, told, ◌>
 
 -- ---- steps that end in another way
 
-ending_then : {E F A B : Type 0} (end : E → F) (s : Step E A) (f : A → Step E B)
+pub ending_then : {E F A B : Type 0} (end : E → F) (s : Step E A) (f : A → Step E B)
     → ending end (s >>= f) ≡ ending end s >>= (λ a. ending end (f a))
 unfolding ◌>>=◌ ending
 ending_then end (leaves a) f = refl
@@ -52,7 +52,7 @@ ending_then end (ends e) f = refl
 ending_then end (say event s) f = ap (say event) (ending_then end s f)
 ending_then end (look read s) f = λ i. look read (λ shown. ending_then end (s shown) f i)
 
-parted : {E F A B C : Type 0} (end : E → F) (s : Step E A) (f : A → Step E B) (g : B → Step F C)
+pub parted : {E F A B C : Type 0} (end : E → F) (s : Step E A) (f : A → Step E B) (g : B → Step F C)
     → ending end (s >>= f) >>= g ≡ ending end s >>= (λ a. ending end (f a) >>= g)
 parted end s f g = ap (λ s. s >>= g) (ending_then end s f) ∙ assoc (ending end s) (λ a. ending end (f a)) g
 

@@ -7,6 +7,7 @@ use Rattle.hc_base.specs.Bytes.{slash}
 use Rattle.hc_base.specs.Paths.{is_slash}
 use Rattle.hc_map.specs.Maps.{file_of, value_of}
 use Rattle.hc_merge.specs.Rewriting.{with_earlier}
+use Rattle.hc_model.specs.declared.config.Config.{Config}
 use Rattle.hc_model.specs.declared.config.HostId.{HostId}
 use Rattle.hc_model.specs.declared.config.HostId.TheVariants.{Main, Nth}
 use Rattle.hc_model.specs.declared.config.Server.{Server}
@@ -34,10 +35,13 @@ abbrev pub inherited_by : HostId → Server → Inherit
 inherited_by Main server = No
 inherited_by (Nth place) server = (out-Body server.body).inherit
 
+abbrev pub rules_of : Config → HostId → List Rule
+rules_of config host =
+    with_earlier (inherited_by host (server_at config host)) (out-Body (server_at config host).body).rules
+    (out-Body config.main.body).rules
+
 abbrev pub rules_at : Site → List Rule
-rules_at site =
-    with_earlier (inherited_by site.host (server_at site.config site.host))
-    (out-Body (server_at site.config site.host).body).rules (out-Body site.config.main.body).rules
+rules_at site = rules_of site.config site.host
 
 -- Inherited maps always come behind the server's own.
 abbrev pub behind_own : Inherit → Inherit
@@ -45,17 +49,23 @@ behind_own No = No
 behind_own After = After
 behind_own Before = After
 
+abbrev pub maps_of : Config → HostId → List Map
+maps_of config host =
+    with_earlier (behind_own (inherited_by host (server_at config host))) (server_at config host).rewrite_maps
+    config.main.rewrite_maps
+
 abbrev pub maps_at : Site → List Map
-maps_at site =
-    with_earlier (behind_own (inherited_by site.host (server_at site.config site.host)))
-    (server_at site.config site.host).rewrite_maps site.config.main.rewrite_maps
+maps_at site = maps_of site.config site.host
 
 abbrev pub looks_of : List Map → Looks
 looks_of maps = record { file = file_of maps; value = value_of maps }
 
 -- The server's own RewriteEngine.
+abbrev pub engine_of : Config → HostId → Bool
+engine_of config host = unwrap_or (out-Body (server_at config host).body).engine false
+
 abbrev pub engine_at : Site → Bool
-engine_at site = unwrap_or (out-Body (server_at site.config site.host).body).engine false
+engine_at site = engine_of site.config site.host
 
 -- ---- the run
 

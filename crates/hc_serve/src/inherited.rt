@@ -1,24 +1,23 @@
 //! What of mod_rewrite is in force at the server that answers (Apache manual, mod_rewrite, RewriteOptions).
 ghost use Rattle.std.specs.Prelude.{◌≡◌, ◌++◌, IfOk};
 ghost use Rattle.hc_serve.specs.Inherited.{list_of};
-ghost use Rattle.hc_serve.specs.ServerRules.{engine_at, inherited_by, maps_at, rules_at};
-ghost use Rattle.hc_serve.specs.Site.{site_of};
+ghost use Rattle.hc_serve.specs.ServerRules.{engine_of, inherited_by, maps_of, rules_of};
+ghost use Rattle.hc_vhost.specs.Servers.{IsHostOf};
 
-use crate::asked::Asked;
 use hc_base::{List, NoMemory};
-use hc_model::{HostId, Inherit, Map, Rules, Server};
+use hc_model::{Config, HostId, Inherit, Map, Rules, Server};
 use hc_vhost::server_at;
 use std::alloc::Global;
 
 /// The maps that are in force: the server's own, lent, or copies of these and of the main server's.
 #[derive(Drop)]
-pub(crate) enum Maps<'l> {
+pub enum Maps<'l> {
     Own(&'l [Map]),
     Joined(List<Map>),
 }
 
 impl<'l> Maps<'l> {
-    pub(crate) fn as_slice(&self) -> &[Map]
+    pub fn as_slice(&self) -> &[Map]
         ensures { result.now ≡ list_of self.now }
     {
         match self {
@@ -29,23 +28,22 @@ impl<'l> Maps<'l> {
 }
 
 /// The server's own RewriteEngine.
-pub(crate) fn engine_at(asked: &Asked<'_>) -> bool
-    ensures { result ≡ engine_at (site_of asked.now) }
+pub fn engine_at(config: &Config, host: HostId) -> bool
+    requires { IsHostOf config.now host }
+    ensures { result ≡ engine_of config.now host }
 {
-    server_at(asked.config, asked.host)
-        .body
-        .engine
-        .unwrap_or(false)
+    server_at(config, host).body.engine.unwrap_or(false)
 }
 
 /// The rules that are in force.
-pub(crate) fn rules_at(alloc: Global, asked: &Asked<'_>) -> Result<Rules, NoMemory>
-    ensures { IfOk result (λ rules. rules ≡ rules_at (site_of asked.now)) }
+pub fn rules_at(alloc: Global, config: &Config, host: HostId) -> Result<Rules, NoMemory>
+    requires { IsHostOf config.now host }
+    ensures { IfOk result (λ rules. rules ≡ rules_of config.now host) }
 {
-    let server = server_at(asked.config, asked.host);
+    let server = server_at(config, host);
     let own = &server.body.rules;
-    let main = &asked.config.main.body.rules;
-    match inherited_by(asked.host, server) {
+    let main = &config.main.body.rules;
+    match inherited_by(host, server) {
         Inherit::No => own.clone(),
         Inherit::After => own.joined(alloc, main),
         Inherit::Before => main.joined(alloc, own),
@@ -53,15 +51,16 @@ pub(crate) fn rules_at(alloc: Global, asked: &Asked<'_>) -> Result<Rules, NoMemo
 }
 
 /// The maps that are in force. Inherited ones always come behind the server's own.
-pub(crate) fn maps_at<'c>(asked: &Asked<'c>) -> Result<Maps<'c>, NoMemory>
-    ensures { IfOk result (λ maps. list_of maps ≡ maps_at (site_of asked.now)) }
+pub fn maps_at<'c>(config: &'c Config, host: HostId) -> Result<Maps<'c>, NoMemory>
+    requires { IsHostOf config.now host }
+    ensures { IfOk result (λ maps. list_of maps ≡ maps_of config.now host) }
 {
-    let server = server_at(asked.config, asked.host);
+    let server = server_at(config, host);
     let own = &server.rewrite_maps;
-    match inherited_by(asked.host, server) {
+    match inherited_by(host, server) {
         Inherit::No => Ok(Maps::Own(own.as_slice())),
         Inherit::After | Inherit::Before => {
-            let main = asked.config.main.rewrite_maps.as_slice();
+            let main = config.main.rewrite_maps.as_slice();
             Ok(Maps::Joined(joined(own.copy()?, main)?))
         }
     }

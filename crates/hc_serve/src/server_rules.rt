@@ -34,7 +34,7 @@ use std::mem::replace;
 pub(crate) fn rewritten(asked: &Asked<'_>, log: &mut Log, pass: Pass) -> Result<Placed, Stop>
     ensures { Takes result log (rewritten (site_of asked.now) pass) (shown_by asked.now.world.now.files) }
 {
-    if engine_at(asked) {
+    if engine_at(asked.config, asked.host) {
         rules_run(asked, log, pass)
     } else {
         Ok(Placed::Unnamed(pass))
@@ -74,7 +74,7 @@ fn run_at(asked: &Asked<'_>, log: &mut Log, pass: &Pass, state: RwState) -> Resu
         (looks_of (maps_at (site_of asked.now))) (rules_at (site_of asked.now)) state)
         (shown_by asked.now.world.now.files) }
 {
-    let rules = rules_at(log.allocator(), asked)?;
+    let rules = rules_at(log.allocator(), asked.config, asked.host)?;
     let context = context_at(asked, pass);
     run_over(asked, log, &context, rules.as_slice(), state)
 }
@@ -91,7 +91,7 @@ pub(crate) fn run_over(
     ensures { Takes result log (run_rules (context_of context.now)
         (looks_of (maps_at (site_of asked.now))) rules.now state) (shown_by asked.now.world.now.files) }
 {
-    let maps = maps_at(asked)?;
+    let maps = maps_at(asked.config, asked.host)?;
     run_with(asked.world, log, context, maps.as_slice(), rules, state)
 }
 
