@@ -15,11 +15,11 @@ use hc_plan::{Element, Found, Tied, Way};
 use std::alloc::Global;
 
 /// Adds the names that aliases give where they take the path, and goes on where none does.
-pub(crate) fn past_aliases<'c>(
+pub(crate) fn past_aliases(
     alloc: Global,
     aliases: &[Alias],
     before: Option<Tied>,
-    found: &mut Vec<Mapped<'c>>,
+    found: &mut Vec<Mapped>,
 ) -> Result<Option<Tied>, NoMemory>
     ensures { IfOk result (λ rest. GoesAliases aliases.now before rest found.old.items found.new.items) }
 {
@@ -30,11 +30,11 @@ pub(crate) fn past_aliases<'c>(
     Ok(rest)
 }
 
-fn past_alias<'c>(
+fn past_alias(
     alloc: Global,
     alias: &Alias,
     before: Option<Tied>,
-    found: &mut Vec<Mapped<'c>>,
+    found: &mut Vec<Mapped>,
 ) -> Result<Option<Tied>, NoMemory>
     ensures { IfOk result (λ rest. GoesAliases (alias.now ∷ []) before rest found.old.items found.new.items) }
 {
@@ -48,12 +48,12 @@ fn past_alias<'c>(
 }
 
 /// Adds the name on the way on which an alias takes the path.
-fn add_aliased<'c>(
+fn add_aliased(
     alloc: Global,
     alias: &Alias,
     ties: Ties,
     way: Option<Way>,
-    found: &mut Vec<Mapped<'c>>,
+    found: &mut Vec<Mapped>,
 ) -> Result<(), NoMemory>
     ensures { OnOk result (AddsAliased alias.now ties way found.old.items found.new.items) }
 {

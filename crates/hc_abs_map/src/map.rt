@@ -25,13 +25,13 @@ use std::alloc::Global;
 
 /// The branches of redirects, aliases and the document root over the states of a set of requests. Branches that have
 /// more states together than there is room for are refused as memory is.
-pub fn map_branches<'c>(
+pub fn map_branches(
     alloc: Global,
-    config: &'c Config,
+    config: &Config,
     host: HostId,
     tied: Tied,
     room: u64,
-) -> Result<Vec<Mapped<'c>>, NoMemory>
+) -> Result<Vec<Mapped>, NoMemory>
     requires { IsHostOf config.now host }
     ensures branches { IfOk result (λ found. AreMapped (servers_of config.now host) tied found.items) }
     ensures room { IfOk result (λ found. states_of cell_in found.items ≤ room) }
@@ -44,12 +44,12 @@ pub fn map_branches<'c>(
 }
 
 /// Where these states lead.
-pub(crate) fn mapped<'c>(
+pub(crate) fn mapped(
     alloc: Global,
-    config: &'c Config,
+    config: &Config,
     host: HostId,
     tied: Tied,
-) -> Result<Vec<Mapped<'c>>, NoMemory>
+) -> Result<Vec<Mapped>, NoMemory>
     requires { IsHostOf config.now host }
     ensures { IfOk result (λ found. AreMapped (servers_of config.now host) tied found.items) }
 {
@@ -58,12 +58,12 @@ pub(crate) fn mapped<'c>(
 }
 
 /// What the redirects of the servers leave: those of a virtual host before those of the main server.
-fn redirected_by<'c>(
+fn redirected_by(
     alloc: Global,
-    config: &'c Config,
+    config: &Config,
     host: HostId,
     tied: Tied,
-) -> Result<Vec<Redirected<'c>>, NoMemory>
+) -> Result<Vec<Redirected>, NoMemory>
     requires { IsHostOf config.now host }
     ensures { IfOk result (λ found. AreRedirected (redirects_of (servers_of config.now host)) tied found.items) }
 {
@@ -76,7 +76,7 @@ fn redirected_by<'c>(
 }
 
 /// The redirects of a virtual host.
-fn host_redirects<'c>(config: &'c Config, host: HostId) -> &'c [Redirect]
+fn host_redirects(config: &Config, host: HostId) -> &[Redirect]
     requires { IsHostOf config.now host }
     ensures { redirects_of (servers_of config.now host) ≡ result.now ++ config.now.main.redirects }
 {
@@ -87,7 +87,7 @@ fn host_redirects<'c>(config: &'c Config, host: HostId) -> &'c [Redirect]
 }
 
 /// The aliases of a virtual host.
-fn host_aliases<'c>(config: &'c Config, host: HostId) -> &'c [Alias]
+fn host_aliases(config: &Config, host: HostId) -> &[Alias]
     requires { IsHostOf config.now host }
     ensures { maps_of (servers_of config.now host) ≡ result.now ++ config.now.main.aliases }
 {
@@ -98,14 +98,14 @@ fn host_aliases<'c>(config: &'c Config, host: HostId) -> &'c [Alias]
 }
 
 /// What is found behind redirects.
-fn all_behind<'c>(
+fn all_behind(
     alloc: Global,
-    config: &'c Config,
+    config: &Config,
     host: HostId,
-    redirected: Vec<Redirected<'c>>,
-) -> Result<Vec<Mapped<'c>>, NoMemory>
+    redirected: Vec<Redirected>,
+) -> Result<Vec<Mapped>, NoMemory>
     requires { IsHostOf config.now host }
-    ensures { IfOk result (λ found. AreBehind (servers_of config.now host) redirected.entry.items found.items) }
+    ensures { IfOk result (λ found. AreBehind (servers_of config.now host) redirected.items found.items) }
 {
     let mut found = Vec::new(alloc);
     for one in redirected {
@@ -115,15 +115,15 @@ fn all_behind<'c>(
 }
 
 /// Adds what is found behind redirects: one that takes the path ends the pass.
-fn add_behind<'c>(
+fn add_behind(
     alloc: Global,
-    config: &'c Config,
+    config: &Config,
     host: HostId,
-    one: Redirected<'c>,
-    found: &mut Vec<Mapped<'c>>,
+    one: Redirected,
+    found: &mut Vec<Mapped>,
 ) -> Result<(), NoMemory>
     requires { IsHostOf config.now host }
-    ensures { OnOk result (AddsBehind (servers_of config.now host) one.entry found.old.items found.new.items) }
+    ensures { OnOk result (AddsBehind (servers_of config.now host) one found.old.items found.new.items) }
 {
     let Redirected { tied, left } = one;
     match left {
@@ -139,12 +139,12 @@ fn add_behind<'c>(
 }
 
 /// Adds the names that aliases and the document root give.
-fn add_unsent<'c>(
+fn add_unsent(
     alloc: Global,
-    config: &'c Config,
+    config: &Config,
     host: HostId,
     tied: Tied,
-    found: &mut Vec<Mapped<'c>>,
+    found: &mut Vec<Mapped>,
 ) -> Result<(), NoMemory>
     requires { IsHostOf config.now host }
     ensures { OnOk result (Adds (AreOn MappedFits (Some tied) (behind_redirects (servers_of config.now host) None))
@@ -158,12 +158,12 @@ fn add_unsent<'c>(
 }
 
 /// Adds the name under the document root, if there is one.
-pub(crate) fn add_under_root<'c>(
+pub(crate) fn add_under_root(
     alloc: Global,
     root: Option<&Text>,
     slot: Slot,
     rest: Option<Tied>,
-    found: &mut Vec<Mapped<'c>>,
+    found: &mut Vec<Mapped>,
 ) -> Result<(), NoMemory>
     ensures { OnOk result (Adds
         (AreOn MappedFits rest (under_root_plan (option_map (λ root. root.now) root.entry) slot))

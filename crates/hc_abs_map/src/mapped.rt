@@ -8,13 +8,13 @@ use hc_plan::Tied;
 
 /// Where a URL path leads: the pass has ended, or the file name is in hand.
 #[derive(Drop)]
-pub enum Mapped<'c> {
-    Over { tied: Tied, left: Left<'c> },
+pub enum Mapped {
+    Over { tied: Tied, left: Left },
     /// Whether the name comes from elsewhere than the document root.
     Name { named: Named, aliased: bool },
 }
 
-impl<'c> Celled for Mapped<'c> {
+impl Celled for Mapped {
     ghost use Rattle.hc_abs_map.specs.Ends.{cell_in};
 
     ghost cell = { cell_in };

@@ -39,16 +39,16 @@ use std::alloc::Global;
 /// The branches of what a pass goes on with behind the rules of the server, over the states of a set of requests: the
 /// URL path, where no rule put a text in its place; the text as a URL path, with PT; or the text as a file name, or
 /// under the document root. Branches that have more states together than there is room for are refused as memory is.
-pub fn placed_branches<'c>(
+pub fn placed_branches(
     alloc: Global,
     world: &World,
-    config: &'c Config,
+    config: &Config,
     host: HostId,
     substituted: bool,
     passed: bool,
     tied: Tied,
     room: u64,
-) -> Result<Vec<Mapped<'c>>, NoMemory>
+) -> Result<Vec<Mapped>, NoMemory>
     requires { IsHostOf config.now host }
     ensures branches { IfOk result (λ found. ArePlaced (shown_by world.now.files) (servers_of config.now host)
         substituted passed tied found.items) }
@@ -61,15 +61,15 @@ pub fn placed_branches<'c>(
     Ok(found)
 }
 
-fn placed<'c>(
+fn placed(
     alloc: Global,
     world: &World,
-    config: &'c Config,
+    config: &Config,
     host: HostId,
     substituted: bool,
     passed: bool,
     tied: Tied,
-) -> Result<Vec<Mapped<'c>>, NoMemory>
+) -> Result<Vec<Mapped>, NoMemory>
     requires { IsHostOf config.now host }
     ensures { IfOk result (λ found. ArePlaced (shown_by world.now.files) (servers_of config.now host)
         substituted passed tied found.items) }
@@ -85,10 +85,10 @@ fn placed<'c>(
 }
 
 /// Adds the relative texts, which are answered 400, and goes on with the others.
-fn past_relative<'c>(
+fn past_relative(
     alloc: Global,
     tied: Tied,
-    found: &mut Vec<Mapped<'c>>,
+    found: &mut Vec<Mapped>,
 ) -> Result<Option<Tied>, NoMemory>
     ensures { IfOk result (λ rest. GoesAbsolute tied rest found.old.items found.new.items) }
 {
@@ -124,14 +124,14 @@ fn text_alone(alloc: Global) -> Result<Vec<Element>, NoMemory>
 }
 
 /// Adds what is found by a text that begins with a slash.
-fn add_text<'c>(
+fn add_text(
     alloc: Global,
     world: &World,
-    config: &'c Config,
+    config: &Config,
     host: HostId,
     passed: bool,
     rest: Option<Tied>,
-    found: &mut Vec<Mapped<'c>>,
+    found: &mut Vec<Mapped>,
 ) -> Result<(), NoMemory>
     requires { IsHostOf config.now host }
     ensures { OnOk result (Adds
@@ -150,12 +150,12 @@ fn add_text<'c>(
 }
 
 /// Adds what is found by a text that is a URL path.
-fn add_path<'c>(
+fn add_path(
     alloc: Global,
-    config: &'c Config,
+    config: &Config,
     host: HostId,
     tied: Tied,
-    found: &mut Vec<Mapped<'c>>,
+    found: &mut Vec<Mapped>,
 ) -> Result<(), NoMemory>
     requires { IsHostOf config.now host }
     ensures { OnOk result ((shown : Shown) → Adds
@@ -181,12 +181,12 @@ fn text_named(alloc: Global, tied: Tied) -> Result<Named, NoMemory>
 }
 
 /// Adds where a text leads that becomes the URL path, if there is one.
-fn add_stored<'c>(
+fn add_stored(
     alloc: Global,
-    config: &'c Config,
+    config: &Config,
     host: HostId,
     named: Option<Named>,
-    found: &mut Vec<Mapped<'c>>,
+    found: &mut Vec<Mapped>,
 ) -> Result<(), NoMemory>
     requires { IsHostOf config.now host }
     ensures { OnOk result (Adds (AreNamed MappedFits named
@@ -203,7 +203,7 @@ fn add_stored<'c>(
 }
 
 /// The states in which a text has become the URL path.
-fn as_path(alloc: Global, named: Named) -> Result<Tied, NoMemory>
+pub fn as_path(alloc: Global, named: Named) -> Result<Tied, NoMemory>
     ensures { IfOk result (IsStored named) }
 {
     let hand = Hand {
@@ -224,13 +224,13 @@ fn as_path(alloc: Global, named: Named) -> Result<Tied, NoMemory>
 
 /// Adds what is found by a text that is a file name, where its first component names something, or else stands under
 /// the document root.
-fn add_file<'c>(
+fn add_file(
     alloc: Global,
     world: &World,
-    config: &'c Config,
+    config: &Config,
     host: HostId,
     tied: Tied,
-    found: &mut Vec<Mapped<'c>>,
+    found: &mut Vec<Mapped>,
 ) -> Result<(), NoMemory>
     requires { IsHostOf config.now host }
     ensures { OnOk result (Adds

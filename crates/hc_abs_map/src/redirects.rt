@@ -20,12 +20,12 @@ use std::alloc::Global;
 
 /// What redirects leave: one that takes the path, and how the pass ends by it, or none.
 #[derive(Drop)]
-pub struct Redirected<'c> {
+pub struct Redirected {
     pub tied: Tied,
-    pub left: Option<Left<'c>>,
+    pub left: Option<Left>,
 }
 
-impl<'c> Celled for Redirected<'c> {
+impl Celled for Redirected {
     ghost cell = { λ redirected. redirected.tied.cell };
 
     fn cell(&self) -> &Cell {
@@ -35,12 +35,12 @@ impl<'c> Celled for Redirected<'c> {
 
 /// The branches of a list of redirects over the states of a set of requests. Branches that have more states together
 /// than there is room for are refused as memory is.
-pub fn redirect_branches<'c>(
+pub fn redirect_branches(
     alloc: Global,
-    redirects: &'c [Redirect],
+    redirects: &[Redirect],
     tied: Tied,
     room: u64,
-) -> Result<Vec<Redirected<'c>>, NoMemory>
+) -> Result<Vec<Redirected>, NoMemory>
     ensures branches { IfOk result (λ found. AreRedirected redirects.now tied found.items) }
     ensures room { IfOk result (λ found. states_of (λ one. one.tied.cell) found.items ≤ room) }
 {
@@ -54,11 +54,11 @@ pub fn redirect_branches<'c>(
 }
 
 /// Adds the ways on which a redirect takes the path, and goes on where none does.
-pub(crate) fn past_redirects<'c>(
+pub(crate) fn past_redirects(
     alloc: Global,
-    redirects: &'c [Redirect],
+    redirects: &[Redirect],
     before: Option<Tied>,
-    found: &mut Vec<Redirected<'c>>,
+    found: &mut Vec<Redirected>,
 ) -> Result<Option<Tied>, NoMemory>
     ensures { IfOk result (λ rest. GoesRedirects redirects.now before rest found.old.items found.new.items) }
 {
@@ -69,11 +69,11 @@ pub(crate) fn past_redirects<'c>(
     Ok(rest)
 }
 
-fn past_redirect<'c>(
+fn past_redirect(
     alloc: Global,
-    redirect: &'c Redirect,
+    redirect: &Redirect,
     before: Option<Tied>,
-    found: &mut Vec<Redirected<'c>>,
+    found: &mut Vec<Redirected>,
 ) -> Result<Option<Tied>, NoMemory>
     ensures { IfOk result (λ rest. GoesRedirects (redirect.now ∷ []) before rest found.old.items found.new.items) }
 {
@@ -87,11 +87,11 @@ fn past_redirect<'c>(
 }
 
 /// Adds the way on which a redirect takes the path.
-fn add_sent<'c>(
-    redirect: &'c Redirect,
+fn add_sent(
+    redirect: &Redirect,
     ties: Ties,
     way: Option<Way>,
-    found: &mut Vec<Redirected<'c>>,
+    found: &mut Vec<Redirected>,
 ) -> Result<(), NoMemory>
     ensures { OnOk result (AddsSent redirect.now ties way found.old.items found.new.items) }
 {
@@ -102,27 +102,24 @@ fn add_sent<'c>(
         cell: way.cell,
         ties,
     };
-    let left = Some(left_by(redirect));
+    let sent = left_by(redirect)?;
+    let left = Some(sent);
     found.push(Redirected { tied, left })?;
     Ok(())
 }
 
 /// How a redirect ends the pass: another status is answered as it is.
-fn left_by(redirect: &Redirect) -> Left<'_>
-    ensures { left_of result ≡ left_by redirect.now }
+fn left_by(redirect: &Redirect) -> Result<Left, NoMemory>
+    ensures { IfOk result (λ left. left_of left ≡ left_by redirect.now) }
 {
     if is_redirection(redirect.status) {
-        Left::Sent(redirect)
-    } else {
-        Left::Status(redirect.status)
+        return Ok(Left::Sent(redirect.clone()?));
     }
+    Ok(Left::Status(redirect.status))
 }
 
 /// Adds what is left where no redirect takes the path.
-pub(crate) fn add_untaken<'c>(
-    rest: Option<Tied>,
-    found: &mut Vec<Redirected<'c>>,
-) -> Result<(), NoMemory>
+pub(crate) fn add_untaken(rest: Option<Tied>, found: &mut Vec<Redirected>) -> Result<(), NoMemory>
     ensures { OnOk result (Adds (AreOn RedirectedFits rest (done None)) found.old.items found.new.items) }
 {
     let Some(tied) = rest else {

@@ -24,12 +24,12 @@ use std::alloc::Global;
 
 /// The branches of a file name that is made ready for its walk, over the states of a set of requests. Branches that
 /// have more states together than there is room for are refused as memory is.
-pub fn tidied_branches<'c>(
+pub fn tidied_branches(
     alloc: Global,
     named: Named,
     aliased: bool,
     room: u64,
-) -> Result<Vec<Mapped<'c>>, NoMemory>
+) -> Result<Vec<Mapped>, NoMemory>
     ensures branches { IfOk result (λ found. AreTidied named aliased found.items) }
     ensures room { IfOk result (λ found. states_of cell_in found.items ≤ room) }
 {
@@ -89,10 +89,10 @@ fn meets_doubled(alloc: Global, texts: &Dfa) -> Result<bool, NoMemory>
 }
 
 /// Adds the texts with a segment of dots, which are outside, and goes on with the others.
-pub(crate) fn past_dots<'c>(
+pub(crate) fn past_dots(
     alloc: Global,
     named: Named,
-    found: &mut Vec<Mapped<'c>>,
+    found: &mut Vec<Mapped>,
 ) -> Result<Option<Named>, NoMemory>
     ensures { IfOk result (λ rest. GoesUndotted named rest found.old.items found.new.items) }
 {
@@ -127,13 +127,13 @@ pub(crate) fn named_on(ties: Ties, text: Vec<Element>, way: Option<Way>) -> Opti
 }
 
 /// Adds an end of the pass on a way of a test.
-pub(crate) fn add_over<'c>(
+pub(crate) fn add_over(
     ties: Ties,
     way: Option<Way>,
-    left: Left<'c>,
-    found: &mut Vec<Mapped<'c>>,
+    left: Left,
+    found: &mut Vec<Mapped>,
 ) -> Result<(), NoMemory>
-    ensures { OnOk result (AddsOver ties way left.entry found.old.items found.new.items) }
+    ensures { OnOk result (AddsOver ties way left found.old.items found.new.items) }
 {
     let Some(way) = way else {
         return Ok(());
@@ -147,10 +147,10 @@ pub(crate) fn add_over<'c>(
 }
 
 /// Adds a file name, if there is one.
-pub(crate) fn add_named<'c>(
+pub(crate) fn add_named(
     named: Option<Named>,
     aliased: bool,
-    found: &mut Vec<Mapped<'c>>,
+    found: &mut Vec<Mapped>,
 ) -> Result<(), NoMemory>
     ensures { OnOk result (Adds (AreNamed MappedFits named (done (in_hand aliased))) found.old.items found.new.items) }
 {

@@ -156,7 +156,7 @@ none_more other name value (each ∷ vars) apart none =
     by true later = none
     by false later = (none.0, later)
 
-once_more : (name value : List ℕ) (vars : Variables) → AreOnce vars → AreOnce (with_value vars name value)
+pub once_more : (name value : List ℕ) (vars : Variables) → AreOnce vars → AreOnce (with_value vars name value)
 once_more name value [] once = IsDistinct-cons bytes_eq name [] tt once
 once_more name value (each ∷ vars) once =
     by (bytes_eq name each.0) refl
@@ -174,7 +174,7 @@ once_behind had [] once = once
 once_behind had (each ∷ vars) once =
     once_behind (with_value had (front ++ each.0) each.1) vars (once_more (front ++ each.0) each.1 had once)
 
-none_once : AreOnce []
+pub none_once : AreOnce []
 none_once = IsDistinct-from_apart bytes_eq [] (λ i j d before within. absurd (omega (arith, within)))
 
 behind_once : (vars : Variables) → AreOnce (vars_behind vars)

@@ -49,7 +49,7 @@ abbrev pub left_of : LeftIn → Left
 left_of (left.Status number) = status number
 left_of (left.Outside reason) = outside reason
 left_of (left.Found kind) = found kind
-left_of (left.Sent redirect) = sent redirect.now
+left_of (left.Sent redirect) = sent redirect
 left_of (left.Refused refusal) = refused refusal
 left_of (left.Limit kind) = limit kind
 left_of left.NextPass = next_pass

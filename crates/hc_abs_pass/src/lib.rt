@@ -4,8 +4,7 @@
 //! `specs/` has the plans, in the form of hc_plan: the walk along a file name (`Walks`), conditions (`Views`), the
 //! sections that apply (`Sections`), who may pass (`Authorizing`), redirects, aliases and the document root
 //! (`Mapping`), what follows the rules of a server (`Naming`) and those of a directory (`Restarting`). `Passing` puts
-//! them together to the plan of a pass, from its start or from a further round of a list up to the next such point; no
-//! law speaks of it.
+//! them together to the plan of a pass, from its start or from a further round of a list up to the next such point.
 //!
 //! Each law in `laws` says, for all configurations, requests and worlds, that where the slots of a state have what the
 //! request has come to, the run of a plan from this state comes to what hc_serve's steps come to:

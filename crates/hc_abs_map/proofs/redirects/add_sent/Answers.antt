@@ -3,5 +3,5 @@ use Rattle.hc_abs_map.proofs.redirects.add_sent.Goals as goal
 
 pub returns : goal.returns
 returns c =
-    sent_taken c.args.redirect.now c.args.ties c.in-Some.way c.left_by.result c.args.way c.args.found.now.items
-    c.push.new.self.items c.in-Some.is c.left_by.ensures c.in_ok-push.ensures.items
+    sent_taken c.args.redirect.now c.args.ties c.in-Some.way c.in_ok-sent.sent c.args.way c.args.found.now.items
+    c.push.new.self.items c.in-Some.is c.in_ok-sent.ensures c.in_ok-push.ensures.items
