@@ -1,0 +1,4 @@
+pub mod Choosing
+pub mod Following
+pub mod Restarted
+pub mod Starting
