@@ -1,0 +1,4 @@
+pub mod Common
+pub mod Framing
+pub mod Leaving
+pub mod Rounding

@@ -1,0 +1,4 @@
+pub mod Grounds
+pub mod Left
+pub mod Rounds
+pub mod Segments
