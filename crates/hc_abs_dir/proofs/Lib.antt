@@ -1,0 +1,5 @@
+pub mod Beginning
+pub mod Behind
+pub mod Common
+pub mod Ruling
+pub mod Siding
