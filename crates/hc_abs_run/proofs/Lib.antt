@@ -1,0 +1,5 @@
+pub mod Common
+pub mod Past
+pub mod Placing
+pub mod Resting
+pub mod Starting
