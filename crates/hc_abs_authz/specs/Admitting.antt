@@ -1,10 +1,7 @@
 -- Who may pass over a set of requests, as code has it.
-use Rattle.std.specs.Prelude.{◌≡◌, ◌^◌, nat_lt, List, Bool, ◌&&◌, Option}
-use Rattle.hc_addr.specs.Networks.{holds_in}
+use Rattle.std.specs.Prelude.{◌≡◌, List, Bool, Option}
 use Rattle.hc_addr.specs.declared.addr.Addr.{Addr}
-use Rattle.hc_addr.specs.declared.addr.Addr.TheVariants.{V4, V6}
 use Rattle.hc_addr.specs.declared.net.Net.{Net}
-use Rattle.hc_addr.specs.declared.sizes.TheConstants.{V4_BITS, V6_BITS}
 use Rattle.hc_model.specs.declared.authorization.ReqTree.{ReqTree}
 use Rattle.hc_model.specs.declared.request.Caller.{Caller}
 use Rattle.hc_plan.specs.Branches.{Branch}
@@ -12,18 +9,10 @@ use Rattle.hc_plan.specs.Coded.{AreBranches}
 use Rattle.hc_plan.specs.Plan.{done}
 use Rattle.hc_plan.specs.States.{AbsState}
 use Rattle.hc_plan.specs.declared.storing.Tied.{Tied}
+pub use Rattle.hc_scope.specs.Clients.{clients_of, fits}
 use Rattle.hc_abs_pass.specs.Authorizing.{admitted_plan}
 use Rattle.hc_abs_pass.specs.Ends.{EndsAt}
 use Rattle.hc_abs_authz.specs.declared.admitting.Admitted.{Admitted}
-
--- The number of an address is one of its family's.
-abbrev pub fits : Addr → Bool
-fits (V4 own) = nat_lt own (2 ^ V4_BITS)
-fits (V6 own) = nat_lt own (2 ^ V6_BITS)
-
--- The clients of a network.
-abbrev pub clients_of : Net → Addr → Bool
-clients_of net addr = fits addr && holds_in net addr
 
 abbrev pub AdmittedFits : Option Addr → Admitted → Branch Bool → Type 0
 AdmittedFits client admitted branch = EndsAt client admitted.tied branch.0 × (branch.1 ≡ admitted.is)

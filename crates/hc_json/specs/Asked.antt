@@ -9,8 +9,8 @@ use Rattle.hc_model.specs.declared.request.Request.{Request}
 use Rattle.hc_model.specs.declared.request.Scheme.{Scheme}
 use Rattle.hc_model.specs.declared.request.Scheme.TheVariants.{Http, Https}
 use Rattle.hc_json.specs.Fields.{optional, wanted, ◌>>=◌}
-use Rattle.hc_json.specs.Forms.{addr_from, headers_from, is_host, is_method, is_target, port_from, scheme_from}
-use Rattle.hc_json.specs.Forms.{text_where}
+use Rattle.hc_forms.specs.Forms.{is_host, is_method, is_target}
+use Rattle.hc_json.specs.Forms.{addr_from, headers_from, port_from, scheme_from, text_where}
 use Rattle.hc_json.specs.declared.asked.TheConstants.{CLIENT, HTTP_PORT, HTTPS_PORT, SERVER}
 
 -- A request, and whether how its outcome came is asked too.

@@ -10,10 +10,10 @@ ghost use Rattle.hc_json.specs.Fields.{optional};
 ghost use Rattle.hc_json.specs.Forms.{addr_from, port_from, scheme_from};
 
 use crate::fields::BadField;
-use crate::forms::{HIGHEST_PORT, is_host, is_method, is_target};
 use crate::headers::{are_headers, copy_headers};
 use hc_addr::{Addr, parse_addr};
 use hc_base::{List, NoMemory, Text};
+use hc_forms::{is_host, is_method, is_target};
 use hc_model::{Header, Request, Scheme};
 use serde_json::{Map, Value};
 use std::alloc::Global;
@@ -21,6 +21,8 @@ use std::alloc::Global;
 const HTTP_PORT: u16 = 80;
 
 const HTTPS_PORT: u16 = 443;
+
+const HIGHEST_PORT: u64 = 65_535;
 
 /// 192.0.2.1.
 const SERVER: u32 = 0xC000_0201;

@@ -4,8 +4,8 @@ ghost use Rattle.serde_json.specs.Find.{as_str};
 ghost use Rattle.serde_json.specs.View.{members_view, view};
 ghost use Rattle.hc_json.specs.Forms.{are_headers, header_of, headers_of, is_value_of};
 
-use crate::forms::{is_name, is_value};
 use hc_base::{List, NoMemory, Text};
+use hc_forms::{is_name, is_value};
 use hc_model::Header;
 use serde_json::{Map, Value};
 use std::alloc::Global;

@@ -9,7 +9,6 @@
 mod asked;
 mod command;
 mod fields;
-mod forms;
 mod headers;
 mod reply;
 mod trail;

@@ -10,7 +10,8 @@ use std::alloc::Global;
 /// How many passes may follow the first one where no directive says it.
 const DEFAULT_RESTARTS: u32 = 10;
 
-pub(crate) fn caller_at(
+/// A request at a server: it has the name of the Host header, else that of ServerName, else the server's address.
+pub fn caller_at(
     alloc: Global,
     config: &Config,
     host: HostId,
@@ -45,7 +46,7 @@ fn or_address(alloc: Global, name: &Option<Text>, request: &Request) -> Result<T
 }
 
 /// How many passes there are at most.
-pub(crate) fn most_passes(config: &Config, host: HostId) -> u64
+pub fn most_passes(config: &Config, host: HostId) -> u64
     ensures { result ≡ most_passes config.now host }
 {
     match server_at(config, host).recursion.or(config.main.recursion) {

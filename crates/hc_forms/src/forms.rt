@@ -1,11 +1,11 @@
-//! The forms of the texts of an `ask`.
+//! The forms of the texts of a request. Our own choice.
 
 ghost use Rattle.std.specs.Prelude.{◌≡◌};
 ghost use Rattle.std.specs.Char.{is_ascii_uppercase};
 ghost use Rattle.std.specs.List.{list_all};
 ghost use Rattle.std.specs.Str.{str_eq_ignore_ascii_case};
-ghost use Rattle.hc_json.specs.Forms.{is_host, is_host_byte, is_method, is_name, is_name_byte, is_target};
-ghost use Rattle.hc_json.specs.Forms.{is_target_byte, is_value, is_value_byte};
+ghost use Rattle.hc_forms.specs.Forms.{is_host, is_host_byte, is_method, is_name, is_name_byte, is_target};
+ghost use Rattle.hc_forms.specs.Forms.{is_target_byte, is_value, is_value_byte};
 
 use hc_base::paths::begins_with_slash;
 
@@ -22,11 +22,9 @@ const LONGEST_NAME: usize = 64;
 /// The most bytes of a header's value.
 const LONGEST_VALUE: usize = 8190;
 
-pub(crate) const HIGHEST_PORT: u64 = 65_535;
-
 /// The target of a request begins with a slash, is not too long and has no other bytes than those that
 /// are printed, without `#`.
-pub(crate) fn is_target(target: &[u8]) -> bool
+pub fn is_target(target: &[u8]) -> bool
     ensures { result ≡ is_target target.now }
 {
     begins_with_slash(target) && target.len() <= LONGEST_TARGET && has_target_bytes(target)
@@ -45,7 +43,7 @@ fn is_target_byte(byte: u8) -> bool
 }
 
 /// Capital letters.
-pub(crate) fn is_method(method: &[u8]) -> bool
+pub fn is_method(method: &[u8]) -> bool
     ensures { result ≡ is_method method.now }
 {
     !method.is_empty() && method.len() <= LONGEST_METHOD && has_capitals(method)
@@ -58,7 +56,7 @@ fn has_capitals(text: &[u8]) -> bool
 }
 
 /// Letters, digits, dots and hyphens, or nothing.
-pub(crate) fn is_host(host: &[u8]) -> bool
+pub fn is_host(host: &[u8]) -> bool
     ensures { result ≡ is_host host.now }
 {
     host.len() <= LONGEST_HOST && has_host_bytes(host)
@@ -77,7 +75,7 @@ fn is_host_byte(byte: u8) -> bool
 }
 
 /// The name of a header: letters, digits, hyphens and underscores. Host is a field of its own.
-pub(crate) fn is_name(name: &[u8]) -> bool
+pub fn is_name(name: &[u8]) -> bool
     ensures { result ≡ is_name name.now }
 {
     !name.is_empty()
@@ -99,14 +97,14 @@ fn is_name_byte(byte: u8) -> bool
 }
 
 /// The names are equal without case.
-pub(crate) fn is_same_name(name: &[u8], other: &[u8]) -> bool
+fn is_same_name(name: &[u8], other: &[u8]) -> bool
     ensures { result ≡ str_eq_ignore_ascii_case name.now other.now }
 {
     name.eq_ignore_ascii_case(other)
 }
 
 /// The value of a header.
-pub(crate) fn is_value(value: &[u8]) -> bool
+pub fn is_value(value: &[u8]) -> bool
     ensures { result ≡ is_value value.now }
 {
     value.len() <= LONGEST_VALUE && has_value_bytes(value)
