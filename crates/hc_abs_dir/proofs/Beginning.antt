@@ -1,17 +1,17 @@
 -- The rules of a directory begin.
-use Rattle.hc_abs_dir.proofs.Common.{◌≡◌, ◌∙◌, ℕ, List, [], ◌∷◌, Bool, true, false, ◌&&◌, Some, refl, sym}
+use Rattle.hc_abs_dir.proofs.Common.{◌≡◌, ◌∙◌, ℕ, List, Bool, true, false, ◌&&◌, Some, refl, sym}
 use Rattle.hc_abs_dir.proofs.Common.{ap, subst, Automaton, accepts, Accepts, Decision, Plan, Branch, AreBranches}
 use Rattle.hc_abs_dir.proofs.Common.{Slot, AbsState, Tied, ground_in, Are, SegmentFits, LentGround}
 use Rattle.hc_abs_dir.proofs.Common.{LentSettings, Segment, Ground}
 use Rattle.std.proofs.Math.Path.{fun_ext}
 use Rattle.std.specs.List.{list_all}
-use Rattle.std.specs.Prelude.{nat_lt, if◌then◌else◌}
+use Rattle.std.specs.Prelude.{nat_lt}
 use Rattle.hc_cells.specs.Cells.{Puts, Sets, holds}
-use Rattle.hc_cells.specs.Ties.{behind_path, in_slots}
 use Rattle.hc_cells.specs.declared.slot.Slot.TheVariants as slot
 use Rattle.hc_cells.specs.declared.ties.Ties.{Ties}
 use Rattle.hc_dfa.specs.Texts.{TextSet}
 use Rattle.hc_plan.proofs.Made.{is_text}
+use Rattle.hc_plan.proofs.Slots.{origin_tied, query_tied}
 use Rattle.hc_plan.proofs.Stores.{put_in}
 unfoldable use Rattle.hc_plan.specs.Branches.{Branches}
 use Rattle.hc_plan.specs.Branches.{renamed, source_set}
@@ -54,20 +54,21 @@ module _ (ground : Ground) (sets made : Sets) (names : Automaton) (is : Accepts 
       (λ i at. source_set (has i) (list_source ground at)) ∙ fun_ext begun_set
       ∙ sym (put_in sets made slot.Text names puts)
 
-origin_tied : (behind : List Slot) (v : Bool) → in_slots (if v then slot.Path ∷ behind else []) slot.Path ≡ v
-origin_tied behind true = refl
-origin_tied behind false = refl
-
-abbrev pub ties_from : Bool → Ties
-ties_from origin = record { origin_path = origin; text_path = false; text_name = true }
+abbrev pub ties_from : Ties → Ties
+ties_from ties = record ties { text_path = false; text_name = true }
 
 pub begun_rests : (tied made : Tied) (names : Automaton) → Accepts names (holds tied.cell slot.Name)
-    → Puts tied.cell slot.Text names made.cell → made.ties ≡ ties_from tied.ties.origin_path → IsBegun tied made
+    → Puts tied.cell slot.Text names made.cell → made.ties ≡ ties_from tied.ties → IsBegun tied made
 begun_rests tied made names is puts ties ground client state ends = record {
   cell = begun_cell ground tied.cell made.cell names is puts state ends.cell;
   ties =
-      ap ties_from (origin_tied (behind_path state.ties) state.ties.origin_path ∙ (λ i. (ends.ties i).origin_path))
-      ∙ sym ties;
+      (λ i. record {
+        origin_path = origin_tied state.ties i;
+        text_path = false;
+        text_name = true;
+        query_first = query_tied state.ties i;
+      })
+      ∙ ap ties_from ends.ties ∙ sym ties;
   given = ends.given;
   texts = refl;
   printed = ends.printed;
@@ -85,7 +86,7 @@ module _ (ground : LentGround) (lent : LentSettings) (decisions : List Decision)
   begun_fits named so_far is begun are levels merges settings fit state ends =
       let own = ground_in levels merges ground in
       rename_fits (SegmentFits ground.client ground.tests.now) state (list_source own) (any_slot own)
-      (record { origin_path = true; text_path = false; text_name = true })
+      (record { origin_path = true; text_path = false; text_name = true; query_first = true })
       (dir_round_plan own settings (engine_by own settings dir) (begun_with decisions false)) found
       (subst (λ so_far. AreDirRound ground lent dir so_far named found) begun are levels merges settings
       (begun_at own state) fit (is own ground.client state ends))

@@ -23,7 +23,7 @@ named_plan ground settings dir decisions = of_slot Slot.Name (is_itself ground d
 -- The file name is the text that is rewritten.
 abbrev pub begun_at : Ground → AbsState → AbsState
 begun_at ground state = renamed state (list_source ground) (any_slot ground)
-    (record { origin_path = true; text_path = false; text_name = true })
+    (record { origin_path = true; text_path = false; text_name = true; query_first = true })
 
 abbrev pub IsBegun : Tied → Tied → Type 0
 IsBegun tied made = (ground : Ground) (client : Option Addr) (state : AbsState) → EndsAt client tied state

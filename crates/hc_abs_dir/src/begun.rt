@@ -78,9 +78,9 @@ fn name_rewritten(alloc: Global, tied: Tied) -> Result<Tied, NoMemory>
     let names = names_in(alloc, &tied.cell)?;
     let cell = with(alloc, &tied.cell, &Slot::Text, &names)?;
     let ties = Ties {
-        origin_path: tied.ties.origin_path,
         text_path: false,
         text_name: true,
+        ..tied.ties
     };
     Ok(Tied { cell, ties })
 }

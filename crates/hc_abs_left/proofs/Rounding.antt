@@ -6,6 +6,7 @@ use Rattle.hc_addr.specs.declared.addr.Addr.{Addr}
 use Rattle.hc_model.specs.declared.rewrite.Rule.{Rule}
 use Rattle.hc_model.specs.declared.section.Body.{Body}
 use Rattle.hc_plan.proofs.Coded.{end_fits, joined_fits}
+use Rattle.hc_plan.proofs.Slots.{name_tied, path_tied, query_tied}
 use Rattle.hc_plan.specs.Branches.{Branch, renamed}
 unfoldable use Rattle.hc_plan.specs.Branches.{Branches}
 use Rattle.hc_plan.specs.Coded.{AreBranches, IsNext}
@@ -43,27 +44,15 @@ use Rattle.hc_abs_left.specs.declared.segment.Segment.{Segment}
 -- The ties of a state whose slots are renamed to themselves, without that of the target's path and the pass's.
 abbrev without_origin : AbsState → AbsState
 without_origin state = renamed state from_slot (λ slot. true)
-    (record { origin_path = false; text_path = true; text_name = true })
+    (record { origin_path = false; text_path = true; text_name = true; query_first = true })
 
 ties_left : (state : AbsState) → (without_origin state).ties ≡ record (state.ties) { origin_path = false }
-ties_left state = by state.ties.origin_path state.ties.text_path state.ties.text_name
-  where
-    with_ties : Bool → Bool → Bool → AbsState
-    with_ties origin_path text_path text_name = record state {
-      ties = record { origin_path = origin_path; text_path = text_path; text_name = text_name };
-    }
-
-    by : (origin_path text_path text_name : Bool)
-        → (without_origin (with_ties origin_path text_path text_name)).ties
-        ≡ record { origin_path = false; text_path = text_path; text_name = text_name }
-    by true true true = refl
-    by true true false = refl
-    by true false true = refl
-    by true false false = refl
-    by false true true = refl
-    by false true false = refl
-    by false false true = refl
-    by false false false = refl
+ties_left state = λ i. record {
+  origin_path = false;
+  text_path = path_tied state.ties i;
+  text_name = name_tied state.ties i;
+  query_first = query_tied state.ties i;
+}
 
 -- Between rules and at an end nothing is held.
 ends_at : (client : Option Addr) (tied : Tied) (state : AbsState) → Rests client tied state → EndsAt client tied state
@@ -75,7 +64,7 @@ untied_fits : {A B : Type 0} (Fit : B → Branch A → Type 0) (client : Option 
     (plan : Plan A) (found : List B) → Rests client tied state
     → ((later : AbsState) → EndsAt client (untied_so true tied) later → AreBranches Fit plan later found)
     → AreBranches Fit (rename from_slot (λ slot. true)
-    (record { origin_path = false; text_path = true; text_name = true }) plan) state found
+    (record { origin_path = false; text_path = true; text_name = true; query_first = true }) plan) state found
 unfolding Branches
 untied_fits Fit client tied state plan found rests leads =
     let are = leads (without_origin state) (record {

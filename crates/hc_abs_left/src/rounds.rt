@@ -127,8 +127,7 @@ fn path_untied(is: bool, tied: Tied) -> Tied
     let Tied { cell, ties } = tied;
     let ties = Ties {
         origin_path: false,
-        text_path: ties.text_path,
-        text_name: ties.text_name,
+        ..ties
     };
     Tied { cell, ties }
 }

@@ -112,7 +112,7 @@ module _ (frame : Frame) (rule : Rule) (rules : List Rule) where
   rule_then (left listed) = refl
   rule_then (before (suc skipped) so_far) = refl
   rule_then (before zero so_far) =
-      let attempt = attempt_plan frame rule (setting_of rules so_far) so_far.decisions in
+      let attempt = attempt_plan frame rule (setting_of rules) so_far.decisions in
       in_turn (attempted_plan rule rules so_far) Rest attempt ∙ ap (and_then attempt) (fun_ext (behind_then so_far))
 
 -- ---- places
@@ -217,14 +217,14 @@ module _ (frame : Frame) (client : Option Addr) where
         (sym (is ∙ ap (λ skipped. at.Before skipped) none))
 
     pub rule_tried : (tied : Tied) (so_far : SoFar) (setting : Setting) (branches : List RuleBranch)
-        (found : List Placed) → setting ≡ setting_of rules (so_far_of so_far)
+        (found : List Placed) → setting ≡ setting_of rules
         → AreRuleBranches frame client rule setting tied so_far.decisions branches
         → AreBehind rule rules so_far branches found
         → IsPast frame client rule rules (placed_at tied so_far (at.Before 0)) found
     rule_tried tied so_far setting branches found same are behind branch fits =
         subst (λ standing. AreBranches Fit (rule_plan frame rule rules standing) branch.0 found) (sym fits.1)
         (joined_fits (BranchFits client frame.caller) Fit (attempted_plan rule rules (so_far_of so_far))
-        (attempt_plan frame rule (setting_of rules (so_far_of so_far)) so_far.decisions) branch.0 branches found
+        (attempt_plan frame rule (setting_of rules) so_far.decisions) branch.0 branches found
         (subst (λ setting. AreRuleBranches frame client rule setting tied so_far.decisions branches) same are branch.0
         fits.0)
         (behind client frame.caller))

@@ -108,7 +108,7 @@ abbrev pub rule_plan : Frame → Rule → List Rule → Standing → Plan Standi
 rule_plan frame rule rules (left listed) = done (left listed)
 rule_plan frame rule rules (before (suc skipped) so_far) = done (before skipped so_far)
 rule_plan frame rule rules (before zero so_far) =
-    and_then (attempt_plan frame rule (setting_of rules so_far) so_far.decisions) (attempted_plan rule rules so_far)
+    and_then (attempt_plan frame rule (setting_of rules) so_far.decisions) (attempted_plan rule rules so_far)
 
 -- ---- what code finds
 

@@ -115,7 +115,7 @@ module _ (ground : Ground) where
   -- The target's path and the pass's are tied no more.
   abbrev pub path_untied : Bool → Plan Segment → Plan Segment
   path_untied true plan = rename from_slot any_slot
-      (record { origin_path = false; text_path = true; text_name = true }) plan
+      (record { origin_path = false; text_path = true; text_name = true; query_first = true }) plan
   path_untied false plan = plan
 
   abbrev pub dir_left : Settings → Listed → Plan Segment
@@ -139,7 +139,8 @@ module _ (ground : Ground) where
   -- The file name is rewritten.
   abbrev pub dir_begun : Settings → Engine → List Decision → Plan Segment
   dir_begun settings engine decisions =
-      rename list_source any_slot (record { origin_path = true; text_path = false; text_name = true })
+      rename list_source any_slot
+      (record { origin_path = true; text_path = false; text_name = true; query_first = true })
       (dir_round_plan settings engine (begun_with decisions false))
 
   abbrev pub is_itself : List ℕ → TextSet

@@ -47,7 +47,6 @@ pass_source Slot.Text = from_slot Slot.Path
 pass_source Slot.Name = from_text []
 pass_source Slot.Info = from_text []
 pass_source Slot.Location = from_text []
-pass_source Slot.FirstQuery = from_slot Slot.Query
 pass_source (Slot.Env name) = variable_source name
 pass_source other = from_slot other
 
@@ -56,7 +55,7 @@ looked_at names (Slot.Env name) = names name
 looked_at names other = true
 
 abbrev pub at_start : Ties
-at_start = record { origin_path = false; text_path = true; text_name = false }
+at_start = record { origin_path = false; text_path = true; text_name = false; query_first = true }
 
 -- ---- the plan
 

@@ -170,7 +170,6 @@ fn tried<'r, S: Surroundings>(
 {
     let setting = Setting {
         followed: is_followed(behind),
-        replaced: left.replaced,
     };
     let branches = rule_branches(alloc, frame, rule, setting, tied, &left.decisions)?;
     all_behind(alloc, rule, behind, &left, branches)

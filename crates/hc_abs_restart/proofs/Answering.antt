@@ -11,11 +11,11 @@ use Rattle.hc_dfa.specs.Texts.{IsEmptySet, IsLeast}
 use Rattle.hc_dfa.specs.declared.products.Keep.TheVariants.{Both}
 use Rattle.hc_model.specs.declared.walk.Kind.{Kind}
 use Rattle.hc_plan.proofs.Coded.{both_fit, end_fits}
+use Rattle.hc_plan.proofs.Slots.{name_tied}
 use Rattle.hc_plan.specs.Branches.{May}
 unfoldable use Rattle.hc_plan.specs.Branches.{Branches}
 use Rattle.hc_plan.specs.Coded.{AllFit, AreBranches}
 use Rattle.hc_plan.specs.Plan.{equal}
-use Rattle.hc_plan.specs.Slots.{Ties, tied}
 use Rattle.hc_plan.specs.States.{IsOnly}
 use Rattle.hc_abs_pass.specs.Ends.{Left, found as is_found}
 use Rattle.hc_abs_pass.specs.declared.ends.Left.TheVariants as left
@@ -52,18 +52,6 @@ module _ (before : Tied) (texts names both : Automaton) (of_text : Accepts texts
       (m, and_both (text_is m least.bytes) of.0, and_both (text_is m least.bytes) of.1)
 
 -- ---- may it be another?
-
-name_tied : (ties : Ties) → tied ties Slot.Text Slot.Name ≡ ties.text_name
-name_tied ties = by ties.origin_path ties.text_path ties.text_name
-  where
-    by : (origin path name : Bool)
-        → tied (record { origin_path = origin; text_path = path; text_name = name }) Slot.Text Slot.Name ≡ name
-    by origin false true = refl
-    by origin false false = refl
-    by true true true = refl
-    by true true false = refl
-    by false true true = refl
-    by false true false = refl
 
 module _ (sets : Sets) (slot : Slot) (m : List ℕ) where
   only_member : IsOnly (cell_of sets slot) m → IsOnlyMember (holds sets slot) m

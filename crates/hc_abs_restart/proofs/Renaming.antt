@@ -11,10 +11,11 @@ use Rattle.hc_cells.proofs.Places.{slots_equal}
 use Rattle.hc_cells.proofs.Slots.{same_slots}
 use Rattle.hc_cells.specs.Cells.{LacksVariables, Puts, Sets, holds, of_set}
 use Rattle.hc_dfa.specs.Singles.{single}
+use Rattle.hc_plan.proofs.Slots.{query_tied}
 use Rattle.hc_plan.proofs.Stores.{put_in}
 use Rattle.hc_plan.specs.Branches.{source_set}
 use Rattle.hc_plan.specs.Plan.{from_slot, from_text}
-use Rattle.hc_plan.specs.Slots.{put, same_slot}
+use Rattle.hc_plan.specs.Slots.{Ties, put, same_slot}
 use Rattle.hc_rw_eval.specs.Directories.{behind_front}
 use Rattle.hc_abs_pass.specs.Restarting.{at_start, front, looked_at, pass_source, status_name, variable_source}
 use Rattle.hc_abs_restart.proofs.Sets.{any_or, slot_set, text_set}
@@ -73,19 +74,16 @@ file_emptied sets named informed located empty is name info location =
     ∙ (λ i. put Slot.Location (text_set [] empty tt is i) (put Slot.Info (text_set [] empty tt is i)
     (put Slot.Name (text_set [] empty tt is i) (cell_of sets))))
 
-module _ (sets bare rewritten first made : Sets) (paths queries : Automaton) (lacks : LacksVariables sets bare)
-    (of_paths : Accepts paths (holds sets Slot.Path)) (of_queries : Accepts queries (holds sets Slot.Query))
-    (text : Puts bare Slot.Text paths rewritten) (query : Puts rewritten Slot.FirstQuery queries first)
-    (is : cell_of made ≡ emptied (cell_of first)) where
+module _ (sets bare rewritten made : Sets) (paths : Automaton) (lacks : LacksVariables sets bare)
+    (of_paths : Accepts paths (holds sets Slot.Path)) (text : Puts bare Slot.Text paths rewritten)
+    (is : cell_of made ≡ emptied (cell_of rewritten)) where
   abbrev moved : Slot → TextSet
-  moved = put Slot.FirstQuery (cell_of sets Slot.Query) (put Slot.Text (cell_of sets Slot.Path) (cell_of bare))
+  moved = put Slot.Text (cell_of sets Slot.Path) (cell_of bare)
 
   all_moved : cell_of made ≡ emptied moved
   all_moved =
-      is ∙ ap emptied (put_in rewritten first Slot.FirstQuery queries query
-      ∙ ap (put Slot.FirstQuery (set_in queries)) (put_in bare rewritten Slot.Text paths text)
-      ∙ (λ i. put Slot.FirstQuery (slot_set sets Slot.Query queries of_queries i)
-      (put Slot.Text (slot_set sets Slot.Path paths of_paths i) (cell_of bare))))
+      is ∙ ap emptied (put_in bare rewritten Slot.Text paths text
+      ∙ (λ i. put Slot.Text (slot_set sets Slot.Path paths of_paths i) (cell_of bare)))
 
   each_moved : (slot : Slot) → emptied moved slot ≡ started sets (is_among []) slot
   each_moved (Slot.Env name) =
@@ -95,10 +93,10 @@ module _ (sets bare rewritten first made : Sets) (paths queries : Automaton) (la
   each_moved Slot.Name = refl
   each_moved Slot.Info = refl
   each_moved Slot.Location = refl
-  each_moved Slot.FirstQuery = refl
   each_moved Slot.Origin = ap (λ found. of_bytes (of_set found)) (lacks Slot.Origin)
   each_moved Slot.Path = ap (λ found. of_bytes (of_set found)) (lacks Slot.Path)
   each_moved Slot.Query = ap (λ found. of_bytes (of_set found)) (lacks Slot.Query)
+  each_moved Slot.FirstQuery = ap (λ found. of_bytes (of_set found)) (lacks Slot.FirstQuery)
   each_moved Slot.End = ap (λ found. of_bytes (of_set found)) (lacks Slot.End)
   each_moved Slot.Method = ap (λ found. of_bytes (of_set found)) (lacks Slot.Method)
   each_moved Slot.Request = ap (λ found. of_bytes (of_set found)) (lacks Slot.Request)
@@ -197,14 +195,17 @@ module _ (sets : Sets) (name : List ℕ) (cell : Sets) where
 
 -- ---- the state
 
+abbrev pub ties_from : Bool → Ties
+ties_from query = record at_start { query_first = query }
+
 pub renamed_fits : (before : Tied) (names : List (List ℕ)) (made : Tied) → IsStarted before.cell names made.cell
-    → made.ties ≡ at_start → IsRenamed before names made
+    → made.ties ≡ ties_from before.ties.query_first → IsRenamed before names made
 renamed_fits before names made are ties client state ends = record {
   cell =
       (λ i slot x. (not (looked_at (is_among names) slot) && of_bytes any x)
       || source_set (ends.cell i) (pass_source slot) x)
       ∙ sym (fun_ext are);
-  ties = sym ties;
+  ties = ap ties_from (query_tied state.ties ∙ (λ i. (ends.ties i).query_first)) ∙ sym ties;
   given = ends.given;
   printed = ends.printed;
 }

@@ -33,6 +33,7 @@ pub(crate) fn started(alloc: Global, tied: &Tied, names: &[Text]) -> Result<Tied
         origin_path: false,
         text_path: true,
         text_name: false,
+        query_first: tied.ties.query_first,
     };
     Ok(Tied { cell, ties })
 }
@@ -48,16 +49,14 @@ fn with_variables(alloc: Global, before: &Cell, names: &[Text]) -> Result<Cell, 
     Ok(cell)
 }
 
-/// The cell of which no variable is looked at: the path is rewritten, and its query is the first.
+/// The cell of which no variable is looked at: the path is rewritten.
 fn without_names(alloc: Global, before: &Cell) -> Result<Cell, NoMemory>
     ensures { IfOk result (IsStarted before.now []) }
 {
     let bare = without_variables(before)?;
     let paths = texts_at(alloc, before, &Slot::Path)?;
     let rewritten = with(alloc, &bare, &Slot::Text, &paths)?;
-    let queries = texts_at(alloc, before, &Slot::Query)?;
-    let first = with(alloc, &rewritten, &Slot::FirstQuery, &queries)?;
-    let made = without_file(alloc, &first)?;
+    let made = without_file(alloc, &rewritten)?;
     Ok(made)
 }
 

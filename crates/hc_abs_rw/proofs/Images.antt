@@ -31,7 +31,6 @@ use Rattle.hc_rw_expand.specs.Queries.{appended}
 use Rattle.hc_rw_sets.proofs.Joins.{joined_text, text_parts}
 use Rattle.hc_rw_sets.specs.Made.{MadeOf, MadeOfBoth}
 use Rattle.hc_target.specs.Urls.{begins_without_case}
-use Rattle.hc_abs_rw.specs.Drafts.{slot_alone}
 
 -- ---- texts of bytes
 
@@ -141,18 +140,6 @@ free_has cell set x = (
       subst (λ x. set x ≡ true)
       (sym (has.3 ∙ parts.2 ∙ ap (λ rest. parts.0 ++ rest) parts.4 ∙ append-nil parts.0)) parts.3),
 )
-
-pub slot_has : (sets : Sets) (slot : Slot) (texts : Automaton) (cell : Slot → TextSet) → cell ≡ cell_of sets
-    → IsHandSet sets (slot_alone slot) 0 None texts → IsSetOf (set_in texts) (λ x. cell slot x ≡ true)
-slot_has sets slot texts cell same is x =
-    let has = untested_has sets (slot_alone slot) texts cell same is x in (
-      (λ in_set.
-          let of = has.0 in_set in
-          let parts = of.1 in
-          subst (λ x. cell slot x ≡ true)
-          (sym (of.3 ∙ parts.2 ∙ (λ i. parts.3.2 i ++ parts.4 i) ∙ append-nil parts.3.0)) parts.3.1),
-      (λ in_cell. has.1 (x, (x, [], sym (append-nil x), (x, in_cell, refl), refl), refl, refl)),
-    )
 
 -- The empty text alone.
 pub nothing_has : (set : Automaton) → Accepts set (single []) → IsSetOf (set_in set) (λ x. bytes_eq [] x ≡ true)

@@ -1,7 +1,7 @@
 -- What a rule stores that makes a text.
 use Rattle.hc_abs_rw.proofs.Common.{◌≡◌, ◌∙◌, List, [], ◌∷◌, ◌++◌, Bool, true, false, not}
 use Rattle.hc_abs_rw.proofs.Common.{◌&&◌, Option, None, refl, sym, ap, subst, append_assoc, append-nil}
-use Rattle.hc_abs_rw.proofs.Common.{if◌then◌else◌, Frame, Plan, done, pick}
+use Rattle.hc_abs_rw.proofs.Common.{Frame, Plan, done, pick}
 use Rattle.hc_addr.specs.declared.addr.Addr.{Addr}
 use Rattle.hc_dfa.specs.Automata.{Automaton}
 use Rattle.hc_dfa.specs.Built.{Accepts}
@@ -12,21 +12,20 @@ use Rattle.hc_plan.proofs.Stores.{StoresSame, store_fits}
 use Rattle.hc_plan.specs.Branches.{Branches}
 use Rattle.hc_plan.specs.Coded.{AllFit, AreBranches}
 use Rattle.hc_plan.specs.Hands.{set_in}
-use Rattle.hc_plan.specs.Plan.{Stored as PlanStored, from, from_hand, from_slot, from_text, store}
+use Rattle.hc_plan.specs.Plan.{Stored as PlanStored, from, from_hand, from_text, store}
 use Rattle.hc_plan.specs.Slots.{Slot}
 use Rattle.hc_plan.specs.States.{AbsState, Has}
 use Rattle.hc_plan.specs.Stores.{Stores}
 use Rattle.hc_plan.specs.Texts.{IsSetOf}
 use Rattle.hc_plan.specs.Ways.{IsHandSet}
-use Rattle.hc_plan.specs.declared.hand.Element.{Element}
 use Rattle.hc_plan.specs.declared.storing.Stored.{Stored}
 use Rattle.hc_plan.specs.declared.storing.Tied.{Tied}
 use Rattle.hc_rw_eval.specs.Substitutions.{status_sent, stops}
 use Rattle.hc_abs_rw.specs.Applied.{AppliedFits, front_by, made_of}
 use Rattle.hc_abs_rw.specs.Drafts.{AddsLed, AddsStored, IsTextSet, Leads, Sits, StoresAll, StoresFrom, by_task}
-use Rattle.hc_abs_rw.specs.Drafts.{frame_in, left_here, outside_as, sent_to, slot_alone}
+use Rattle.hc_abs_rw.specs.Drafts.{frame_in, left_here, outside_as, sent_to}
 use Rattle.hc_abs_rw.specs.Frames.{common}
-use Rattle.hc_abs_rw.specs.Substitutions.{Made, Setting, goes_on, info_stored, nothing_made, outside, query_stored}
+use Rattle.hc_abs_rw.specs.Substitutions.{Made, goes_on, info_stored, nothing_made, outside, query_stored}
 use Rattle.hc_abs_rw.specs.Substitutions.{redirect}
 use Rattle.hc_abs_rw.specs.Templates.{main, second}
 use Rattle.hc_abs_rw.specs.declared.apply.Applied.{Applied}
@@ -35,7 +34,7 @@ use Rattle.hc_abs_rw.specs.declared.apply.Next.TheVariants as next
 use Rattle.hc_abs_rw.specs.declared.draft.Draft.{Draft}
 use Rattle.hc_abs_rw.specs.declared.draft.Task.{Task}
 use Rattle.hc_abs_rw.proofs.Drafting.{led_alike}
-use Rattle.hc_abs_rw.proofs.Images.{hand_has, nothing_has, slot_has, untested_has}
+use Rattle.hc_abs_rw.proofs.Images.{hand_has, nothing_has, untested_has}
 
 -- ---- one slot
 
@@ -56,13 +55,6 @@ module _ (draft : Draft) where
     set = λ client state sits.
         subst (λ own. IsSetOf (set_in set) (Has state.cell own)) (sym sits.query)
         (untested_has draft.tied.cell draft.query.now set state.cell sits.text.stands.holds is);
-  }
-
-  pub first_of_all : (set : Automaton) → IsHandSet draft.tied.cell (slot_alone Slot.Query) 0 None set
-      → StoresFrom draft (Slot.FirstQuery, from (from_slot Slot.Query)) (record { slot = Slot.FirstQuery; set = set })
-  first_of_all set is = record {
-    slot = refl;
-    set = λ client state sits. slot_has draft.tied.cell Slot.Query set state.cell sits.text.stands.holds is;
   }
 
   pub nothing_in : (slot : Slot) (set : Automaton) → Accepts set (single [])
@@ -123,38 +115,13 @@ module _ (draft : Draft) where
       )
 
   -- A query that takes the place of the old one.
-  pub query_kept : (setting : Setting) (before : List Stored) → draft.replaced ≡ false
-      → AddsStored draft (query_stored setting draft.replaced) before before
-  query_kept setting before is =
-      subst (λ replaced. AddsStored draft (query_stored setting replaced) before before) (sym is) (none_stored before)
-
-  pub query_again : (setting : Setting) (set : Automaton) (before after : List Stored) → draft.replaced ≡ true
-      → setting.replaced ≡ true → IsHandSet draft.tied.cell draft.query.now 0 None set
+  pub query_replaced : (set : Automaton) (before after : List Stored) → draft.replaced ≡ true
+      → IsHandSet draft.tied.cell draft.query.now 0 None set
       → after ≡ before ++ record { slot = Slot.Query; set = set } ∷ []
-      → AddsStored draft (query_stored setting draft.replaced) before after
-  query_again setting set before after is again hand more =
-      subst (λ replaced. AddsStored draft (query_stored setting replaced) before after) (sym is)
-      (subst (λ again. AddsStored draft ((Slot.Query, from_hand second) ∷
-      (if again then [] else (Slot.FirstQuery, from (from_slot Slot.Query)) ∷ [])) before after) (sym again)
-      (one_stored (Slot.Query, from_hand second) _ before after (query_of set hand) more))
-
-  pub query_first : (setting : Setting) (set old : Automaton) (before mid after : List Stored)
-      → draft.replaced ≡ true
-      → setting.replaced ≡ false → IsHandSet draft.tied.cell draft.query.now 0 None set
-      → mid ≡ before ++ record { slot = Slot.Query; set = set } ∷ [] → (own lent : List Element)
-      → own ≡ slot_alone Slot.Query → lent ≡ own → IsHandSet draft.tied.cell lent 0 None old
-      → after ≡ mid ++ record { slot = Slot.FirstQuery; set = old } ∷ []
-      → AddsStored draft (query_stored setting draft.replaced) before after
-  query_first setting set old before mid after is again hand first own lent alone same also rest =
-      subst (λ replaced. AddsStored draft (query_stored setting replaced) before after) (sym is)
-      (subst (λ again. AddsStored draft ((Slot.Query, from_hand second) ∷
-      (if again then [] else (Slot.FirstQuery, from (from_slot Slot.Query)) ∷ [])) before after) (sym again)
-      (more_stored ((Slot.Query, from_hand second) ∷ []) ((Slot.FirstQuery, from (from_slot Slot.Query)) ∷ [])
-      before mid
-      after (one_stored (Slot.Query, from_hand second) _ before mid (query_of set hand) first)
-      (one_stored (Slot.FirstQuery, from (from_slot Slot.Query)) _ mid after
-      (first_of_all old (subst (λ elements. IsHandSet draft.tied.cell elements 0 None old) (same ∙ alone) also))
-      rest)))
+      → AddsStored draft (query_stored draft.replaced) before after
+  query_replaced set before after is hand more =
+      subst (λ replaced. AddsStored draft (query_stored replaced) before after) (sym is)
+      (one_stored (Slot.Query, from_hand second) _ before after (query_of set hand) more)
 
   -- DPI.
   pub info_dropped : (discards : Bool) (set : Automaton) (before after : List Stored) → discards ≡ true
@@ -164,21 +131,21 @@ module _ (draft : Draft) where
       subst (λ discards. AddsStored draft (info_stored discards) before after) (sym is)
       (one_stored (Slot.Info, from (from_text [])) _ before after (nothing_in Slot.Info set empty) more)
 
-  pub stored_all : (setting : Setting) (slot : Slot) (discards : Bool)
+  pub stored_all : (slot : Slot) (discards : Bool)
       (start first second_stored third_stored lent : List Stored)
       (tied : Tied) → start ≡ [] → AddsStored draft ((slot, from_hand main) ∷ []) start first
-      → AddsStored draft (query_stored setting draft.replaced) first second_stored
+      → AddsStored draft (query_stored draft.replaced) first second_stored
       → AddsStored draft (info_stored discards) second_stored third_stored → lent ≡ third_stored
       → Stores draft.tied.cell draft.tied.ties lent tied
-      → StoresAll draft ((slot, from_hand main) ∷ query_stored setting draft.replaced ++ info_stored discards) tied
-  stored_all setting slot discards start first second_stored third_stored lent tied none text query info same =
+      → StoresAll draft ((slot, from_hand main) ∷ query_stored draft.replaced ++ info_stored discards) tied
+  stored_all slot discards start first second_stored third_stored lent tied none text query info same =
       all_stored _ lent tied
       (subst (AddsStored draft _ []) (sym same)
-      (more_stored ((slot, from_hand main) ∷ []) (query_stored setting draft.replaced ++ info_stored discards) []
+      (more_stored ((slot, from_hand main) ∷ []) (query_stored draft.replaced ++ info_stored discards) []
       first
       third_stored
       (subst (λ start. AddsStored draft ((slot, from_hand main) ∷ []) start first) none text)
-      (more_stored (query_stored setting draft.replaced) (info_stored discards) first second_stored third_stored query
+      (more_stored (query_stored draft.replaced) (info_stored discards) first second_stored third_stored query
       info)))
 
 -- ---- ends behind what is stored
@@ -206,7 +173,7 @@ module _ (task : Task) (draft : Draft) (before after : List Applied) where
 
   pub left_led : (tied : Tied)
       → StoresAll draft
-      ((Slot.Text, from_hand main) ∷ query_stored task.setting draft.replaced ++ info_stored task.flags.now.discard)
+      ((Slot.Text, from_hand main) ∷ query_stored draft.replaced ++ info_stored task.flags.now.discard)
       tied
       → after ≡ before ++ record {
         tied = tied;
@@ -229,7 +196,7 @@ module _ (task : Task) (draft : Draft) (before after : List Applied) where
 
   abbrev sent_stored : Bool → Frame → Plan Made
   sent_stored own frame =
-      store ((Slot.Location, from_hand main) ∷ query_stored task.setting draft.replaced) (done (sent_end own frame))
+      store ((Slot.Location, from_hand main) ∷ query_stored draft.replaced) (done (sent_end own frame))
 
   sent_by : (own : Bool) (frame : Frame) (wrong : Bool)
       → (task.setting.followed && not (stops task.flags.now)) ≡ wrong
@@ -249,7 +216,7 @@ module _ (task : Task) (draft : Draft) (before after : List Applied) where
 
   pub sent_led : (own : Bool) (tied : Tied) → (task.setting.followed && not (stops task.flags.now)) ≡ false
       → StoresAll draft
-      ((Slot.Location, from_hand main) ∷ query_stored task.setting draft.replaced ++ info_stored false) tied
+      ((Slot.Location, from_hand main) ∷ query_stored draft.replaced ++ info_stored false) tied
       → after ≡ before ++ record {
         tied = tied;
         made =
@@ -261,7 +228,7 @@ module _ (task : Task) (draft : Draft) (before after : List Applied) where
             };
       } ∷ [] → AddsLed task (sent_to own) draft before after
   sent_led own tied is stores more =
-      stored_led (sent_to own) ((Slot.Location, from_hand main) ∷ query_stored task.setting draft.replaced) tied
+      stored_led (sent_to own) ((Slot.Location, from_hand main) ∷ query_stored draft.replaced) tied
       (record {
         substituted = false;
         replaced = draft.replaced;
@@ -270,5 +237,5 @@ module _ (task : Task) (draft : Draft) (before after : List Applied) where
       })
       (sent_end own)
       (subst (λ list. StoresAll draft ((Slot.Location, from_hand main) ∷ list) tied)
-      (append-nil (query_stored task.setting draft.replaced)) stores)
+      (append-nil (query_stored draft.replaced)) stores)
       (λ frame. sent_by own frame false is) (λ frame. refl) more

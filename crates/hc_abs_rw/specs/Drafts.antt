@@ -129,7 +129,7 @@ AddsOn task plan draft = AddsBy task (λ way. Sits (on_way draft way)) (by_task 
 -- ---- where a text leads
 
 abbrev pub left_here : Leads
-left_here frame flags setting replaced = left_plan flags setting replaced
+left_here frame flags setting replaced = left_plan flags replaced
 
 abbrev pub sent_to : Bool → Leads
 sent_to own frame flags setting replaced = sent_plan flags setting replaced (front_by own frame.caller)
@@ -139,7 +139,7 @@ outside_as reason frame flags setting replaced = nothing_made (outside reason)
 
 abbrev pub own_left : Leads
 own_left frame flags setting replaced =
-    make main (λ text also. own_rest frame flags setting replaced text) main main (left_plan flags setting replaced)
+    make main (λ text also. own_rest frame flags setting replaced text) main main (left_plan flags replaced)
 
 -- Where the text is a URL of the server's own.
 abbrev pub AddsOwn : Task → Draft → Option Way → List Applied → List Applied → Type 0

@@ -4,11 +4,10 @@ ghost use Rattle.std.specs.Prelude.{◌≡◌, false};
 use hc_model::Reason;
 use hc_plan::Tied;
 
-/// Whether a rule follows in the list, and whether a rule replaced the query before.
+/// Whether a rule follows in the list.
 #[derive(Clone, Copy)]
 pub struct Setting {
     pub followed: bool,
-    pub replaced: bool,
 }
 
 /// What follows an attempt.

@@ -9,7 +9,7 @@ ghost use Rattle.hc_plan.specs.Plan.{from_hand};
 ghost use Rattle.hc_rw_eval.specs.Substitutions.{stops};
 
 use crate::apply::{Applied, Made, Next, Setting};
-use crate::draft::{Draft, Task, old_query, untested};
+use crate::draft::{Draft, Task, untested};
 use hc_base::NoMemory;
 use hc_cells::Slot;
 use hc_dfa::single;
@@ -56,7 +56,7 @@ pub(crate) fn sent(
         replaced: draft.replaced,
         next,
     };
-    let tied = stored(alloc, task.setting, draft, Slot::Location, false)?;
+    let tied = stored(alloc, draft, Slot::Location, false)?;
     found.push(Applied { tied, made })?;
     Ok(())
 }
@@ -83,25 +83,19 @@ pub(crate) fn left(
         replaced: draft.replaced,
         next: Next::GoesOn,
     };
-    let tied = stored(alloc, task.setting, draft, Slot::Text, task.flags.discard)?;
+    let tied = stored(alloc, draft, Slot::Text, task.flags.discard)?;
     found.push(Applied { tied, made })?;
     Ok(())
 }
 
 /// What is left where a text is stored in a slot, and its query. DPI drops the path information.
-fn stored(
-    alloc: Global,
-    setting: Setting,
-    draft: Draft<'_, '_>,
-    slot: Slot,
-    discards: bool,
-) -> Result<Tied, NoMemory>
+fn stored(alloc: Global, draft: Draft<'_, '_>, slot: Slot, discards: bool) -> Result<Tied, NoMemory>
     ensures { IfOk result (StoresAll draft.entry
-        ((slot, from_hand main) ∷ query_stored setting draft.entry.replaced ++ info_stored discards)) }
+        ((slot, from_hand main) ∷ query_stored draft.entry.replaced ++ info_stored discards)) }
 {
     let mut stored = Vec::new(alloc);
     push_text(alloc, &draft, slot, &mut stored)?;
-    push_query(alloc, setting, &draft, &mut stored)?;
+    push_query(alloc, &draft, &mut stored)?;
     push_info(alloc, discards, &mut stored)?;
     let Draft { tied, .. } = draft;
     store(alloc, tied, &stored)
@@ -120,16 +114,14 @@ fn push_text(
     Ok(())
 }
 
-/// A query that takes the place of the old one; that is kept the first time.
-#[tactic(auto, using(crate::proofs::Stored::query_again, crate::proofs::Stored::query_first))]
+/// A query that takes the place of the old one.
+#[tactic(auto, using(crate::proofs::Stored::query_replaced))]
 fn push_query(
     alloc: Global,
-    setting: Setting,
     draft: &Draft<'_, '_>,
     stored: &mut Vec<Stored>,
 ) -> Result<(), NoMemory>
-    ensures { OnOk result (AddsStored draft.now (query_stored setting draft.now.replaced) stored.old.items
-        stored.new.items) }
+    ensures { OnOk result (AddsStored draft.now (query_stored draft.now.replaced) stored.old.items stored.new.items) }
 {
     if !draft.replaced {
         return Ok(());
@@ -137,15 +129,6 @@ fn push_query(
     let set = untested(alloc, &draft.tied.cell, draft.query)?;
     stored.push(Stored {
         slot: Slot::Query,
-        set,
-    })?;
-    if setting.replaced {
-        return Ok(());
-    }
-    let query = old_query(alloc)?;
-    let set = untested(alloc, &draft.tied.cell, &query)?;
-    stored.push(Stored {
-        slot: Slot::FirstQuery,
         set,
     })?;
     Ok(())

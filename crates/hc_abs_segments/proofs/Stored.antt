@@ -230,29 +230,26 @@ module _ (frame : Frame) where
   -- ---- the substitution
 
   module _ (flags : Flags) (setting : Setting) where
-    others_with : (replaced before : Bool) (info : List (Slot × Stored)) → AreOthers info
-        → AreOthers (query_stored (record { followed = setting.followed; replaced = before }) replaced ++ info)
-    others_with false before info is = is
-    others_with true true info is = (refl, is)
-    others_with true false info is = (refl, (refl, is))
+    others_with : (replaced : Bool) (info : List (Slot × Stored)) → AreOthers info
+        → AreOthers (query_stored replaced ++ info)
+    others_with false info is = is
+    others_with true info is = (refl, is)
 
     info_others : (discard : Bool) → AreOthers (info_stored discard)
     info_others true = (refl, tt)
     info_others false = tt
 
-    left_leaves : (replaced : Bool) → Leaves Any (left_plan flags setting replaced)
+    left_leaves : (replaced : Bool) → Leaves Any (left_plan flags replaced)
     left_leaves replaced =
-        ((refl, others_with replaced setting.replaced (info_stored flags.discard) (info_others flags.discard)), tt)
+        ((refl, others_with replaced (info_stored flags.discard) (info_others flags.discard)), tt)
 
-    query_others : (replaced before : Bool)
-        → AreOthers (query_stored (record { followed = setting.followed; replaced = before }) replaced)
-    query_others false before = tt
-    query_others true true = (refl, tt)
-    query_others true false = (refl, (refl, tt))
+    query_others : (replaced : Bool) → AreOthers (query_stored replaced)
+    query_others false = tt
+    query_others true = (refl, tt)
 
     sent_leaves : (replaced : Bool) (front : List ℕ) → Leaves Any (sent_plan flags setting replaced front)
     sent_leaves replaced front =
-        either Any (setting.followed && not (stops flags)) _ _ tt ((refl, query_others replaced setting.replaced), tt)
+        either Any (setting.followed && not (stops flags)) _ _ tt ((refl, query_others replaced), tt)
 
     module _ (replaced : Bool) where
       own_leaves : Leaves Any (own_plan frame flags setting replaced)
@@ -349,9 +346,9 @@ module _ (frame : Frame) where
   list_leaves skipped [] so_far = tt
   list_leaves (suc skipped) (rule ∷ rules) so_far = list_leaves skipped rules so_far
   list_leaves zero (rule ∷ rules) so_far =
-      leaves_then Any Stops (attempt_plan frame rule (setting_of rules so_far) so_far.decisions)
+      leaves_then Any Stops (attempt_plan frame rule (setting_of rules) so_far.decisions)
       (behind_plan (λ skipped so_far. list_plan frame skipped rules so_far) rule rules so_far)
-      (attempt_leaves rule (setting_of rules so_far) so_far.decisions)
+      (attempt_leaves rule (setting_of rules) so_far.decisions)
       (λ attempted is.
       let left = after so_far attempted in
       unless_leaves left attempted.made.next _

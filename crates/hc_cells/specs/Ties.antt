@@ -3,10 +3,11 @@ use Rattle.std.specs.Prelude.{List, [], ◌∷◌, ◌++◌, Bool, false, ◌||�
 use Rattle.std.specs.List.{list_any}
 use Rattle.hc_cells.specs.Slots.{same_slot}
 use Rattle.hc_cells.specs.declared.slot.Slot.{Slot}
-use Rattle.hc_cells.specs.declared.slot.Slot.TheVariants.{Origin, Path, Text, Name}
+use Rattle.hc_cells.specs.declared.slot.Slot.TheVariants.{Origin, Path, Text, Name, Query, FirstQuery}
 use Rattle.hc_cells.specs.declared.ties.Ties.{Ties}
 
 -- Origin, path, text and name are one chain: what follows the text and the path in it, and what comes before them.
+-- The query and the first query are a pair.
 abbrev pub behind_text : Ties → List Slot
 behind_text ties = if ties.text_name then Name ∷ [] else []
 
@@ -25,6 +26,8 @@ tied_to ties Origin = if ties.origin_path then Path ∷ behind_path ties else []
 tied_to ties Path = before_path ties ++ behind_path ties
 tied_to ties Text = before_text ties ++ behind_text ties
 tied_to ties Name = if ties.text_name then Text ∷ before_text ties else []
+tied_to ties Query = if ties.query_first then FirstQuery ∷ [] else []
+tied_to ties FirstQuery = if ties.query_first then Query ∷ [] else []
 tied_to ties other = []
 
 abbrev pub in_slots : List Slot → Slot → Bool
@@ -43,4 +46,6 @@ untied Origin ties = record ties { origin_path = false }
 untied Path ties = record ties { origin_path = false; text_path = false }
 untied Text ties = record ties { text_path = false; text_name = false }
 untied Name ties = record ties { text_name = false }
+untied Query ties = record ties { query_first = false }
+untied FirstQuery ties = record ties { query_first = false }
 untied other ties = ties

@@ -35,7 +35,7 @@ pub enum Slot {
     Env(Text),
     /// The header of this name, in lower case: `Slot::header` makes it.
     Header(Text),
-    /// The query before a rule first replaced it.
+    /// The query that the request began with.
     FirstQuery,
     /// Where a redirect leads, without what is added in front and without the query.
     Location,

@@ -5,12 +5,15 @@ use crate::Slot;
 use hc_base::{List, NoMemory};
 use std::alloc::Global;
 
-/// Slots that hold one value: those of each pair that is named, and those of a chain of pairs.
+/// Slots that hold one value: those of each pair that is named, and those of a chain of pairs. Origin, path, text and
+/// name are one chain; the query and the first query are a pair.
 #[derive(Clone, Copy, PartialEq, Eq)]
 pub struct Ties {
     pub origin_path: bool,
     pub text_path: bool,
     pub text_name: bool,
+    /// The query, and the one that the request began with.
+    pub query_first: bool,
 }
 
 impl Ties {
@@ -36,6 +39,8 @@ impl Ties {
                 slots.push(Slot::Text)?;
                 self.push_before_text(&mut slots)?;
             }
+            Slot::Query if self.query_first => slots.push(Slot::FirstQuery)?,
+            Slot::FirstQuery if self.query_first => slots.push(Slot::Query)?,
             _ => {}
         }
         Ok(slots)
@@ -86,23 +91,25 @@ impl Ties {
         match slot {
             Slot::Origin => Ties {
                 origin_path: false,
-                text_path: self.text_path,
-                text_name: self.text_name,
+                ..self
             },
             Slot::Path => Ties {
                 origin_path: false,
                 text_path: false,
-                text_name: self.text_name,
+                ..self
             },
             Slot::Text => Ties {
-                origin_path: self.origin_path,
                 text_path: false,
                 text_name: false,
+                ..self
             },
             Slot::Name => Ties {
-                origin_path: self.origin_path,
-                text_path: self.text_path,
                 text_name: false,
+                ..self
+            },
+            Slot::Query | Slot::FirstQuery => Ties {
+                query_first: false,
+                ..self
             },
             _ => self,
         }

@@ -42,6 +42,12 @@ static ROWS: &[Row] = &[
     },
     Row {
         how: How::Server,
+        rules: "RewriteCond %{QUERY_STRING} a\nRewriteRule ^ /n?x\n",
+        sets: &[("text", "^/t$"), ("query", "^[ab]$")],
+        branches: "c1+ r2+ on new text new query, text /n, query x, first a\nc1- r2- on, text /t, query b\n",
+    },
+    Row {
+        how: How::Server,
         rules: "RewriteRule ^/a$ - [DPI,QSD]\n",
         sets: &[("text", "^/a$"), ("info", "^/i$"), ("query", "^q$")],
         branches: "r1+ on, text /a, query q, info /i\n",

@@ -6,7 +6,7 @@ use crate::shown::{shown_branches, slot_named};
 use hc_abs_rw::{Around, Frame, RuleBranch, Setting, rule_branches};
 use hc_addr::Addr;
 use hc_base::{Counter, Fault, List, NoMemory, Text};
-use hc_cells::{Cell, Ties, restrict};
+use hc_cells::{Cell, Slot, Ties, restrict, with};
 use hc_config::{BuildFault, build};
 use hc_dfa::Dfa;
 use hc_include::flatten;
@@ -164,12 +164,25 @@ pub fn rules_of<'c>(config: &'c Config, row: &Row) -> &'c [Rule] {
     }
 }
 
+// The first queries are the queries.
+fn with_first(alloc: Global, cell: Cell) -> Result<Cell, NoMemory> {
+    let Some(set) = cell.set_of(&Slot::Query) else {
+        return Ok(cell);
+    };
+    with(alloc, &cell, &Slot::FirstQuery, set)
+}
+
 pub fn before_of(rt: &impl Abort, alloc: Global, row: &Row) -> Result<Tied, NoMemory> {
-    let cell = cell_of(rt, alloc, row)?;
+    let mut cell = cell_of(rt, alloc, row)?;
+    let query_first = !matches!(row.how, How::Replaced);
+    if query_first {
+        cell = with_first(alloc, cell)?;
+    }
     let ties = Ties {
         origin_path: matches!(row.how, How::Chained),
         text_path: matches!(row.how, How::Tied | How::Chained),
         text_name: matches!(row.how, How::Chained),
+        query_first,
     };
     Ok(Tied { cell, ties })
 }
@@ -215,7 +228,6 @@ fn tried(
 ) -> Result<Vec<RuleBranch>, NoMemory> {
     let setting = Setting {
         followed: matches!(how, How::Followed),
-        replaced: matches!(how, How::Replaced),
     };
     let none = List::new(alloc);
     rule_branches(alloc, frame, rule, setting, before, &none)

@@ -3,7 +3,7 @@
 use hc_abs_pass::{Listed, Stop, Walked};
 use hc_abs_rw::{Next, RuleBranch};
 use hc_base::{NoMemory, Text};
-use hc_cells::{Cell, Slot};
+use hc_cells::Slot;
 use hc_dfa::{Dfa, first_members};
 use hc_model::{Decision, Kind};
 use hc_plan::Tied;
@@ -47,10 +47,13 @@ fn push_set(alloc: Global, shown: &mut Vec<u8>, set: &Dfa) -> Result<(), NoMemor
     Ok(())
 }
 
-// The sets of the slots that have one.
-fn push_cell(alloc: Global, shown: &mut Vec<u8>, cell: &Cell) -> Result<(), NoMemory> {
-    for name in SLOTS {
-        if let Some(set) = cell.set_of(&slot_named(alloc, name)?) {
+// The sets of the slots that have one; that of the first query where it isn't the query's.
+fn push_cell(alloc: Global, shown: &mut Vec<u8>, tied: &Tied) -> Result<(), NoMemory> {
+    for &name in SLOTS {
+        if tied.ties.query_first && name == "first" {
+            continue;
+        }
+        if let Some(set) = tied.cell.set_of(&slot_named(alloc, name)?) {
             shown.extend_from_slice(b", ")?;
             shown.extend_from_slice(name.as_bytes())?;
             push_set(alloc, shown, set)?;
@@ -142,7 +145,7 @@ fn push_left(
     if replaced {
         shown.extend_from_slice(b" new query")?;
     }
-    push_cell(alloc, shown, &tied.cell)?;
+    push_cell(alloc, shown, tied)?;
     if tied.ties.text_path {
         shown.extend_from_slice(b", tied")?;
     }

@@ -10,6 +10,7 @@ pub enum At {
     Origin,
     Path,
     Query,
+    First,
     Text,
     Name,
     Info,
@@ -22,6 +23,7 @@ pub fn slot_at(alloc: Global, at: At) -> Result<Slot, NoMemory> {
         At::Origin => Ok(Slot::Origin),
         At::Path => Ok(Slot::Path),
         At::Query => Ok(Slot::Query),
+        At::First => Ok(Slot::FirstQuery),
         At::Text => Ok(Slot::Text),
         At::Name => Ok(Slot::Name),
         At::Info => Ok(Slot::Info),
@@ -159,42 +161,47 @@ fn a_cell_is_empty_where_one_slot_is(rt: HostRuntime) -> Result<(), NoMemory> {
     Ok(())
 }
 
-// Ties (origin and path, text and path, text and name), a slot, and the slots that hold one value with it.
-static TIES: &[([bool; 3], At, &[At])] = &[
-    ([true, true, true], At::Query, &[]),
+// Ties (origin and path, text and path, text and name, query and first query), a slot, and the slots that hold one value
+// with it.
+static TIES: &[([bool; 4], At, &[At])] = &[
+    ([true, true, true, false], At::Query, &[]),
+    ([true, true, true, false], At::First, &[]),
+    ([false, false, false, true], At::Query, &[At::First]),
+    ([true, true, true, true], At::First, &[At::Query]),
     (
-        [true, true, true],
+        [true, true, true, true],
         At::Origin,
         &[At::Path, At::Text, At::Name],
     ),
     (
-        [true, true, true],
+        [true, true, true, true],
         At::Path,
         &[At::Origin, At::Text, At::Name],
     ),
     (
-        [true, true, true],
+        [true, true, true, true],
         At::Text,
         &[At::Path, At::Origin, At::Name],
     ),
     (
-        [true, true, true],
+        [true, true, true, true],
         At::Name,
         &[At::Text, At::Path, At::Origin],
     ),
-    ([true, false, true], At::Path, &[At::Origin]),
-    ([true, false, true], At::Text, &[At::Name]),
-    ([false, true, false], At::Origin, &[]),
-    ([false, true, false], At::Path, &[At::Text]),
+    ([true, false, true, true], At::Path, &[At::Origin]),
+    ([true, false, true, true], At::Text, &[At::Name]),
+    ([false, true, false, true], At::Origin, &[]),
+    ([false, true, false, true], At::Path, &[At::Text]),
 ];
 
 #[test]
-fn ties_are_a_chain(rt: HostRuntime) -> Result<(), NoMemory> {
-    for &([origin_path, text_path, text_name], at, slots) in TIES {
+fn ties_are_a_chain_and_a_pair(rt: HostRuntime) -> Result<(), NoMemory> {
+    for &([origin_path, text_path, text_name, query_first], at, slots) in TIES {
         let ties = Ties {
             origin_path,
             text_path,
             text_name,
+            query_first,
         };
         let tied = ties.tied_to(rt.alloc(), &slot_at(rt.alloc(), at)?)?;
         assert!(rt; tied.as_slice().len() == slots.len());

@@ -174,6 +174,7 @@ fn way_of(
         origin_path: false,
         text_path: row.tied,
         text_name: false,
+        query_first: false,
     };
     let set = found_in(rt, alloc, row.test)?;
     way_on_side(alloc, cell, ties, hand, Test { set: &set, held })
