@@ -26,7 +26,7 @@ use Rattle.hc_serve.specs.declared.stage.Placed.{Placed}
 use Rattle.hc_serve.specs.declared.stage.Placed.TheVariants as placed
 use Rattle.hc_template.specs.Filled.{filled}
 use Rattle.hc_vhost.specs.Servers.{servers_of}
-use Rattle.hc_abs_segments.specs.Agreeing.{IsAbsolute}
+use Rattle.hc_absolute.specs.Absolute.{IsAbsolute}
 use Rattle.hc_abs_segments.proofs.Merged.{begins_more}
 use Rattle.hc_abs_segments.proofs.Once.{Any, AreOnce, Gives, gives_any, gives_either, gives_then}
 

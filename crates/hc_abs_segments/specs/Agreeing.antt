@@ -1,14 +1,12 @@
 -- Where the plan of a segment ends, and where the segment of a request leads.
 use Rattle.std.specs.Prelude.{◌≡◌, ℕ, ◌+◌, nat_le, List, [], ◌++◌, Bool, true, if◌then◌else◌, Option, Some}
 use Rattle.std.specs.List.{AllByRecursion}
-use Rattle.hc_alias.specs.Filling.{filling_with}
 use Rattle.hc_alias.specs.Mapping.{maps_of}
 use Rattle.hc_base.specs.Paths.{begins_with_slash}
 use Rattle.hc_merge.specs.Order.{ordered_sections}
 use Rattle.hc_merge.specs.Overriding.{Files_at}
 use Rattle.hc_model.specs.declared.authorization.ReqTree.{ReqTree}
 use Rattle.hc_model.specs.declared.event.Decision.{Decision}
-use Rattle.hc_model.specs.declared.mapping.Alias.{Alias}
 use Rattle.hc_model.specs.declared.outcome.LimitKind.TheVariants.{Rounds}
 use Rattle.hc_model.specs.declared.outcome.Outcome.{Outcome}
 use Rattle.hc_model.specs.declared.outcome.Outcome.TheVariants as outcome
@@ -30,8 +28,8 @@ use Rattle.hc_serve.specs.declared.stage.Pass.{Pass}
 use Rattle.hc_steps.specs.Run as steps
 use Rattle.hc_steps.specs.Run.{Run, Way, goes_on, is_over}
 use Rattle.hc_steps.specs.Step.{Path, Shown}
-use Rattle.hc_template.specs.Filled.{filled}
 use Rattle.hc_vhost.specs.Servers.{servers_of}
+use Rattle.hc_absolute.specs.Absolute.{IsAbsolute}
 use Rattle.hc_abs_rw.specs.Frames.{common}
 use Rattle.hc_abs_rw.specs.Lists.{SoFar}
 use Rattle.hc_abs_rw.specs.Standing.{Leads, Meets, decisions_in, rewritten_so}
@@ -58,10 +56,6 @@ ground_of site last shown levels merges names = record {
 -- No pass may follow this one.
 abbrev pub is_last_pass : Site → Pass → Bool
 is_last_pass site pass = nat_le (most_passes site.config site.host) (pass.number + 1)
-
--- What the alias names begins with a slash, whatever its groups hold.
-abbrev pub IsAbsolute : Alias → Type 0
-IsAbsolute alias = (groups : ℕ → List ℕ) → begins_with_slash (filled (filling_with groups) alias.to) ≡ true
 
 -- The names of the world are listed, and its sections are tested where they merge a setting. The document root and the
 -- targets of aliases begin with a slash, as the directives want it.

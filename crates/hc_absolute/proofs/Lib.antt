@@ -1,0 +1,4 @@
+pub mod Targets
+pub mod Standing
+pub mod Judging
+pub mod Built
