@@ -1,10 +1,9 @@
 //! A file name before its walk: slashes beside each other are one, and a segment of dots is outside.
-ghost use Rattle.std.specs.Prelude.{◌≡◌, ◌≤◌, ◌∷◌, [], ℕ, IfOk, OnOk, List, Some};
+ghost use Rattle.std.specs.Prelude.{◌≡◌, ◌≤◌, [], ℕ, IfOk, OnOk, List, Some};
 ghost use Rattle.hc_abs_pass.specs.Mapping.{named as in_hand};
 ghost use Rattle.hc_abs_rw.specs.RuleBranches.{states_of};
 ghost use Rattle.hc_dfa.specs.Automata.{accepts};
 ghost use Rattle.hc_plan.specs.Plan.{done};
-ghost use Rattle.hc_plan.specs.declared.hand.Element.TheVariants as element;
 ghost use Rattle.hc_abs_map.specs.Along.{Adds, AreNamed};
 ghost use Rattle.hc_abs_map.specs.Ends.{AddsOver, cell_in};
 ghost use Rattle.hc_abs_map.specs.Mapped.{AreTidied, MappedFits};
@@ -13,7 +12,7 @@ ghost use Rattle.hc_abs_map.specs.Names.{GoesUndotted, IsTidied, MeetsDoubled, n
 use crate::dots::{dotted, doubled};
 use crate::mapped::Mapped;
 use hc_abs_pass::{Left, Named};
-use hc_abs_rw::{Ways, fit, ways_of};
+use hc_abs_rw::{Ways, fit, free, ways_of};
 use hc_base::NoMemory;
 use hc_cells::Ties;
 use hc_dfa::{Dfa, Keep, least, product};
@@ -64,15 +63,6 @@ pub(crate) fn tidied(alloc: Global, named: Named) -> Result<Named, NoMemory>
         text,
         side: None,
     })
-}
-
-/// Any text of a set.
-fn free(alloc: Global, set: Dfa) -> Result<Vec<Element>, NoMemory>
-    ensures { IfOk result (λ made. made.items ≡ element.Free set ∷ []) }
-{
-    let mut elements = Vec::new(alloc);
-    elements.push(Element::Free(set))?;
-    Ok(elements)
 }
 
 /// Whether two slashes stand beside each other in a text of the set.

@@ -108,8 +108,8 @@ impl<'t, 'q> Draft<'t, 'q> {
     }
 }
 
-/// Any text of a set.
-pub(crate) fn free(alloc: Global, set: Dfa) -> Result<Vec<Element>, NoMemory>
+/// Any text of a set, as an element that no test narrows.
+pub fn free(alloc: Global, set: Dfa) -> Result<Vec<Element>, NoMemory>
     ensures { IfOk result (λ made. made.items ≡ element.Free set ∷ []) }
 {
     let mut elements = Vec::new(alloc);

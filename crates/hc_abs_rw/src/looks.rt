@@ -45,7 +45,11 @@ pub(crate) fn look_up<S: Surroundings>(
 
 /// The text that elements joined are, where it is known.
 #[tactic(auto, using(crate::proofs::Keyed::known_as, crate::proofs::Keyed::sole_none, crate::proofs::Keyed::open_none))]
-fn known_text(alloc: Global, cell: &Cell, elements: &[Element]) -> Result<Option<Text>, NoMemory>
+pub fn known_text(
+    alloc: Global,
+    cell: &Cell,
+    elements: &[Element],
+) -> Result<Option<Text>, NoMemory>
     ensures { IfOk result (IsKnownText cell.now elements.now) }
 {
     match shape_of(alloc, cell, elements)? {

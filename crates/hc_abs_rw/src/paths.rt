@@ -138,7 +138,7 @@ fn path_sent(
 }
 
 /// RewriteBase, which is of bytes; nothing without it.
-fn base_of<'f>(engine: &Engine<'f>) -> &'f [u8]
+pub fn base_of<'f>(engine: &Engine<'f>) -> &'f [u8]
     ensures { IsText (unwrap_or (option_map (λ base. base.now) engine.now.base) []) }
 {
     match engine.base {

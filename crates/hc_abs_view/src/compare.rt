@@ -1,6 +1,6 @@
 //! Whether two texts are equal, over cells.
 ghost use Rattle.std.specs.Prelude.{◌≡◌, IfOk, true, false};
-ghost use Rattle.hc_abs_rw.specs.Looks.{IsKnownText, May};
+ghost use Rattle.hc_abs_rw.specs.Looks.{May};
 ghost use Rattle.hc_abs_view.specs.Jumping.{asked_ways};
 ghost use Rattle.hc_abs_view.specs.Seen.{AreApart, AreCompared, AreComparedBy, AreSides, HasOther, In, IsAnswer};
 ghost use Rattle.hc_abs_view.specs.Seen.{IsTestedByText, MayAgree, cell_if, picked};
@@ -14,11 +14,12 @@ ghost use Rattle.hc_plan.specs.Texts.{IsSetOf};
 use crate::elements::elements_of;
 use crate::scene::Scene;
 use crate::sides::{Sides, tested_sides};
+use hc_abs_rw::known_text;
 use hc_base::{NoMemory, Text};
 use hc_cells::Cell;
 use hc_dfa::{Dfa, Keep, least, product, single};
 use hc_model::Template;
-use hc_plan::{Element, Hand, Shape, Tied, hand_set, shape_of};
+use hc_plan::{Element, Hand, Tied, hand_set};
 use std::alloc::Global;
 
 /// The sides of a comparison. Beside a text that is known now, the other is tested by it, first the left one.
@@ -79,18 +80,6 @@ fn unless_known(
             let sides = apart_sides(alloc, one, other, negated, tied)?;
             Ok(sides)
         }
-    }
-}
-
-/// The text that elements joined are, where it is known.
-#[tactic(auto, using(hc_abs_rw::proofs::Keyed::known_as))]
-fn known_text(alloc: Global, cell: &Cell, elements: &[Element]) -> Result<Option<Text>, NoMemory>
-    ensures { IfOk result (IsKnownText cell.now elements.now) }
-{
-    match shape_of(alloc, cell, elements)? {
-        Shape::Known(text) => Ok(Some(text)),
-        Shape::Sole(_) => Ok(None),
-        Shape::Open => Ok(None),
     }
 }
 

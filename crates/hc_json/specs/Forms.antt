@@ -1,19 +1,15 @@
 -- What the fields of an `ask` are read as. Our own choice.
-use Rattle.std.specs.Prelude.{ℕ, ◌==◌, List, [], ◌∷◌, length, Bool, true, false, ◌&&◌, ◌||◌, not}
-use Rattle.std.specs.Prelude.{nat_le, nat_lt, Option, Some, None, if◌then◌else◌, option_and_then, option_map}
+use Rattle.std.specs.Prelude.{ℕ, List, [], ◌∷◌, Bool, true, false, ◌&&◌, not}
+use Rattle.std.specs.Prelude.{nat_le, Option, Some, None, if◌then◌else◌, option_and_then, option_map}
 use Rattle.std.specs.Prelude.{unwrap_or, codes}
-use Rattle.std.specs.Char.{is_ascii_alphanumeric, is_ascii_uppercase}
-use Rattle.std.specs.List.{list_all}
 use Rattle.std.specs.BTreeSet.{contains, insert_key}
 use Rattle.std.specs.Cmp.Lexicographic.{slice_cmp}
 use Rattle.std.specs.Ordering.{nat_cmp}
-use Rattle.std.specs.Str.{bytes_eq, str_eq_ignore_ascii_case, str_to_ascii_lowercase}
+use Rattle.std.specs.Str.{bytes_eq, str_to_ascii_lowercase}
 use Rattle.serde_json.specs.Data.{Data, Members, no_members, member}
 use Rattle.serde_json.specs.Find.{as_number, as_object, as_str, as_u64}
 use Rattle.hc_addr.specs.Addresses.{addr_of}
 use Rattle.hc_addr.specs.declared.addr.Addr.{Addr}
-use Rattle.hc_base.specs.Bytes.{dash, dot, hash, space, tilde, underscore}
-use Rattle.hc_base.specs.Paths.{begins_with_slash}
 use Rattle.hc_model.specs.declared.request.Header.{Header}
 use Rattle.hc_model.specs.declared.request.Scheme.{Scheme}
 use Rattle.hc_model.specs.declared.request.Scheme.TheVariants.{Http, Https}

@@ -1,7 +1,7 @@
-ghost use Rattle.std.specs.Prelude.{◌≡◌, ◌<◌, ◌||◌, ◌==◌, IfOk};
+ghost use Rattle.std.specs.Prelude.{◌<◌, ◌||◌, ◌==◌, IfOk};
 ghost use Rattle.hc_dfa.specs.Automata.{accepts, states};
 ghost use Rattle.hc_pat_lang.specs.Sets.{AcceptsOnly};
-ghost use Rattle.hc_rw_sets.specs.Cuts.{cut_graph, keeps, part_at};
+ghost use Rattle.hc_rw_sets.specs.Cuts.{cut_graph, part_at};
 ghost use Rattle.hc_rw_sets.specs.Made.{MadeOf};
 ghost use Rattle.std.proofs.Common.{rules};
 

@@ -11,7 +11,7 @@
 //! that it had loaded (`fixed`, `kept`); with an answer, what it counts of bytes has risen by no more than the texts
 //! that the way looks at (`counted`, with `looked` in specs/Costs.antt). Each call counts one (`evals`).
 //! `rules_at`, `maps_at` and `engine_at` give what of mod_rewrite is in force at a server, `caller_at` is a request there,
-//! and `most_passes` how many passes it has at most.
+//! and `most_passes` how many passes it has at most; `needs_of` gives the places of the Require lines that are in force.
 //! `laws::answers_agree`: worlds that agree on what the answer of the one rests on give the same run.
 //! `laws::passes_are_segments`: passes are segments (specs/Segments.antt), one after another, each of one round of a
 //! list of rules at most.
@@ -37,5 +37,6 @@ mod way;
 
 pub use answer::{Answer, LONGEST_TRAIL, WholeRun, evaluate, whole_run};
 pub use inherited::{Maps, engine_at, maps_at, rules_at};
+pub use needs::needs_of;
 pub use site::{caller_at, most_passes};
 pub use stage::{Ended, Here, Named, Pass, Placed, Restarted, Walked};

@@ -8,7 +8,7 @@ use hc_model::{Join, Merging, ReqTree, Requirement};
 use std::alloc::Global;
 
 /// The places of the Require lines that are in force, in the order in which they stand.
-pub(crate) fn needs_of(alloc: Global, require: &Requirement) -> Result<List<Place>, NoMemory>
+pub fn needs_of(alloc: Global, require: &Requirement) -> Result<List<Place>, NoMemory>
     ensures { IfOk result (λ places. places ≡ needs_of require.now) }
 {
     places_of(alloc, require.joins())
