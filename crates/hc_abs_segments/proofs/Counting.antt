@@ -46,7 +46,7 @@ use Rattle.hc_steps.specs.Walking.{walk as followed}
 use Rattle.hc_abs_segments.specs.Counting.{Follows, SegmentsCount}
 use Rattle.hc_abs_segments.proofs.Once.{Any, Gives, gives_any, gives_either, gives_run, gives_then}
 
-gives_ending : {E F A : Type 0} (end : E → F) (P : A → Type 0) (step : Step E A) → Gives P step
+pub gives_ending : {E F A : Type 0} (end : E → F) (P : A → Type 0) (step : Step E A) → Gives P step
     → Gives P (ending end step)
 unfolding ending
 gives_ending end P (leaves left) is = is
@@ -55,7 +55,7 @@ gives_ending end P (say event rest) is = gives_ending end P rest is
 gives_ending end P (look read rest) is = λ shown. gives_ending end P (rest shown) (is shown)
 
 -- What is said of no value of the first step holds behind it.
-gives_behind : {E A B : Type 0} (Q : B → Type 0) (step : Step E A) (next : A → Step E B)
+pub gives_behind : {E A B : Type 0} (Q : B → Type 0) (step : Step E A) (next : A → Step E B)
     → ((left : A) → Gives Q (next left)) → Gives Q (step >>= next)
 gives_behind Q step next each = gives_then Any Q step next (gives_any step) (λ left any. each left)
 
@@ -79,47 +79,55 @@ round_gives P end site context rules over cut round left each again =
 
 -- ---- behind the rules of a directory
 
-abbrev IsNext : Here → Pass → Type 0
-IsNext here next = next.number ≡ here.named.pass.number + 1
+-- The limit allows the pass that follows.
+pub record IsNext (site : Site) (here : Here) (next : Pass) : Type 0 where
+  pub number : next.number ≡ here.named.pass.number + 1
+  pub allowed : is_last site here ≡ false
 
 restart_gives : (site : Site) (here : Here) (state : RwState) (path : List ℕ)
-    → Gives (IsNext here) (restarted_at site here state path)
+    → Gives (IsNext site here) (restarted_at site here state path)
 unfolding restarted_at
 restart_gives site here state path =
-    gives_either (IsNext here) (has_dots path) (ends (Outside DotSegment))
+    gives_either (IsNext site here) (has_dots path) (ends (Outside DotSegment))
     (if is_last site here then ends (Limit Redirects) else told (event.Restart path) (next_pass here state path)) tt
-    (gives_either (IsNext here) (is_last site here) (ends (Limit Redirects))
-    (told (event.Restart path) (next_pass here state path)) tt refl)
+    (by (is_last site here) refl)
+  where
+    by : (is : Bool) → is_last site here ≡ is → Gives (IsNext site here)
+        (if is then ends (Limit Redirects) else told (event.Restart path) (next_pass here state path))
+    by true is = tt
+    by false is = record { number = refl; allowed = is }
 
-answer_gives : (site : Site) (here : Here) (left : Option RwState) → Gives (IsNext here) (answered site here left)
+answer_gives : (site : Site) (here : Here) (left : Option RwState) → Gives (IsNext site here) (answered site here left)
 unfolding answered answered_by restarted redirected
 answer_gives site here None = tt
 answer_gives site here (Some state) =
-    gives_either (IsNext here) (bytes_eq state.text here.walk.name)
+    gives_either (IsNext site here) (bytes_eq state.text here.walk.name)
     (ends (outcome_at here.walk.kind here.walk.name state.info)) (restarted site here state) tt
     (restart_gives site here state (merge_slashes (path_for site here here.force.dir state.text)))
 
-next_gives : (site : Site) (here : Here) (left : Option RwState) → Gives (IsNext here) (finished_there site here left)
+pub next_gives : (site : Site) (here : Here) (left : Option RwState)
+    → Gives (IsNext site here) (finished_there site here left)
 unfolding finished_there
 next_gives site here left =
-    gives_behind (IsNext here) (sent_there site here left) (λ unit. answered site here left)
+    gives_behind (IsNext site here) (sent_there site here left) (λ unit. answered site here left)
     (λ unit. answer_gives site here left)
 
 module _ (site : Site) (pass : Pass) where
-  abbrev SameCount : Pass → Type 0
+  abbrev pub SameCount : Pass → Type 0
   SameCount own = (own.number ≡ pass.number) × (own.first_query ≡ pass.first_query)
 
-  abbrev HereCounts : Here → Type 0
+  abbrev pub HereCounts : Here → Type 0
   HereCounts here = SameCount here.named.pass
 
   directory_gives : (here : Here) → HereCounts here → (left : Option RwState)
       → Gives (Follows pass) (behind_directory site here left)
   unfolding behind_directory
   directory_gives here same left =
-      gives_then (IsNext here) (Follows pass) (ending (with_tree here.force.require) (finished_there site here left)) _
-      (gives_ending (with_tree here.force.require) (IsNext here) (finished_there site here left)
+      gives_then (IsNext site here) (Follows pass)
+      (ending (with_tree here.force.require) (finished_there site here left)) _
+      (gives_ending (with_tree here.force.require) (IsNext site here) (finished_there site here left)
       (next_gives site here left))
-      (λ next is. is ∙ ap (λ number. number + 1) same.0)
+      (λ next is. is.number ∙ ap (λ number. number + 1) same.0)
 
   dir_round_gives : (here : Here) → HereCounts here → (dir : List ℕ) (round : ℕ) (left : Rewritten)
       → Gives (Follows pass) (from_dir_round site here dir round left)
@@ -145,10 +153,10 @@ module _ (site : Site) (pass : Pass) where
 
   -- ---- behind the rules of the server
 
-  abbrev NamedCounts : Named → Type 0
+  abbrev pub NamedCounts : Named → Type 0
   NamedCounts own = SameCount own.pass
 
-  abbrev PlacedCounts : Placed → Type 0
+  abbrev pub PlacedCounts : Placed → Type 0
   PlacedCounts (placed.Unnamed own) = SameCount own
   PlacedCounts (placed.Named own) = NamedCounts own
 
@@ -180,15 +188,19 @@ module _ (site : Site) (pass : Pass) where
   unfolding merged without_dots
   merged_gives own same = gives_either NamedCounts (has_dots (merge_slashes own.name)) _ _ tt same
 
-  server_gives : (own : Placed) → PlacedCounts own → Gives (Follows pass) (behind_server site own)
-  unfolding behind_server reached_from
-  server_gives own is =
-      gives_then HereCounts (Follows pass) (ending (with_tree None) (reached_from site own)) (behind_sections site)
-      (gives_ending (with_tree None) HereCounts (reached_from site own)
-      (gives_then NamedCounts HereCounts (name_of site own) _ (name_gives own is)
+  pub reached_gives : (own : Placed) → PlacedCounts own → Gives HereCounts (reached_from site own)
+  unfolding reached_from
+  reached_gives own is =
+      gives_then NamedCounts HereCounts (name_of site own) _ (name_gives own is)
       (λ named same. gives_then NamedCounts HereCounts (merged named) _ (merged_gives named same)
       (λ named same. gives_then (λ (there : Walked). SameCount there.named.pass) HereCounts (walked named) _
-      (walked_gives named same) there_gives)))) sections_give
+      (walked_gives named same) there_gives))
+
+  server_gives : (own : Placed) → PlacedCounts own → Gives (Follows pass) (behind_server site own)
+  unfolding behind_server
+  server_gives own is =
+      gives_then HereCounts (Follows pass) (ending (with_tree None) (reached_from site own)) (behind_sections site)
+      (gives_ending (with_tree None) HereCounts (reached_from site own) (reached_gives own is)) sections_give
 
   left_gives : (own : Pass) → SameCount own → (text : List ℕ) (is : Bool)
       → Gives PlacedCounts (name_left site own text is)
@@ -198,7 +210,7 @@ module _ (site : Site) (pass : Pass) where
       gives_then NamedCounts PlacedCounts (named own (under_root (root_at site) text)) _
       (named_gives own same (under_root (root_at site) text)) (λ name is. is)
 
-  finished_gives : (run : Finished) → Gives PlacedCounts (finished site pass run)
+  pub finished_gives : (run : Finished) → Gives PlacedCounts (finished site pass run)
   unfolding finished text_left absolute_left path_left path_without_dots
   finished_gives run =
       let own = pass_with pass run.left.state in

@@ -16,3 +16,4 @@ pub mod Reaching
 pub mod Arriving
 pub mod Server
 pub mod Counting
+pub mod Passes

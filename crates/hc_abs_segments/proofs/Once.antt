@@ -1,6 +1,6 @@
 -- No name stands twice among the variables behind a list of rules, where none does before it.
 use Rattle.hc_abs_segments.proofs.Common.{◌≡◌, ◌∙◌, ℕ, zero, suc, List, [], ◌∷◌, Bool, true, false, ◌||◌, ◌&&◌, not}
-use Rattle.hc_abs_segments.proofs.Common.{if◌then◌else◌, Option, Some, None, refl, sym, ap, subst, true≢false, arith}
+use Rattle.hc_abs_segments.proofs.Common.{if◌then◌else◌, Option, Some, None, refl, sym, ap, subst, true≢false}
 use Rattle.hc_abs_segments.proofs.Common.{RwState, Way, goes_on, run, Shown, Step, leaves, ends, say, look}
 use Rattle.hc_abs_segments.proofs.Common.{◌>>=◌}
 use Rattle.std.specs.Prelude.{Result, Ok, Err, nat_le}
@@ -36,7 +36,6 @@ use Rattle.hc_rw_eval.specs.declared.run.Round.TheVariants.{Again, Over}
 use Rattle.hc_rw_expand.specs.Contexts.{Context}
 use Rattle.hc_rw_expand.specs.Lookups.{Looks, expanded}
 use Rattle.hc_rw_expand.specs.Values.{filling_in}
-use Rattle.hc_rw_expand.specs.Variables.{Variables, with_value}
 use Rattle.hc_rw_expand.specs.declared.groups.Matched.{Matched}
 use Rattle.hc_steps.specs.Step.{Shows, in_order}
 use Rattle.hc_target.specs.Urls.{is_url}

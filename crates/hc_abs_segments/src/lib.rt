@@ -10,6 +10,7 @@
 //! and that the document root and the targets of aliases begin with a slash.
 //!
 //! `segments_count`: a segment leads to the pass with the next number, or to a further round of the same pass.
+//! `none_is_left`: no pass is left over behind as many as a request may have.
 #![tactic(auto)]
 
 pub mod laws;
