@@ -1,0 +1,5 @@
+pub mod Some
+pub mod Fitting
+pub mod Following
+pub mod Nodes
+pub mod Growing

@@ -1,0 +1,6 @@
+use Rattle.std.proofs.Common.{◌≡◌, map, take}
+use Rattle.hc_plan.specs.Slots.{Slot}
+use Rattle.hc_abs_start.proofs.starting.header_slots.Given as goal
+
+abbrev pub invariant-loop-name : goal.invariant-loop-name
+invariant-loop-name l = l.slots ≡ map Slot.Header (take l.name-index l.names)
