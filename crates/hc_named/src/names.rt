@@ -3,6 +3,7 @@ ghost use Rattle.std.specs.Prelude.{◌≡◌, [], IfOk, OnOk, if◌then◌else�
 ghost use Rattle.std.specs.List.{flat_map};
 ghost use Rattle.hc_merge.specs.Overriding.{allows_nothing, files_read};
 ghost use Rattle.hc_model.specs.Overrides.{Kept};
+ghost use Rattle.hc_model.specs.World.{IsWorld};
 ghost use Rattle.hc_named.specs.Gathering.{with_rules};
 ghost use Rattle.hc_named.specs.Named.{AreNames, all_rules, dir_rules, file_rules};
 ghost use Rattle.hc_vhost.specs.Servers.{IsHostOf};
@@ -37,6 +38,7 @@ pub fn names_in<O: Overrides>(
     requires { IsHostOf config.now host }
     ensures names { IfOk result (AreNames
         (all_rules (O.reading (O.fixed over.old)) config.now host (paths_of world.now.files Dir))) }
+    ensures valid { OnOk result (IsWorld world.now.files) }
     ensures fixed { O.fixed over.new ≡ O.fixed over.old }
     ensures kept { Kept (O.loaded over.old) (O.loaded over.new) }
 {
