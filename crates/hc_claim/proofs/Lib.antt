@@ -1,0 +1,9 @@
+pub mod Common
+pub mod Breaking
+pub mod Covering
+pub mod Members
+pub mod Holding
+pub mod Judged
+pub mod Walked
+pub mod Tried
+pub mod Answered
