@@ -1,5 +1,6 @@
 //! The conditions of a rule over what is known (Apache manual, mod_rewrite, RewriteCond).
-ghost use Rattle.std.specs.Prelude.{◌≡◌, ◌∷◌, [], ◌++◌, false, true, IfOk, List, None, OnOk, option_map};
+ghost use Rattle.std.specs.Prelude.{◌≡◌, ◌∷◌, [], ◌++◌, false, true};
+ghost use Rattle.std.specs.Prelude.{IfOk, List, None, OnOk, option_map};
 ghost use Rattle.hc_plan.specs.declared.hand.Element.{Element};
 ghost use Rattle.hc_dfa.specs.Automata.{accepts};
 ghost use Rattle.hc_dfa.specs.Built.{Accepts};

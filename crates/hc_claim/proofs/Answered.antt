@@ -2,7 +2,8 @@
 use Rattle.hc_claim.proofs.Common.{◌≡◌, ◌∙◌, inl, inr, ℕ, List, [], ◌∷◌, Option, Some, None, refl}
 use Rattle.hc_claim.proofs.Common.{sym, ap, subst, arith}
 use Rattle.std.proofs.Common.{◌*◌, ◌≤◌, length, IfOk}
-use Rattle.std.specs.Prelude.{Err, Ok, OnOk, Result}
+use Rattle.std.proofs.lemmas.Result.{IfOk-weaker}
+use Rattle.std.specs.Prelude.{Result}
 use Rattle.std.specs.declared.alloc.AllocError.{AllocError as NoMemory}
 use Rattle.hc_candidates.specs.declared.picking.TheConstants.{MOST_CANDIDATES}
 use Rattle.hc_scope.specs.Clients.{clients_of}
@@ -35,7 +36,7 @@ use Rattle.hc_abs_restart.specs.Restarted.{is_among}
 use Rattle.hc_abs_start.specs.Starts.{IsStart}
 use Rattle.hc_abs_tree.specs.Trees.{Soil}
 use Rattle.hc_claim.specs.Asking.{Asked, host_of, known_before, rules_of, soil_of}
-use Rattle.hc_claim.specs.Deciding.{Answers, IsDecided}
+use Rattle.hc_claim.specs.Deciding.{Answers, IsDecided, Runs}
 use Rattle.hc_claim.specs.Holding.{Holds}
 use Rattle.hc_claim.specs.Trying.{IsAnsweredIn, Spends}
 use Rattle.hc_claim.specs.Walking.{Fits, Found, IsWalked, IsWalkedFor}
@@ -129,21 +130,36 @@ named_as asked names reading host reads is named =
     (paths_of asked.world Dir)) names) is
     (subst (λ reading. AreNames (all_rules reading asked.config host (paths_of asked.world Dir)) names) reads named)
 
--- What follows from both clauses of a call.
-from_both : {A E : Type 0} (result : Result A E) (P Q : A → Type 0) (S : Type 0) → ((x : A) → P x → S → Q x)
-    → IfOk result P → OnOk result S → IfOk result Q
-from_both (Ok x) P Q S both first second = both x first second
-from_both (Err fault) P Q S both first second = tt
-
 -- The answer, where the leaves were walked.
 pub answers : (asked : Asked) (names : Names) (limit old new : ℕ) (bad : List LeafIn)
     (result : Result Decided NoMemory) → AreNames (rules_of asked) names → IsWalkedFor asked names limit (Some bad)
-    → IfOk result (IsAnsweredIn asked names.headers bad) → OnOk result (Spends old new (length bad))
+    → IfOk result (IsAnsweredIn asked names.headers bad) → Spends old new (length bad)
     → IfOk result (Answers asked limit old new)
-answers asked names limit old new bad result named walked =
-    from_both result (IsAnsweredIn asked names.headers bad) (Answers asked limit old new) (Spends old new (length bad))
-    (λ decided answer spends.
-    (spends.0, spends.1, known asked names named limit bad walked decided answer old new spends))
+answers asked names limit old new bad result named walked answered spends =
+    IfOk-weaker result (IsAnsweredIn asked names.headers bad) (Answers asked limit old new)
+    (λ decided answer. (spends.0, spends.1, known asked names named limit bad walked decided answer old new spends))
+    answered
+
+-- The runs that were made, however it ended.
+pub may_run : (asked : Asked) (names : Names) (limit old new : ℕ) (bad : List LeafIn) → AreNames (rules_of asked) names
+    → IsWalkedFor asked names limit (Some bad) → Spends old new (length bad) → Runs asked old new
+may_run asked names limit old new bad named walked spends = (
+  spends.0,
+  spends.1,
+  λ levels listed. let found = walked levels listed in
+      let own = found.3 in inr (record {
+        names = names;
+        named = named;
+        leaves = found.0;
+        all = found.1;
+        bad = own.0;
+        are_bad = own.1;
+        most = subst (λ many. spends.0 ≤ MOST_CANDIDATES * many) (as_many _ bad own.0 own.2) spends.2;
+      }),
+)
+
+pub none_run : (asked : Asked) (old new : ℕ) → new ≡ old → Runs asked old new
+none_run asked old new same = (0, omega (arith, same), λ levels listed. inl refl)
 
 -- As deep as paths may be long.
 pub answer_holds : (asked : Asked) (limit old new : ℕ) (decided : Decided) → AreAbsolute asked.config

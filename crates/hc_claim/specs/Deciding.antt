@@ -81,6 +81,24 @@ module _ (asked : Asked) where
     abbrev pub IsDecided : Decided → Type 0
     IsDecided decided = IsTooMany decided ⊎ IsKnown decided
 
+  -- Candidates of the bad leaves were run: of each so many at most.
+  pub record AreRuns (levels spent : ℕ) : Type 0 where
+    pub names : Names
+    pub named : AreNames (rules_of asked) names
+    pub leaves : List Leaf
+    pub all : AreUnder AreLeaves (soil_of asked levels names) (known_before asked names) leaves
+    pub bad : List Leaf
+    pub are_bad : AreBad asked.claim leaves bad
+    pub most : spent ≤ MOST_CANDIDATES * length bad
+
+  -- So many runs may be made.
+  abbrev pub MayRun : ℕ → Type 0
+  MayRun spent = (levels : ℕ) → IsListed levels (shown_by asked.world) → (spent ≡ 0) ⊎ AreRuns levels spent
+
+  -- So many are, also where memory is refused.
+  abbrev pub Runs : ℕ → ℕ → Type 0
+  Runs old new = (spent : ℕ) × (new ≡ old + spent) × MayRun spent
+
   -- How deep ever the world is, after some runs.
   abbrev pub Answers : ℕ → ℕ → ℕ → Decided → Type 0
   Answers limit old new decided = (spent : ℕ) × (new ≡ old + spent)

@@ -1,7 +1,7 @@
 //! The answer to a claim.
-ghost use Rattle.std.specs.Prelude.{◌≡◌, IfOk, OnOk, length, option_map};
+ghost use Rattle.std.specs.Prelude.{◌≡◌, IfOk, length, option_map};
 ghost use Rattle.hc_absolute.specs.Absolute.{AreAbsolute};
-ghost use Rattle.hc_claim.specs.Deciding.{Answers};
+ghost use Rattle.hc_claim.specs.Deciding.{Answers, Runs};
 ghost use Rattle.hc_claim.specs.Holding.{Holds};
 ghost use Rattle.hc_claim.specs.Asking.{host_of};
 ghost use Rattle.hc_claim.specs.Trying.{IsAnsweredIn, Spends, asked_in};
@@ -46,6 +46,7 @@ pub fn decide<O: Overrides, L: Ledger>(
     requires over { Lends O.reading O.size (O.fixed over.old) question.world.now.files question.config.now }
     ensures decided { IfOk result (Answers (asked_in question.entry) limit evals.old evals.new) }
     ensures holds { IfOk result (Holds (asked_in question.entry)) }
+    ensures evals { Runs (asked_in question.entry) evals.old evals.new }
     ensures over { Returns O.fixed O.loaded over }
 {
     let scope = question.scope;
@@ -140,7 +141,7 @@ fn answered<O: Overrides, L: Ledger>(
 ) -> Result<Decided, NoMemory>
     requires over { Lends O.reading O.size (O.fixed over.old) question.world.now.files question.config.now }
     ensures answer { IfOk result (IsAnsweredIn (asked_in question.entry) headers.now bad.now) }
-    ensures evals { OnOk result (Spends evals.old evals.new (length bad.now)) }
+    ensures evals { Spends evals.old evals.new (length bad.now) }
     ensures over { Returns O.fixed O.loaded over }
 {
     let Some(first) = bad.first() else {

@@ -1,5 +1,5 @@
 //! Requests that may break a claim are run.
-ghost use Rattle.std.specs.Prelude.{◌≡◌, IfOk, OnOk, length, true};
+ghost use Rattle.std.specs.Prelude.{◌≡◌, IfOk, length, true};
 ghost use Rattle.std.specs.List.{list_all};
 ghost use Rattle.hc_claim.specs.Trying.{IsRunOf, IsShownIn, Spends, Tries, asked_in, broken_of};
 ghost use Rattle.hc_serve.specs.Lent.{Lends, Returns};
@@ -33,7 +33,7 @@ pub(crate) fn first_shown<O: Overrides, L: Ledger>(
 ) -> Result<Option<Shown>, NoMemory>
     requires over { Lends O.reading O.size (O.fixed over.old) question.world.now.files question.config.now }
     ensures shown { IfOk result (IsShownIn (asked_in question.entry) headers.now bad.now) }
-    ensures evals { OnOk result (Spends evals.old evals.new (length bad.now)) }
+    ensures evals { Spends evals.old evals.new (length bad.now) }
     ensures over { Returns O.fixed O.loaded over }
 {
     for leaf in bad {
@@ -57,7 +57,7 @@ fn first_of<O: Overrides, L: Ledger>(
     requires scope { list_all (is_of_scope question.scope.now) requests.now ≡ true }
     requires over { Lends O.reading O.size (O.fixed over.old) question.world.now.files question.config.now }
     ensures shown { IfOk result (IsRunOf (asked_in question.entry) (broken_of (asked_in question.entry) requests.now)) }
-    ensures evals { OnOk result (Tries evals.old evals.new (length requests.now)) }
+    ensures evals { Tries evals.old evals.new (length requests.now) }
     ensures over { Returns O.fixed O.loaded over }
 {
     for request in requests {

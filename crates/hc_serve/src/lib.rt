@@ -10,8 +10,9 @@
 //! files through any `Overrides` whose reading is that of the world (`over`), and leave it with that reading and all
 //! that it had loaded (`fixed`, `kept`); with an answer, what it counts of bytes has risen by no more than the texts
 //! that the way looks at (`counted`, with `looked` in specs/Costs.antt). Each call counts one (`evals`).
-//! `rules_at`, `maps_at` and `engine_at` give what of mod_rewrite is in force at a server, `caller_at` is a request there,
-//! and `most_passes` how many passes it has at most; `needs_of` gives the places of the Require lines that are in force.
+//! `rules_at`, `maps_at` and `engine_at` give what of mod_rewrite is in force at a server, `caller_at` is a request
+//! there, and `most_passes` how many passes it has at most; `needs_of` gives the places of the Require lines that are
+//! in force.
 //! `laws::answers_agree`: worlds that agree on what the answer of the one rests on give the same run.
 //! `laws::passes_are_segments`: passes are segments (specs/Segments.antt), one after another, each of one round of a
 //! list of rules at most.

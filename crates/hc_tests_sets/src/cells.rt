@@ -161,8 +161,8 @@ fn a_cell_is_empty_where_one_slot_is(rt: HostRuntime) -> Result<(), NoMemory> {
     Ok(())
 }
 
-// Ties (origin and path, text and path, text and name, query and first query), a slot, and the slots that hold one value
-// with it.
+// Ties (origin and path, text and path, text and name, query and first query), a slot, and the slots that hold one
+// value with it.
 static TIES: &[([bool; 4], At, &[At])] = &[
     ([true, true, true, false], At::Query, &[]),
     ([true, true, true, false], At::First, &[]),

@@ -1,10 +1,10 @@
-use Rattle.hc_claim.proofs.Common.{◌∙◌, ap, subst, arith}
+use Rattle.hc_claim.proofs.Common.{◌∙◌, ap, refl, subst, arith}
 use Rattle.std.proofs.Common.{length, Global, IfOk, Vec}
 use Rattle.std.proofs.lemmas.Result.{IfOk-weaker}
-use Rattle.std.specs.Prelude.{OnOk, option_map}
+use Rattle.std.specs.Prelude.{option_map}
 use Rattle.hc_vhost.specs.Choice.{chosen}
 use Rattle.hc_abs_leaves.specs.declared.leaf.Leaf.{Leaf}
-use Rattle.hc_claim.proofs.Answered.{answer_holds, answers, named_as, too_many}
+use Rattle.hc_claim.proofs.Answered.{answer_holds, answers, may_run, named_as, none_run, too_many}
 use Rattle.hc_claim.specs.Deciding.{Answers}
 use Rattle.hc_claim.specs.Trying.{IsAnsweredIn, Spends, asked_in}
 use Rattle.hc_claim.specs.Walking.{IsWalkedFor}
@@ -48,8 +48,27 @@ returns-clause-decided g c =
     (subst (λ headers. IfOk c.answered.result (IsAnsweredIn asked headers bad)) c.as_slice-headers.ensures
     (subst (λ bad. IfOk c.answered.result (IsAnsweredIn asked c.as_slice-headers.result.now bad)) c.as_slice.ensures.value
     c.answered.ensures.answer))
-    (subst (λ bad. OnOk c.answered.result (Spends c.args.evals.now c.answered.new.evals (length bad)))
+    (subst (λ bad. Spends c.args.evals.now c.answered.new.evals (length bad))
     c.as_slice.ensures.value c.answered.ensures.evals)
+
+pub returns-clause-evals : goal.returns-clause-evals
+returns-clause-evals g c =
+    let question = c.args.question in
+    let asked = asked_in question in
+    let names = c.in_ok-names.names in
+    let bad = c.in-Some.bad.items in
+    let named = named_as asked names _ c.choose-host.result c.requires.over.0
+    (c.choose-host.ensures.value
+    ∙ ap (chosen question.config.now question.scope.now.server question.scope.now.port) c.as_bytes.ensures)
+    c.in_ok-names.ensures.names in
+    may_run asked names c.args.limit c.args.evals.now c.answered.new.evals bad named
+    (subst (λ found. IsWalkedFor asked names c.args.limit (option_map (λ (bad : Vec Leaf Global). bad.items) found))
+    c.in-Some.is c.in_ok-walked.ensures.found)
+    (subst (λ bad. Spends c.args.evals.now c.answered.new.evals (length bad))
+    c.as_slice.ensures.value c.answered.ensures.evals)
+
+pub returns-in-None-clause-evals : goal.returns-in-None-clause-evals
+returns-in-None-clause-evals g c = none_run (asked_in c.args.question) c.args.evals.now c.args.evals.now refl
 
 pub returns-clause-holds : goal.returns-clause-holds
 returns-clause-holds g c =

@@ -28,6 +28,20 @@ replay-requires-clause-over g c =
     let inv = c.loop-request.invariant in
     (ap g.O.Overrides.reading inv.3 ∙ c.requires.over.0, ap g.O.Overrides.size inv.3 ∙ c.requires.over.1)
 
+pub returns-in_err-run-clause-evals : goal.returns-in_err-run-clause-evals
+returns-in_err-run-clause-evals g c =
+    let tries = c.loop-request.invariant.2 in
+    let test = c.loop-request-test.true in
+    let more = c.replay.ensures.evals in
+    (tries.0 + 1, omega (arith, tries.1, more), omega (arith, tries.2, test))
+
+pub returns-in_err-request-clause-evals : goal.returns-in_err-request-clause-evals
+returns-in_err-request-clause-evals g c =
+    let tries = c.loop-request.invariant.2 in
+    let test = c.loop-request-test.true in
+    let more = c.replay.ensures.evals in
+    (tries.0 + 1, omega (arith, tries.1, more), omega (arith, tries.2, test))
+
 pub returns-in_err-run-clause-over : goal.returns-in_err-run-clause-over
 returns-in_err-run-clause-over g c =
     let inv = c.loop-request.invariant in

@@ -11,6 +11,26 @@ use Rattle.hc_claim.proofs.trying.first_shown.Goals as goal
 pub loop-leaf-init : goal.loop-leaf-init
 loop-leaf-init g c = (λ found is. is, (0, omega arith, omega arith), refl, λ each is. is)
 
+pub returns-in_err-requests-clause-evals : goal.returns-in_err-requests-clause-evals
+returns-in_err-requests-clause-evals g c =
+    spends_within c.args.evals.now c.loop-leaf.evals c.loop-leaf.leaf-index _ c.loop-leaf.invariant.1
+    (omega (arith, c.loop-leaf-test.true))
+
+pub returns-in_err-first-clause-evals : goal.returns-in_err-first-clause-evals
+returns-in_err-first-clause-evals g c =
+    let asked = asked_in c.args.question in
+    let headers = c.args.headers.now in
+    let at = c.loop-leaf.leaf-index in
+    let sets = c.leaf-item.result.tied.cell in
+    let own = c.as_slice.result.now in
+    let old = c.args.evals.now in
+    let new = c.first_of.new.evals in
+    let test = c.loop-leaf-test.true in
+    let are = subst (AreCandidates asked.scope headers sets) (sym c.as_slice.ensures.value) c.in_ok-requests.ensures in
+    spends_within old new (at + 1) _
+    (spends_more old c.loop-leaf.evals new at own c.loop-leaf.invariant.1 c.first_of.ensures.evals
+    (few_candidates asked.scope headers sets own are)) (omega (arith, test))
+
 pub returns-in_err-requests-clause-over : goal.returns-in_err-requests-clause-over
 returns-in_err-requests-clause-over g c = (c.loop-leaf.invariant.2, c.loop-leaf.invariant.3)
 
@@ -61,7 +81,7 @@ returns-in-Some-clause-evals g c =
     let test = c.loop-leaf-test.true in
     let are = subst (AreCandidates asked.scope headers sets) (sym c.as_slice.ensures.value) c.in_ok-requests.ensures in
     spends_within old new (at + 1) _
-    (spends_more old c.loop-leaf.evals new at own c.loop-leaf.invariant.1 c.in_ok-first.ensures.evals
+    (spends_more old c.loop-leaf.evals new at own c.loop-leaf.invariant.1 c.first_of.ensures.evals
     (few_candidates asked.scope headers sets own are)) (omega (arith, test))
 
 pub returns-in-Some-clause-over : goal.returns-in-Some-clause-over
@@ -83,7 +103,7 @@ loop-leaf-preserved g c =
     let none = subst (IsRunOf asked (broken_of asked own)) c.in_default.is c.in_ok-first.ensures.shown in (
       λ found later. inv.0 found (subst (λ leaves. IsFirstIn asked headers leaves found) (sym next)
           (leaf_over asked headers leaf (drop (at + 1) bad) own found are none later)),
-      spends_more c.args.evals.now c.loop-leaf.evals c.first_of.new.evals at own inv.1 c.in_ok-first.ensures.evals
+      spends_more c.args.evals.now c.loop-leaf.evals c.first_of.new.evals at own inv.1 c.first_of.ensures.evals
           (few_candidates asked.scope headers (leaf.tied).cell own are),
       c.first_of.ensures.over.0 ∙ inv.2,
       λ each is. c.first_of.ensures.over.1 each (inv.3 each is),
