@@ -1,16 +1,15 @@
 -- The commands of a script: what JSON a line is, and which command that is. Our own choice.
-use Rattle.std.specs.Prelude.{ℕ, nat_le, List, [], ◌∷◌, if◌then◌else◌, Option, Some, None}
-use Rattle.std.specs.Prelude.{option_and_then, Result, Ok, Err, codes}
+use Rattle.std.specs.Prelude.{ℕ, List, [], ◌∷◌, if◌then◌else◌, Option, Some, None}
+use Rattle.std.specs.Prelude.{Result, Ok, Err, codes}
 use Rattle.std.specs.Str.{bytes_eq, is_utf8}
 use Rattle.serde_json.specs.Data.{Data}
-use Rattle.serde_json.specs.Find.{as_number, as_u64}
 use Rattle.serde_json.specs.Read.{read}
 use Rattle.hc_base.specs.declared.codes.TheConstants.{BAD_COMMAND, BAD_JSON}
 use Rattle.hc_base.specs.declared.place.Refusal.{Refusal}
 use Rattle.hc_json.specs.Asked.{Question, asked_in}
-use Rattle.hc_json.specs.Fields.{required, unknown_field, wanted, ◌>>=◌}
-use Rattle.hc_json.specs.Forms.{such_that}
-use Rattle.hc_json.specs.declared.command.TheConstants.{LAST_LINE}
+use Rattle.hc_json.specs.Claims.{ClaimForm, ScopeForm, claim_in, scope_in}
+use Rattle.hc_json.specs.Fields.{no_other, required, ◌>>=◌}
+use Rattle.hc_json.specs.Forms.{line_in}
 use Rattle.hc_world.specs.declared.world.ListKind.{ListKind}
 use Rattle.hc_world.specs.declared.world.ListKind.TheVariants.{File, Dir}
 
@@ -24,6 +23,8 @@ pub data Command : Type 0 where
   main : List ℕ → Command
   check : Command
   ask : Question → Command
+  -- what is claimed, and of which requests
+  decide : ClaimForm → ScopeForm → Command
   stats : Command
   end : Command
 
@@ -31,20 +32,7 @@ pub data Command : Type 0 where
 abbrev pub json_of : List ℕ → Option Data
 json_of line = if is_utf8 line then read line else None
 
--- No field but the known ones.
-abbrev pub unless_unknown : Option (List ℕ) → Result Command (List ℕ) → Result Command (List ℕ)
-unless_unknown None read = read
-unless_unknown (Some field) read = Err field
-
 -- ---- what the fields of each give
-
--- JSON writes a whole number without a sign, a fraction and an exponent.
-abbrev pub line_from : Data → Option ℕ
-line_from d = such_that (λ n. nat_le n LAST_LINE) (option_and_then as_u64 (as_number d))
-
--- The number of a line.
-abbrev pub line_in : List ℕ → Data → Result ℕ (List ℕ)
-line_in key d = wanted key line_from d
 
 abbrev pub put_in : Data → Result Command (List ℕ)
 put_in d = required (codes "path") d >>= λ path. required (codes "text") d >>= λ bytes. Ok (put path bytes)
@@ -80,6 +68,9 @@ main_in d = required (codes "path") d >>= λ path. Ok (main path)
 abbrev pub ask_in : Data → Result Command (List ℕ)
 ask_in d = asked_in d >>= λ question. Ok (ask question)
 
+abbrev pub decide_in : Data → Result Command (List ℕ)
+decide_in d = claim_in d >>= λ claim. scope_in d >>= λ scope. Ok (decide claim scope)
+
 -- ---- which fields each has
 
 abbrev pub put_fields : List (List ℕ)
@@ -103,13 +94,16 @@ ask_fields =
     ∷ codes "host"
     ∷ codes "client" ∷ codes "headers" ∷ codes "trail" ∷ []
 
+abbrev pub decide_fields : List (List ℕ)
+decide_fields = codes "do" ∷ codes "claim" ∷ codes "scope" ∷ []
+
 -- ---- the commands
 
 abbrev pub with_fields : List (List ℕ) → (Data → Result Command (List ℕ)) → Data → Result Command (List ℕ)
-with_fields known reading d = unless_unknown (unknown_field known d) (reading d)
+with_fields known reading d = no_other known d (reading d)
 
 abbrev pub without_fields : Command → Data → Result Command (List ℕ)
-without_fields command d = unless_unknown (unknown_field no_fields d) (Ok command)
+without_fields command d = no_other no_fields d (Ok command)
 
 -- Those that edit the files or name the main one.
 abbrev pub edit_named : List ℕ → Data → Option (Result Command (List ℕ))
@@ -125,9 +119,10 @@ abbrev pub question_named : List ℕ → Data → Result Command (List ℕ)
 question_named name d =
     if bytes_eq name (codes "check") then without_fields check d
     else (if bytes_eq name (codes "ask") then with_fields ask_fields ask_in d
+    else (if bytes_eq name (codes "decide") then with_fields decide_fields decide_in d
     else (if bytes_eq name (codes "stats") then without_fields stats d
     else (if bytes_eq name (codes "end") then without_fields end d
-    else Err (codes "do"))))
+    else Err (codes "do")))))
 
 abbrev pub or_question : List ℕ → Data → Option (Result Command (List ℕ)) → Result Command (List ℕ)
 or_question name d (Some read) = read

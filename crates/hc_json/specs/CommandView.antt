@@ -1,25 +1,34 @@
 -- What a command of the code is seen as.
-use Rattle.std.specs.Prelude.{◌≡◌, ℕ, List, [], true, Option, Some, None, Result, Ok, Err, String, ⊤}
+use Rattle.std.specs.Prelude.{◌≡◌, ℕ, List, [], ◌∷◌, true, Option, Some, None, Result, Ok, Err, String, ⊤}
+use Rattle.std.specs.Prelude.{Vec, codes, option_map}
 use Rattle.std.specs.Borrow.{Bor}
 use Rattle.std.specs.declared.alloc.Global.{Global}
-use Rattle.serde_json.specs.View.{members_view}
+use Rattle.serde_json.specs.Data.{Data}
+use Rattle.serde_json.specs.View.{items_view, members_view, view}
 use Rattle.serde_json.specs.declared.value.Value.{Value}
 use Rattle.std.specs.BTreeMap.{BTreeMap}
 use Rattle.hc_base.specs.Paths.{begins_with_slash}
 use Rattle.hc_base.specs.declared.codes.TheConstants.{BAD_COMMAND, BAD_JSON}
+use Rattle.hc_base.specs.declared.place.Place.{Place}
 use Rattle.hc_base.specs.declared.place.Refusal.{Refusal}
 use Rattle.hc_model.specs.declared.request.Header.{Header}
 use Rattle.hc_model.specs.declared.request.Request.{Request}
 use Rattle.hc_json.specs.Asked.{Question}
+use Rattle.hc_json.specs.Claims as claims
+use Rattle.hc_json.specs.Claims.{methods_of}
 use Rattle.hc_json.specs.Command as spec
 use Rattle.hc_json.specs.Forms.{headers_of}
 use Rattle.hc_json.specs.declared.asked.Asked.{Asked}
+use Rattle.hc_json.specs.declared.claim.ClaimForm.{ClaimForm}
+use Rattle.hc_json.specs.declared.claim.ClaimForm.TheVariants as form
+use Rattle.hc_json.specs.declared.claim.PlaceForm.{PlaceForm}
 use Rattle.hc_json.specs.declared.fields.BadField.{BadField}
+use Rattle.hc_json.specs.declared.scope.ScopeForm.{ScopeForm}
 use Rattle.hc_json.specs.declared.command.Command.{Command}
 use Rattle.hc_json.specs.declared.command.NoCommand.{NoCommand}
 use Rattle.hc_json.specs.declared.command.NoCommand.TheVariants as wrong
 use Rattle.hc_json.specs.declared.command.Command.TheVariants.{Put, ListPath, DropPath, Edit, Main, Check, Ask, Stats}
-use Rattle.hc_json.specs.declared.command.Command.TheVariants.{End}
+use Rattle.hc_json.specs.declared.command.Command.TheVariants.{Decide, End}
 
 abbrev pub headers_view : Option (Bor (BTreeMap (String Global) Value)) → List Header
 headers_view None = []
@@ -40,6 +49,33 @@ request_view asked = record {
 abbrev pub question_view : Asked → Question
 question_view asked = record { request = request_view asked; trail = asked.trail }
 
+abbrev pub place_view : PlaceForm → Place
+place_view place = record { file = place.file.now; line = place.line }
+
+abbrev pub claim_view : ClaimForm → claims.ClaimForm
+claim_view form.Stops = claims.stops
+claim_view (form.Shadowed place) = claims.shadowed (place_view place)
+claim_view (form.Guarded target by) = claims.guarded (view target.now) (place_view by)
+
+abbrev pub methods_view : Option (Bor (Vec Value Global)) → List (List ℕ)
+methods_view None = codes "GET" ∷ []
+methods_view (Some values) = methods_of (items_view values.now.items)
+
+abbrev pub set_view : Option (Bor Value) → Option Data
+set_view set = option_map (λ own. view own.now) set
+
+abbrev pub scope_view : ScopeForm → claims.ScopeForm
+scope_view scope = record {
+  scheme = scope.scheme;
+  server = scope.server;
+  port = scope.port;
+  host = scope.host.now;
+  client = scope.client;
+  methods = methods_view scope.methods;
+  path = set_view scope.path;
+  query = set_view scope.query;
+}
+
 abbrev pub command_view : Command → spec.Command
 command_view (Put path bytes) = spec.put path.now bytes.now
 command_view (ListPath path kind) = spec.list path.now kind
@@ -48,6 +84,7 @@ command_view (Edit path from to bytes) = spec.edit path.now from to bytes.now
 command_view (Main path) = spec.main path.now
 command_view Check = spec.check
 command_view (Ask asked) = spec.ask (question_view asked)
+command_view (Decide claim scope) = spec.decide (claim_view claim) (scope_view scope)
 command_view Stats = spec.stats
 command_view End = spec.end
 
@@ -74,6 +111,22 @@ read_view (Err bad) = Err bad.0.now
 abbrev pub asked_view : Result Asked BadField → Result Question (List ℕ)
 asked_view (Ok asked) = Ok (question_view asked)
 asked_view (Err bad) = Err bad.0.now
+
+abbrev pub place_field_view : Result PlaceForm BadField → Result Place (List ℕ)
+place_field_view (Ok place) = Ok (place_view place)
+place_field_view (Err bad) = Err bad.0.now
+
+abbrev pub claim_field_view : Result ClaimForm BadField → Result claims.ClaimForm (List ℕ)
+claim_field_view (Ok claim) = Ok (claim_view claim)
+claim_field_view (Err bad) = Err bad.0.now
+
+abbrev pub scope_field_view : Result ScopeForm BadField → Result claims.ScopeForm (List ℕ)
+scope_field_view (Ok scope) = Ok (scope_view scope)
+scope_field_view (Err bad) = Err bad.0.now
+
+abbrev pub methods_field_view : Result (Option (Bor (Vec Value Global))) BadField → Result (List (List ℕ)) (List ℕ)
+methods_field_view (Ok methods) = Ok (methods_view methods)
+methods_field_view (Err bad) = Err bad.0.now
 
 abbrev pub field_view : Result (Bor (List ℕ)) BadField → Result (List ℕ) (List ℕ)
 field_view (Ok text) = Ok text.now

@@ -38,3 +38,11 @@ unknown_member known (member key d rest) =
 
 abbrev pub unknown_field : List (List ℕ) → Data → Option (List ℕ)
 unknown_field known d = option_and_then (unknown_member known) (as_object d)
+
+abbrev pub unless_unknown : {A : Type 0} → Option (List ℕ) → Result A (List ℕ) → Result A (List ℕ)
+unless_unknown None read = read
+unless_unknown (Some field) read = Err field
+
+-- What is read, where there is no field but the known ones.
+abbrev pub no_other : {A : Type 0} → List (List ℕ) → Data → Result A (List ℕ) → Result A (List ℕ)
+no_other known d read = unless_unknown (unknown_field known d) read

@@ -1,7 +1,7 @@
 -- What the fields of an `ask` are read as. Our own choice.
 use Rattle.std.specs.Prelude.{ℕ, List, [], ◌∷◌, Bool, true, false, ◌&&◌, not}
 use Rattle.std.specs.Prelude.{nat_le, Option, Some, None, if◌then◌else◌, option_and_then, option_map}
-use Rattle.std.specs.Prelude.{unwrap_or, codes}
+use Rattle.std.specs.Prelude.{unwrap_or, Result, codes}
 use Rattle.std.specs.BTreeSet.{contains, insert_key}
 use Rattle.std.specs.Cmp.Lexicographic.{slice_cmp}
 use Rattle.std.specs.Ordering.{nat_cmp}
@@ -14,7 +14,9 @@ use Rattle.hc_model.specs.declared.request.Header.{Header}
 use Rattle.hc_model.specs.declared.request.Scheme.{Scheme}
 use Rattle.hc_model.specs.declared.request.Scheme.TheVariants.{Http, Https}
 use Rattle.hc_forms.specs.Forms.{is_name, is_value}
+use Rattle.hc_json.specs.Fields.{wanted}
 use Rattle.hc_json.specs.declared.asked.TheConstants.{HIGHEST_PORT}
+use Rattle.hc_json.specs.declared.fields.TheConstants.{LAST_LINE}
 
 -- ---- what a value is read as, where it is of its form
 
@@ -43,6 +45,13 @@ is_port n = nat_le n HIGHEST_PORT
 -- JSON writes a whole number without a sign, a fraction and an exponent.
 abbrev pub port_from : Data → Option ℕ
 port_from d = such_that is_port (option_and_then as_u64 (as_number d))
+
+-- The number of a line.
+abbrev pub line_from : Data → Option ℕ
+line_from d = such_that (λ n. nat_le n LAST_LINE) (option_and_then as_u64 (as_number d))
+
+abbrev pub line_in : List ℕ → Data → Result ℕ (List ℕ)
+line_in key d = wanted key line_from d
 
 -- ---- headers, the members of an object
 

@@ -1,4 +1,6 @@
 pub mod Asked
+pub mod Claimed
+pub mod Claims
 pub mod Command
 pub mod CommandView
 pub mod Fields

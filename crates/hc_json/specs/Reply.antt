@@ -5,6 +5,7 @@ use Rattle.serde_json.specs.Written.{compact_text}
 use Rattle.hc_base.specs.Bytes.{lf}
 use Rattle.hc_base.specs.Codes.{name_of_code}
 use Rattle.hc_base.specs.declared.place.Refusal.{Refusal}
+use Rattle.hc_model.specs.declared.event.Decision.{Decision}
 use Rattle.hc_model.specs.declared.outcome.Outcome.{Outcome}
 use Rattle.hc_model.specs.declared.outcome.Outcome.TheVariants.{File, Directory, NotFound, Redirect, Status, Limit}
 use Rattle.hc_model.specs.declared.outcome.Outcome.TheVariants.{HtRefused, Outside}
@@ -13,9 +14,11 @@ use Rattle.hc_model.specs.declared.outcome.LimitKind.TheVariants.{Rounds, Redire
 use Rattle.hc_model.specs.declared.outcome.Reason.{Reason}
 use Rattle.hc_model.specs.declared.outcome.Reason.TheVariants.{PathByte, LongText, DotSegment, RelativeRedirect}
 use Rattle.hc_model.specs.declared.outcome.Reason.TheVariants.{RelativeUnderAlias, Scheme, NoRoot}
+use Rattle.hc_model.specs.declared.request.Request.{Request}
 use Rattle.hc_json.specs.Shown.{shown}
 use Rattle.hc_json.specs.declared.reply.Done.{Done}
 use Rattle.hc_json.specs.declared.reply.Done.TheVariants.{Put, ListPath, DropPath, Edit, Main, End}
+use Rattle.hc_json.specs.Claimed.{branch_data, request_data}
 use Rattle.hc_json.specs.Trail.{Trailed, reads_data, trail_data}
 
 pub data Reply : Type 0 where
@@ -26,6 +29,14 @@ pub data Reply : Type 0 where
   outcome : Outcome → Reply
   -- an outcome, and how it came
   trailed : Trailed → Reply
+  -- a claim holds of each request of its scope
+  proved : Reply
+  -- this request breaks it, and receives this
+  refuted : Outcome → Request → Reply
+  -- what the first branch decided that may break it
+  undecided : List Decision → Reply
+  -- there are so many branches at least
+  too_many : ℕ → Reply
   -- how many asks were answered with an outcome, and how many of them were evaluated
   stats : ℕ → ℕ → Reply
   refused : Refusal → Reply
@@ -96,11 +107,21 @@ stats_data asks evaluations =
     member (codes "asks") (number (unsigned asks)) (
     member (codes "evaluations") (number (unsigned evaluations)) no_members))
 
+abbrev pub refuted_data : Outcome → Request → Data
+refuted_data o request =
+    object (
+    member (codes "outcome") (outcome_data o) (
+    member (codes "request") (request_data request) no_members))
+
 abbrev pub reply_data : Reply → Data
 reply_data (done what) = only (codes "done") (string (done_name what))
 reply_data (configured hosts) = only (codes "config") (only (codes "hosts") (number (unsigned hosts)))
 reply_data (outcome o) = only (codes "outcome") (outcome_data o)
 reply_data (trailed answer) = trailed_data answer
+reply_data proved = only (codes "proved") (boolean true)
+reply_data (refuted o request) = only (codes "refuted") (refuted_data o request)
+reply_data (undecided branch) = only (codes "undecided") (only (codes "branch") (branch_data branch))
+reply_data (too_many branches) = only (codes "too_many") (number (unsigned branches))
 reply_data (stats asks evaluations) = only (codes "stats") (stats_data asks evaluations)
 reply_data (refused r) = only (codes "refused") (refusal_data r)
 reply_data no_memory = only (codes "no_memory") (boolean true)

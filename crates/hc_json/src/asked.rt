@@ -25,7 +25,7 @@ const HTTPS_PORT: u16 = 443;
 const HIGHEST_PORT: u64 = 65_535;
 
 /// 192.0.2.1.
-const SERVER: u32 = 0xC000_0201;
+pub(crate) const SERVER: u32 = 0xC000_0201;
 
 /// 192.0.2.9.
 const CLIENT: u32 = 0xC000_0209;
@@ -111,7 +111,7 @@ fn method_in(value: &Value) -> Result<&str, BadField<'_>>
     }
 }
 
-fn scheme_in(value: &Value) -> Result<Scheme, BadField<'_>>
+pub(crate) fn scheme_in(value: &Value) -> Result<Scheme, BadField<'_>>
     ensures { value_view result ≡ scheme_in (view value.now) }
 {
     match value.get("scheme") {
@@ -130,7 +130,11 @@ fn scheme_from(value: &Value) -> Option<Scheme>
     }
 }
 
-fn addr_in<'v>(value: &'v Value, key: &'v str, default: u32) -> Result<Addr, BadField<'v>>
+pub(crate) fn addr_in<'v>(
+    value: &'v Value,
+    key: &'v str,
+    default: u32,
+) -> Result<Addr, BadField<'v>>
     ensures { value_view result ≡ optional key.now (V4 default) addr_from (view value.now) }
 {
     match value.get(key) {
@@ -145,7 +149,7 @@ fn addr_from(value: &Value) -> Option<Addr>
     parse_addr(value.as_str()?.as_bytes())
 }
 
-fn port_in(value: &Value, scheme: Scheme) -> Result<u16, BadField<'_>>
+pub(crate) fn port_in(value: &Value, scheme: Scheme) -> Result<u16, BadField<'_>>
     ensures { value_view result ≡ port_in scheme (view value.now) }
 {
     match value.get("port") {
@@ -174,7 +178,7 @@ fn port_from(value: &Value) -> Option<u16>
     }
 }
 
-fn host_in(value: &Value) -> Result<&str, BadField<'_>>
+pub(crate) fn host_in(value: &Value) -> Result<&str, BadField<'_>>
     ensures { field_view result ≡ host_in (view value.now) }
 {
     let Some(given) = value.get("host") else {

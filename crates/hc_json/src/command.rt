@@ -2,21 +2,20 @@ ghost use Rattle.std.specs.Prelude.{◌≡◌, IfOk};
 ghost use Rattle.std.specs.Option.{option_map};
 ghost use Rattle.serde_json.specs.View.{view};
 ghost use Rattle.hc_json.specs.Command.{ask_fields, ask_in, bad_line, command_in, command_named, command_of_json};
-ghost use Rattle.hc_json.specs.Command.{drop_in, edit_fields, edit_in, json_of, line_from, line_in, list_fields};
+ghost use Rattle.hc_json.specs.Command.{decide_fields, decide_in, drop_in, edit_fields, edit_in, json_of, list_fields};
 ghost use Rattle.hc_json.specs.Command.{list_in, list_kind, main_in, path_fields, put_fields, put_in};
 ghost use Rattle.hc_json.specs.Command.{with_fields, without_fields};
 ghost use Rattle.hc_json.specs.CommandView.{IsAskable, command_view, line_view, read_view, value_view};
 ghost use Rattle.hc_json.specs.Fields.{unknown_field};
 
 use crate::asked::{Asked, read_asked};
-use crate::fields::{BadField, required, unknown_field};
+use crate::claim::{ClaimForm, claim_in};
+use crate::fields::{BadField, line_in, required, unknown_field};
+use crate::scope::{ScopeForm, scope_in};
 use hc_base::{NoMemory, Place, Refusal, Text};
 use hc_world::ListKind;
 use serde_json::Value;
 use std::alloc::Global;
-
-/// The highest number of a line that a command names.
-pub(crate) const LAST_LINE: u64 = 4_294_967_295;
 
 /// A command of a script. It borrows from the JSON value that it is read from.
 #[derive(Clone, Copy)]
@@ -50,6 +49,11 @@ pub enum Command<'v> {
     Check,
     /// Asks what a request receives.
     Ask(Asked<'v>),
+    /// Asks whether a claim holds of all requests of a scope.
+    Decide {
+        claim: ClaimForm<'v>,
+        scope: ScopeForm<'v>,
+    },
     /// Asks how many asks were answered, and how many of them were evaluated.
     Stats,
     /// Ends the session.
@@ -144,6 +148,7 @@ fn command_named<'v>(
         "main" => Ok(read_main(value)),
         "check" => Ok(without_fields(Command::Check, value)),
         "ask" => read_ask(alloc, value),
+        "decide" => Ok(read_decide(value)),
         "stats" => Ok(without_fields(Command::Stats, value)),
         "end" => Ok(without_fields(Command::End, value)),
         _ => Ok(Err(BadField("do"))),
@@ -225,23 +230,6 @@ fn read_edit(value: &Value) -> Result<Command<'_>, BadField<'_>>
     })
 }
 
-fn line_in<'v>(value: &'v Value, key: &'v str) -> Result<u32, BadField<'v>>
-    ensures { value_view result ≡ line_in key.now (view value.now) }
-{
-    value.get(key).and_then(line_from).ok_or(BadField(key))
-}
-
-fn line_from(value: &Value) -> Option<u32>
-    ensures { result ≡ line_from (view value.now) }
-{
-    let line = value.as_u64()?;
-    if line <= LAST_LINE {
-        Some(line as u32)
-    } else {
-        None
-    }
-}
-
 fn read_main(value: &Value) -> Result<Command<'_>, BadField<'_>>
     ensures command { read_view result ≡ with_fields path_fields main_in (view value.now) }
     ensures askable { IfOk result IsAskable }
@@ -264,6 +252,18 @@ fn read_ask(alloc: Global, value: &Value) -> Result<Result<Command<'_>, BadField
         Ok(asked) => Ok(Ok(Command::Ask(asked))),
         Err(bad) => Ok(Err(bad)),
     }
+}
+
+fn read_decide(value: &Value) -> Result<Command<'_>, BadField<'_>>
+    ensures command { read_view result ≡ with_fields decide_fields decide_in (view value.now) }
+    ensures askable { IfOk result IsAskable }
+{
+    if let Some(field) = unknown_field(value, &["do", "claim", "scope"]) {
+        return Err(BadField(field));
+    }
+    let claim = claim_in(value)?;
+    let scope = scope_in(value)?;
+    Ok(Command::Decide { claim, scope })
 }
 
 fn unknown_ask_field(value: &Value) -> Option<&str>

@@ -24,14 +24,18 @@ pub enum Done {
     End,
 }
 
-/// The answer to a line. An outcome is printed by `print_outcome`, and one with its trail by
-/// `print_trailed`.
+/// The answer to a line. An outcome is printed by `print_outcome`, one with its trail by `print_trailed`, and what
+/// comes of a claim that isn't proved by `print_refuted` and `print_undecided`.
 #[derive(Drop)]
 pub enum Reply {
     /// A command was done.
     Done(Done),
     /// A configuration, with how many virtual hosts it has.
     Config(usize),
+    /// A claim holds of each request of its scope.
+    Proved,
+    /// It has so many branches at least.
+    TooMany(u32),
     /// How many asks were answered with an outcome, and how many of them were evaluated.
     Stats { asks: u64, evaluations: u64 },
     /// Why the line is not answered.
@@ -71,6 +75,8 @@ fn reply_value(alloc: Global, reply: &Reply) -> Result<Value, NoMemory>
             json!(in alloc; {"done": name})
         }
         Reply::Config(hosts) => json!(in alloc; {"config": {"hosts": *hosts}}),
+        Reply::Proved => json!(in alloc; {"proved": true}),
+        Reply::TooMany(branches) => json!(in alloc; {"too_many": *branches}),
         Reply::Stats { asks, evaluations } => {
             json!(in alloc; {"stats": {"asks": *asks, "evaluations": *evaluations}})
         }
