@@ -4,6 +4,7 @@ use Rattle.std.proofs.Common.{Bool, true, false, nat_le, refl, sym, ap, subst, �
 use Rattle.std.specs.List.{Contains}
 use Rattle.std.proofs.lemmas.Bool.Decides.{nat_tests}
 use Rattle.hc_cache.specs.Entries.{is_current}
+use Rattle.hc_claim_lines.specs.ClaimLines.{claim_lines}
 use Rattle.hc_config.specs.Configuration.{built}
 use Rattle.hc_htaccess.specs.Loading.{answer_of}
 use Rattle.hc_htaccess.specs.Reading.{found_there}
@@ -84,6 +85,7 @@ module _ {old new : Edited} (accepted : IsAccepted old new) where
   site_stays site was = record {
     age = omega (arith, was.age, accepted.counted);
     built = λ current. was.built (before current).0 ∙ ap built (flat current);
+    lines = λ current. was.lines (before current).0 ∙ ap (λ f. claim_lines f.entries) (flat current);
     reads = λ current. was.reads (before current).0 ∙ ap (λ f. f.reads) (flat current);
     files = λ config is file has. file_stays file (was.files config is file has);
   }

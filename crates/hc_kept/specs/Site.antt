@@ -2,6 +2,7 @@
 use Rattle.std.specs.Prelude.{◌≡◌, ◌≤◌, [], Bool, true, Result, Ok}
 use Rattle.hc_base.specs.declared.place.Refusal.{Refusal}
 use Rattle.hc_cache.specs.Entries.{is_current}
+use Rattle.hc_claim_lines.specs.ClaimLines.{claim_lines}
 use Rattle.hc_config.specs.Configuration.{built}
 use Rattle.hc_include.specs.Flat.{flat_of}
 use Rattle.hc_model.specs.World.{World}
@@ -19,6 +20,7 @@ configuration world main = built (flat_of world main)
 pub record IsRead (world : Edited) (path : Path) (site : Site) : Type 0 where
   pub main : site.main ≡ path
   pub built : site.built ≡ configuration world.files path
+  pub lines : site.lines ≡ claim_lines (flat_of world.files path).entries
   pub reads : site.reads ≡ (flat_of world.files path).reads
   pub at : site.at ≡ world.edits
   pub files : site.files ≡ []
@@ -30,6 +32,7 @@ is_current_site world site = is_current world site.reads site.at
 pub record IsSiteOf (world : Edited) (site : Site) : Type 0 where
   pub age : site.at ≤ world.edits
   pub built : is_current_site world site ≡ true → site.built ≡ configuration world.files site.main
+  pub lines : is_current_site world site ≡ true → site.lines ≡ claim_lines (flat_of world.files site.main).entries
   pub reads : is_current_site world site ≡ true → site.reads ≡ (flat_of world.files site.main).reads
   pub files : (config : Config) → site.built ≡ Ok config → AreFilesOf world config site.files
 

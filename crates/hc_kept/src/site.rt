@@ -6,6 +6,7 @@ use crate::KeptFiles;
 use crate::settled::settled;
 use hc_base::{Counter, List, NoMemory, Refusal, Text};
 use hc_cache::is_current;
+use hc_claim_lines::ClaimLines;
 use hc_config::build;
 use hc_include::flatten;
 use hc_model::{Config, Read};
@@ -21,6 +22,8 @@ pub struct Site {
     pub main: Text,
     /// The configuration, or the first rule that its files break.
     pub built: Result<Config, Refusal>,
+    /// The lines of its files that claims may speak of.
+    pub lines: ClaimLines,
     /// What of the world was looked at for it.
     pub reads: List<Read>,
     /// The number of the last edit before it was read.
@@ -48,6 +51,7 @@ impl Site {
         Ok(Site {
             main: Text::copy_of(alloc, main)?,
             built,
+            lines: ClaimLines::of(alloc, &flat.entries)?,
             reads: flat.reads,
             at: world.edits(),
             files: KeptFiles::new(alloc),
