@@ -11,6 +11,7 @@ use std::sync::ledger::Ledger;
 /// Runs the script that a seed makes, and writes its summary.
 pub fn generate<K: Sink, E: Ledger, B: Ledger>(
     alloc: Global,
+    limit: u32,
     seed: u64,
     sink: &mut K,
     evals: &mut Counter<E>,
@@ -18,7 +19,7 @@ pub fn generate<K: Sink, E: Ledger, B: Ledger>(
 ) -> Status
     requires sink_counts { K.faults sink.old < 2 ^ 64 - 1 }
     ensures generated { result ≢ Status.NoMemory
-        → Generated seed (K.written sink.old) (K.written sink.new)
+        → Generated limit seed (K.written sink.old) (K.written sink.new)
         (work evals.old bytes.old) (work evals.new bytes.new) result }
     ensures write_fault { result ≡ Status.WriteFault → K.faults sink.old < K.faults sink.new }
     ensures untouched { result ≡ Status.NoMemory → sink.new ≡ sink.old }
@@ -26,7 +27,7 @@ pub fn generate<K: Sink, E: Ledger, B: Ledger>(
     ensures words { result ≢ Status.Words }
     ensures read { result ≢ Status.ReadFault }
 {
-    let Ok(line) = summary(alloc, seed, evals, bytes) else {
+    let Ok(line) = summary(alloc, limit, seed, evals, bytes) else {
         return Status::NoMemory;
     };
     match send(sink, line.as_bytes()) {

@@ -1,7 +1,7 @@
 ghost use Rattle.std.specs.Prelude.{◌≡◌, ◌≢◌, ◌⊎◌, ◌<◌, ◌^◌, ◌-◌, ℕ, None, map};
 ghost use Rattle.std.specs.Prelude.{string_bytes};
 ghost use Rattle.hc_session.specs.Conversation.{Completes, Served};
-ghost use Rattle.hc_session.specs.Session.{work};
+ghost use Rattle.hc_session.specs.Session.{start, work};
 ghost use Rattle.hc_words.specs.Words.{words_of};
 ghost use Rattle.hc_app.specs.Run.{AsksFor, AsksToServe, Generated};
 
@@ -29,25 +29,26 @@ pub fn run<S: Source, K: Sink, E: Ledger, B: Ledger>(
 
     // Where the source tells its bytes and nothing failed, what is written is the session's
     // replies to these bytes, and the status is the session's.
-    ensures complete { AsksToServe (words_of (map string_bytes words.now))
+    ensures complete { (limit : ℕ) → AsksToServe limit (words_of (map string_bytes words.now))
         → S.faults source.new ≡ S.faults source.old → K.faults sink.new ≡ K.faults sink.old
         → result ≢ Status.NoMemory
-        → Completes (S.left source.old) (K.written sink.old) (K.written sink.new) result }
+        → Completes (start limit) (S.left source.old) (K.written sink.old) (K.written sink.new) result }
 
     // In every case what was written are the replies to the whole lines taken, unless the sink
     // failed: then those to some of them, of the last one's a front. `evals` has risen by no more
-    // than the evaluations that these lines count, and by one for each ask among them that was
-    // answered `no_memory`; and `bytes`, where no line was, by no more than the texts that they may
-    // read.
-    ensures served { AsksToServe (words_of (map string_bytes words.now)) → result ≢ Status.NoMemory
-        → Served (S.left source.old) (S.left source.new)
+    // than the evaluations that these lines count, by one for each ask among them that was
+    // answered `no_memory`, and by the candidates that each `decide` may try; and `bytes`, where no
+    // line was answered so and none is a `decide`, by no more than the texts that they may read.
+    ensures served { (limit : ℕ) → AsksToServe limit (words_of (map string_bytes words.now))
+        → result ≢ Status.NoMemory
+        → Served (start limit) (S.left source.old) (S.left source.new)
         (K.written sink.old) (K.written sink.new)
         (work evals.old bytes.old) (work evals.new bytes.new) result }
 
     // A script is made without a look at the source.
-    ensures generated { (seed : ℕ) → AsksFor seed (words_of (map string_bytes words.now))
+    ensures generated { (limit seed : ℕ) → AsksFor limit seed (words_of (map string_bytes words.now))
         → result ≢ Status.NoMemory
-        → Generated seed (K.written sink.old) (K.written sink.new)
+        → Generated limit seed (K.written sink.old) (K.written sink.new)
         (work evals.old bytes.old) (work evals.new bytes.new) result
         × (source.new ≡ source.old) }
 
@@ -65,8 +66,8 @@ pub fn run<S: Source, K: Sink, E: Ledger, B: Ledger>(
 {
     match read_words(alloc, words) {
         Ok(words) => match words.generate {
-            Some(seed) => generate(alloc, seed, sink, evals, bytes),
-            None => serve_session(alloc, source, sink, evals, bytes),
+            Some(seed) => generate(alloc, words.cells, seed, sink, evals, bytes),
+            None => serve_session(alloc, words.cells, source, sink, evals, bytes),
         },
         Err(WordsFault::NoMemory) => Status::NoMemory,
         Err(WordsFault::Refused) => Status::Words,

@@ -2,12 +2,15 @@
 use Rattle.std.proofs.Common.{◌≡◌, ◌∙◌, ◌+◌, ◌≤◌, ℕ, true, false, List, [], ◌∷◌, ◌++◌}
 use Rattle.std.proofs.Common.{fold, sym, ap, subst, refl, inl, inr, append_assoc}
 use Rattle.std.proofs.lemmas.List.Sums.{fold-append}
+use Rattle.std.specs.Prelude.{Err, Ok}
+use Rattle.std.specs.declared.alloc.AllocError.{AllocError as NoMemory}
 use Rattle.hc_json.specs.Command.{command_of}
 use Rattle.hc_json.specs.Reply.{Reply, no_memory}
-use Rattle.hc_session.specs.Session.{AnswersTaking, LineTurn, Work, both, command_evals, is_no_memory, line_bytes}
-use Rattle.hc_session.specs.Session.{line_work, said_of, work}
-use Rattle.hc_session.proofs.Answering.{answers_ended, both_assoc, none_first, spent_answered, spent_append, spent_none}
-use Rattle.hc_session.proofs.Answering.{spent_refused}
+use Rattle.hc_session.specs.Session.{AnswersTaking, CountsCommand, LineTurn, ReadsCommand, Work, both, is_no_memory}
+use Rattle.hc_session.specs.Session.{said_of, work}
+use Rattle.hc_session.specs.declared.stepped.Stepped.{Stepped}
+use Rattle.hc_session.proofs.Answering.{answers_ended, both_assoc, none_first, spent_append, spent_none}
+use Rattle.hc_session.proofs.Answering.{took_answered, took_refused}
 use Rattle.hc_generate.specs.Run.{Goes}
 use Rattle.hc_generate.specs.Summary.{counted, refusal_counted, said_counted}
 use Rattle.hc_generate.specs.declared.run.Run.{Run}
@@ -57,37 +60,54 @@ pub goes_answered : (old new : Run) (line : List ℕ) (said : Reply) (left : Lis
     → old.session.ended ≡ false
     → LineTurn old.session line said new.session → is_no_memory said ≡ false
     → new.tally ≡ said_counted old.tally (said_of said)
-    → (k.evals ≤ n.evals) × (n.evals ≤ k.evals + command_evals (command_of line))
-    × (n.evals + old.session.evaluations ≡ k.evals + new.session.evaluations)
-    → n.bytes ≤ k.bytes + line_bytes old.session line
-    → Goes old new (line ∷ left) left k n
-goes_answered old new line said left k n going turn answers tally counts few = record {
-  said = said ∷ [];
-  most = line_work old.session line said;
-  answers = λ rest end more others. inr (going, said, rest, new.session, more, refl, refl, inr turn, others);
-  counts = rw answers tally;
-  spent = spent_answered old.session new.session line k n said counts few;
-}
+    → (stepped : Stepped) → CountsCommand (Ok stepped) old.session (command_of line) new.session k.evals n.evals
+    → ReadsCommand old.session (command_of line) k.bytes n.bytes → Goes old new (line ∷ left) left k n
+goes_answered old new line said left k n going turn answers tally stepped counts few =
+    let took = took_answered old.session new.session k n (command_of line) said stepped counts few in
+    record {
+      said = said ∷ [];
+      most = took.own;
+      answers = λ rest end more others. inr (
+        going,
+        said,
+        rest,
+        new.session,
+        took.own,
+        more,
+        refl,
+        refl,
+        record { evals = took.evals; bytes = took.bytes },
+        inr turn,
+        others,
+      );
+      counts = rw answers tally;
+      spent = took.spent;
+    }
 
 -- A line for which no memory was found.
 pub goes_refused : (old new : Run) (line : List ℕ) (left : List (List ℕ)) (k n : Work)
     → old.session.ended ≡ false → new.session ≡ old.session
-    → new.tally ≡ refusal_counted old.tally → (k.evals ≤ n.evals)
-    × (n.evals ≤ k.evals + command_evals (command_of line)) → Goes old new (line ∷ left) left k n
-goes_refused old new line left k n going same tally counts = record {
-  said = no_memory ∷ [];
-  most = line_work old.session line no_memory;
-  answers = λ rest end more others. inr (
-    going,
-    no_memory,
-    rest,
-    new.session,
-    more,
-    refl,
-    refl,
-    inl (refl, same),
-    others,
-  );
-  counts = tally;
-  spent = spent_refused old.session new.session line k n same counts;
-}
+    → new.tally ≡ refusal_counted old.tally → (fault : NoMemory)
+    → CountsCommand {A = Stepped} (Err fault) old.session (command_of line) new.session k.evals n.evals
+    → Goes old new (line ∷ left) left k n
+goes_refused old new line left k n going same tally fault counts =
+    let took = took_refused old.session new.session k n (command_of line) fault same counts in
+    record {
+      said = no_memory ∷ [];
+      most = took.own;
+      answers = λ rest end more others. inr (
+        going,
+        no_memory,
+        rest,
+        new.session,
+        took.own,
+        more,
+        refl,
+        refl,
+        record { evals = took.evals; bytes = took.bytes },
+        inl (refl, same),
+        others,
+      );
+      counts = tally;
+      spent = took.spent;
+    }

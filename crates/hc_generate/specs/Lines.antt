@@ -4,7 +4,7 @@ use Rattle.std.specs.List.{flat_map}
 use Rattle.serde_json.specs.Data.{Data, string, object, no_members, member}
 use Rattle.serde_json.specs.Written.{compact_text}
 use Rattle.hc_base.specs.Bytes.{lf}
-use Rattle.hc_session.specs.Session.{main_file}
+use Rattle.hc_session.specs.State.{main_file}
 use Rattle.hc_generate.specs.declared.step.Leaf.{Leaf}
 use Rattle.hc_generate.specs.declared.step.Leaf.TheVariants.{Listed, Rewritten}
 use Rattle.hc_generate.specs.declared.step.Step.{Step}

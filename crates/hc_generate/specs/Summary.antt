@@ -50,12 +50,12 @@ summary_line state tally =
     ++ member_text (codes ",\"no_memory\":") tally.no_memory)
     ++ codes "}}\n"
 
--- The line is the summary of a run of the script that the seed makes, and the counters have risen by no more than that
--- run gives.
-pub record IsSummary (seed : ℕ) (line : List ℕ) (before after : Work) : Type 0 where
+-- The line is the summary of a run of the script that the seed makes, in a session in which a claim may have so many
+-- branches; and the counters have risen by no more than that run gives.
+pub record IsSummary (limit seed : ℕ) (line : List ℕ) (before after : Work) : Type 0 where
   pub replies : List Reply
   pub state : State
   pub most : Work
-  pub answers : AnswersTaking start (script_of seed) replies state most
+  pub answers : AnswersTaking (start limit) (script_of seed) replies state most
   pub told : line ≡ summary_line state (tally_of replies)
-  pub spent : IsSpent start state replies most before after
+  pub spent : IsSpent (start limit) state replies most before after

@@ -26,12 +26,12 @@ pub(crate) struct Run {
 }
 
 impl Run {
-    pub(crate) fn new(alloc: Global) -> Result<Run, NoMemory>
-        ensures { IfOk result (λ run. (run.session ≡ start) × (run.tally ≡ nothing_said)) }
+    pub(crate) fn new(alloc: Global, limit: u32) -> Result<Run, NoMemory>
+        ensures { IfOk result (λ run. (run.session ≡ start limit) × (run.tally ≡ nothing_said)) }
     {
         Ok(Run {
             alloc,
-            session: Session::new(alloc)?,
+            session: Session::new(alloc, limit)?,
             tally: Tally::new(),
         })
     }

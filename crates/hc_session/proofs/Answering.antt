@@ -7,11 +7,14 @@ use Rattle.hc_session.proofs.Common.{AnswersLinesInPart, IsSpent, Work, work, bo
 use Rattle.std.proofs.lemmas.List.Concat.{flat_map-append}
 use Rattle.std.proofs.lemmas.List.Elements.{filter-append}
 use Rattle.std.proofs.Math.Seq.{take-append-add}
-use Rattle.std.specs.Prelude.{codes, filter}
+use Rattle.std.specs.Prelude.{Err, Ok, Result, codes, filter, if◌then◌else◌}
+use Rattle.std.specs.declared.alloc.AllocError.{AllocError as NoMemory}
 use Rattle.serde_json.proofs.OnLiterals.{serde_json_on_literals}
 use Rattle.hc_json.specs.Reply.{Reply, no_memory, reply_line}
-use Rattle.hc_json.specs.Command.{command_of}
-use Rattle.hc_session.specs.Session.{LineTurn, Says, command_evals, is_no_memory, line_bytes, line_work}
+use Rattle.hc_base.specs.declared.place.Refusal.{Refusal}
+use Rattle.hc_json.specs.Command.{Command, command_of, decide}
+use Rattle.hc_session.specs.Session.{CountsCommand, LineTurn, MayEvaluate, MayRead, ReadsCommand, Says}
+use Rattle.hc_session.specs.Session.{command_bytes, command_evals, is_no_memory}
 use Rattle.hc_session.specs.declared.stepped.Stepped.{Stepped}
 use Rattle.hc_session.proofs.Known.{appends_none, appends_more}
 
@@ -61,34 +64,81 @@ spent_append old mid new replies later most more k m n first next = record {
 
 -- ---- one line
 
-module _ (old new : State) (line : List ℕ) (k n : Work) where
+-- What a command took is what it may take.
+pub record Took (old new : State) (command : Result Command Refusal) (said : Reply) (k n : Work) : Type 0 where
+  pub own : Work
+  pub evals : MayEvaluate old command said own.evals
+  pub bytes : MayRead old command own.bytes
+  pub spent : IsSpent old new (said ∷ []) own k n
+
+-- Nothing was run.
+pub none_counted : (state : State) (command : Result Command Refusal) (fault : NoMemory) (count : ℕ)
+    → CountsCommand {A = Stepped} (Err fault) state command state count count
+none_counted state (Ok (decide claim scope)) fault count = (refl, 0, omega arith, inl refl)
+none_counted state command fault count = (omega arith, omega arith)
+
+module _ (old new : State) (k n : Work) where
   -- No memory was found for it.
-  pub spent_refused : new ≡ old → (k.evals ≤ n.evals) × (n.evals ≤ k.evals + command_evals (command_of line))
-      → IsSpent old new (no_memory ∷ []) (line_work old line no_memory) k n
-  spent_refused same counts = record {
-    rises = counts.0;
-    evals = omega (arith, counts.1, ap (λ s. s.evaluations) same);
-    bytes = λ none. absurd (omega (arith, none));
+  pub took_refused : (command : Result Command Refusal) (fault : NoMemory) → new ≡ old
+      → CountsCommand {A = Stepped} (Err fault) old command new k.evals n.evals → Took old new command no_memory k n
+  took_refused (Ok (decide claim scope)) fault same counts = record {
+    own = work counts.1 n.bytes;
+    evals = counts.3;
+    bytes = tt;
+    spent = record {
+      rises = omega (arith, counts.2);
+      evals = omega (arith, counts.2, counts.0);
+      bytes = λ none. absurd (omega (arith, none));
+    };
+  }
+  took_refused command fault same counts = record {
+    own = work (command_evals command) (command_bytes old command);
+    evals = refl;
+    bytes = refl;
+    spent = record {
+      rises = counts.0;
+      evals = omega (arith, counts.1, ap (λ s. s.evaluations) same);
+      bytes = λ none. absurd (omega (arith, none));
+    };
   }
 
   -- It was answered.
-  pub spent_answered : (said : Reply) → (k.evals ≤ n.evals)
-      × (n.evals ≤ k.evals + command_evals (command_of line))
-      × (n.evals + old.evaluations ≡ k.evals + new.evaluations)
-      → n.bytes ≤ k.bytes + line_bytes old line → IsSpent old new (said ∷ []) (line_work old line said) k n
-  spent_answered said counts few = record { rises = counts.0; evals = omega (arith, counts.2); bytes = λ none. few }
+  pub took_answered : (command : Result Command Refusal) (said : Reply) (stepped : Stepped)
+      → CountsCommand (Ok stepped) old command new k.evals n.evals → ReadsCommand old command k.bytes n.bytes
+      → Took old new command said k n
+  took_answered (Ok (decide claim scope)) said stepped counts reads = record {
+    own = work counts.1 n.bytes;
+    evals = counts.3;
+    bytes = tt;
+    spent = record {
+      rises = omega (arith, counts.2);
+      evals = omega (arith, counts.2, counts.0);
+      bytes = λ none. omega arith;
+    };
+  }
+  took_answered command said stepped counts reads = record {
+    own = work (if is_no_memory said then command_evals command else 0) (command_bytes old command);
+    evals = refl;
+    bytes = refl;
+    spent = record { rises = counts.0; evals = omega (arith, counts.2); bytes = λ none. reads };
+  }
 
 module _ (old new : State) (line : List ℕ) (a b : Option (List ℕ)) (k n : Work) where
   -- The line of the fixed reply was written, whole or in part.
-  module _ (same : new ≡ old)
-      (counts : (k.evals ≤ n.evals) × (n.evals ≤ k.evals + command_evals (command_of line))) where
+  module _ {fault : NoMemory} (same : new ≡ old)
+      (counts : CountsCommand {A = Stepped} (Err fault) old (command_of line) new k.evals n.evals) where
+    refused : Took old new (command_of line) no_memory k n
+    refused = took_refused old new k n (command_of line) fault same counts
+
     pub answers_no_memory : Appends a b (codes "{\"no_memory\":true}\n") → AnswersLine old new line a b k n
     answers_no_memory wrote =
         record {
           reply = no_memory;
           turns = inl (refl, same);
           writes = rw no_memory_printed wrote;
-          spent = spent_refused old new line k n same counts;
+          own = refused.own;
+          takes = record { evals = refused.evals; bytes = refused.bytes };
+          spent = refused.spent;
         }
 
     pub answers_no_memory_in_part : AppendsFront a b (codes "{\"no_memory\":true}\n")
@@ -98,20 +148,26 @@ module _ (old new : State) (line : List ℕ) (a b : Option (List ℕ)) (k n : Wo
           reply = no_memory;
           turns = inl (refl, same);
           writes = rw no_memory_printed wrote;
-          spent = spent_refused old new line k n same counts;
+          own = refused.own;
+          takes = record { evals = refused.evals; bytes = refused.bytes };
+          spent = refused.spent;
         }
 
   -- So was that of another reply.
   module _ (stepped : Stepped) (gave : (said : Reply) × Says said stepped × LineTurn old line said new)
-      (counts : (k.evals ≤ n.evals) × (n.evals ≤ k.evals + command_evals (command_of line))
-      × (n.evals + old.evaluations ≡ k.evals + new.evaluations))
-      (few : n.bytes ≤ k.bytes + line_bytes old line) where
+      (counts : CountsCommand (Ok stepped) old (command_of line) new k.evals n.evals)
+      (few : ReadsCommand old (command_of line) k.bytes n.bytes) where
+    answered : Took old new (command_of line) gave.0 k n
+    answered = took_answered old new k n (command_of line) gave.0 stepped counts few
+
     pub answers_stepped : Appends a b stepped.line → AnswersLine old new line a b k n
     answers_stepped wrote = record {
       reply = gave.0;
       turns = inr gave.2;
       writes = rw (← gave.1.line) wrote;
-      spent = spent_answered old new line k n gave.0 counts few;
+      own = answered.own;
+      takes = record { evals = answered.evals; bytes = answered.bytes };
+      spent = answered.spent;
     }
 
     pub answers_stepped_in_part : AppendsFront a b stepped.line → AnswersInPart old new line a b k n
@@ -119,7 +175,9 @@ module _ (old new : State) (line : List ℕ) (a b : Option (List ℕ)) (k n : Wo
       reply = gave.0;
       turns = inr gave.2;
       writes = rw (← gave.1.line) wrote;
-      spent = spent_answered old new line k n gave.0 counts few;
+      own = answered.own;
+      takes = record { evals = answered.evals; bytes = answered.bytes };
+      spent = answered.spent;
     }
 
 -- ---- several lines
@@ -157,11 +215,13 @@ answers_append old mid new (line ∷ lines) more replies later most rest (inr ru
       run.1,
       run.2 ++ later,
       run.3,
-      both run.4 rest,
-      rw run.5 refl,
-      ap (λ w. both w rest) run.6 ∙ both_assoc (line_work old line run.1) run.4 rest,
-      run.7,
-      answers_append run.3 mid new lines more run.2 later run.4 rest run.8 next,
+      run.4,
+      both run.5 rest,
+      rw run.6 refl,
+      ap (λ w. both w rest) run.7 ∙ both_assoc run.4 run.5 rest,
+      run.8,
+      run.9,
+      answers_append run.3 mid new lines more run.2 later run.5 rest run.10 next,
     )
 
 pub lines_none : (state : State) (a : Option (List ℕ)) (n : Work) → AnswersLines state state [] a a n n
@@ -208,11 +268,11 @@ module _ (old mid : State) (a b c : Option (List ℕ)) (k m n : Work) where
       → AnswersLines old new (line ∷ more) a c k n
   lines_cons new line more going one next = record {
     replies = one.reply ∷ next.replies;
-    most = both (line_work old line one.reply) next.most;
-    answers = inr (going, one.reply, next.replies, mid, next.most, refl, refl, one.turns, next.answers);
+    most = both one.own next.most;
+    answers = inr
+        (going, one.reply, next.replies, mid, one.own, next.most, refl, refl, one.takes, one.turns, next.answers);
     writes = appends_more a b c _ _ one.writes next.writes;
-    spent = spent_append old mid new (one.reply ∷ []) next.replies (line_work old line one.reply) next.most k m n
-        one.spent next.spent;
+    spent = spent_append old mid new (one.reply ∷ []) next.replies one.own next.most k m n one.spent next.spent;
   }
 
   pub lines_append : (new : State) (lines more : List (List ℕ)) → AnswersLines old mid lines a b k m
@@ -248,13 +308,13 @@ pub lines_cons_in_part : (old new : State) (line : List ℕ) (more : List (List 
     (k n : Work) → old.ended ≡ false → AnswersInPart old new line a b k n
     → AnswersLinesInPart old (line ∷ more) a b k n
 lines_cons_in_part old new line more a b k n going one =
-    let all = line_work old line one.reply in
     record {
       count = 1;
       replies = one.reply ∷ [];
       state = new;
-      most = both all (work 0 0);
-      answers = inr (going, one.reply, [], new, work 0 0, refl, refl, one.turns, (refl, refl, refl));
+      most = both one.own (work 0 0);
+      answers = inr
+          (going, one.reply, [], new, one.own, work 0 0, refl, refl, one.takes, one.turns, (refl, refl, refl));
       writes = record {
         sent = [];
         last = one.reply;
@@ -264,5 +324,5 @@ lines_cons_in_part old new line more a b k n going one =
         line = one.writes.whole;
         written = one.writes.written;
       };
-      spent = spent_append old new new (one.reply ∷ []) [] all (work 0 0) k n n one.spent (spent_none new n);
+      spent = spent_append old new new (one.reply ∷ []) [] one.own (work 0 0) k n n one.spent (spent_none new n);
     }

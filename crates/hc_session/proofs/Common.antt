@@ -9,7 +9,7 @@ pub use Rattle.hc_base.proofs.Lines.{HasNoLf-append, HasNoLf-take, at_lf, whole_
 pub use Rattle.hc_base.proofs.Lines.{whole_lines-line, rest_of-line, whole_lines-append, rest_of-append}
 pub use Rattle.hc_base.proofs.Lines.{rest_of-none_longer, HasNoLf-from_rest_of}
 pub use Rattle.hc_base.specs.Lines.{HasNoLf, whole_lines, rest_of}
-pub use Rattle.hc_session.specs.Session.{State, start, AnswersTaking, Work, work, both}
+pub use Rattle.hc_session.specs.Session.{State, AnswersTaking, Work, work, both}
 pub use Rattle.hc_session.specs.Sending.{AppendsFront, SendsInPart, AnswersLine, AnswersInPart, AnswersLines}
 pub use Rattle.hc_session.specs.Sending.{AnswersLinesInPart, IsSpent, output, refusals}
 pub use Rattle.hc_session.specs.declared.limits.TheConstants.{LINE_LIMIT, SCRIPT_LIMIT}

@@ -1,7 +1,7 @@
 -- A run without faults is the session's.
 use Rattle.hc_session.proofs.Common.{◌≡◌, ◌≢◌, ◌⊎◌, ℕ, ◌<◌, List, [], ◌∷◌, length, Bool}
 use Rattle.hc_session.proofs.Common.{true, Option, Some, None, refl, arith, inl, inr, subst, Appends, AnswersTaking}
-use Rattle.hc_session.proofs.Common.{Work, start, whole_lines, rest_of, output, LINE_LIMIT, SCRIPT_LIMIT}
+use Rattle.hc_session.proofs.Common.{State, Work, whole_lines, rest_of, output, LINE_LIMIT, SCRIPT_LIMIT}
 use Rattle.std.proofs.lemmas.Bool.{lt-ltb, le-leb, lt-leb}
 use Rattle.hc_json.specs.Reply.{Reply}
 use Rattle.hc_session.specs.Conversation.{IsFull, Served, Completes, EndsWith, Sends, answered_lines, status_of}
@@ -58,12 +58,12 @@ all_lines : (status : Status) (count : ℕ) (lines : List (List ℕ)) → status
 all_lines WriteFault count lines write = absurd (write refl)
 all_lines status count lines write = refl
 
-pub completes : (left remaining written grown : Option (List ℕ)) (before after : Work) (status : Status)
-    → Served left remaining written grown before after status → status ≢ ReadFault → status ≢ WriteFault
-    → Completes left written grown status
-completes None remaining written grown before after status served read write = tt
-completes (Some input) None written grown before after status served read write = absurd served.takes
-completes (Some input) (Some left) written grown before after status served read write =
+pub completes : (begin : State) (left remaining written grown : Option (List ℕ)) (before after : Work) (status : Status)
+    → Served begin left remaining written grown before after status → status ≢ ReadFault → status ≢ WriteFault
+    → Completes begin left written grown status
+completes begin None remaining written grown before after status served read write = tt
+completes begin (Some input) None written grown before after status served read write = absurd served.takes
+completes begin (Some input) (Some left) written grown before after status served read write =
     let end = ending left served.taken served.state.ended status served.ends read write in (
       output served.replies,
       all_written status written grown served.replies served.writes write,
@@ -74,7 +74,7 @@ completes (Some input) (Some left) written grown before after status served read
         takes = record { left = left; front = served.takes; within = served.within; up_to = end.up_to };
         answers = (
           served.most,
-          subst (λ lines. AnswersTaking start lines served.replies served.state served.most)
+          subst (λ lines. AnswersTaking begin lines served.replies served.state served.most)
               (all_lines status served.count (whole_lines served.taken) write) served.answers,
         );
         writes = refl;

@@ -3,6 +3,7 @@ pub mod Answering
 pub mod AnsweringLoop
 pub mod Asks
 pub mod Completing
+pub mod Claiming
 pub mod Known
 pub mod Requests
 pub mod Serving

@@ -141,6 +141,7 @@ pub site_with : (world : Edited) (site : Site) (config : Config) (files : List K
 site_with world site config files before is read = record {
   age = before.age;
   built = before.built;
+  lines = before.lines;
   reads = before.reads;
   files = λ other is_other. subst (λ config. AreFilesOf world config files)
       (same_ok config other (sym is ∙ is_other)) read;

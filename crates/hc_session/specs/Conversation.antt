@@ -5,7 +5,7 @@ use Rattle.std.specs.Prelude.{Bool, true, false, nat_lt, nat_le, if◌then◌els
 use Rattle.std.specs.Io.KnownBytes.{Consumes, Appends, IsAtEnd}
 use Rattle.hc_base.specs.Lines.{whole_lines, rest_of}
 use Rattle.hc_json.specs.Reply.{Reply}
-use Rattle.hc_session.specs.Session.{Answers, AnswersTaking, State, Work, start}
+use Rattle.hc_session.specs.Session.{Answers, AnswersTaking, State, Work}
 use Rattle.hc_session.specs.Sending.{output, IsSpent, SendsInPart}
 use Rattle.hc_session.specs.declared.limits.TheConstants.{LINE_LIMIT, SCRIPT_LIMIT}
 use Rattle.hc_session.specs.declared.status.Status.{Status}
@@ -47,20 +47,20 @@ status_of_bytes taken =
 abbrev pub status_of : Bool → List ℕ → Status
 status_of ended taken = if ended then Done else status_of_bytes taken
 
--- The session answers an input with this output, and ends with this status.
-pub record IsSession (input bytes : List ℕ) (status : Status) : Type 0 where
+-- A session that begins so answers an input with this output, and ends with this status.
+pub record IsSession (begin : State) (input bytes : List ℕ) (status : Status) : Type 0 where
   pub taken : List ℕ
   pub replies : List Reply
   pub state : State
   pub takes : Takes input taken state.ended
-  pub answers : Answers start (whole_lines taken) replies state
+  pub answers : Answers begin (whole_lines taken) replies state
   pub writes : bytes ≡ output replies
   pub ends : status ≡ status_of state.ended taken
 
 -- Where the source tells its bytes, a run wrote what the session answers to them.
-abbrev pub Completes : Option (List ℕ) → Option (List ℕ) → Option (List ℕ) → Status → Type 0
-Completes left written grown status =
-    IfSome left (λ input. (bytes : List ℕ) × Appends written grown bytes × IsSession input bytes status)
+abbrev pub Completes : State → Option (List ℕ) → Option (List ℕ) → Option (List ℕ) → Status → Type 0
+Completes begin left written grown status =
+    IfSome left (λ input. (bytes : List ℕ) × Appends written grown bytes × IsSession begin input bytes status)
 
 -- ---- any run
 
@@ -92,12 +92,12 @@ abbrev pub status_at_end : List ℕ → Status
 status_at_end [] = Done
 status_at_end (b ∷ bs) = CutLine
 
--- A run that served its source: what was written are the session's replies to the whole lines of the bytes taken, up to
+-- A run that served its source, of a session that begins so: what was written are the session's replies to the whole lines of the bytes taken, up to
 -- an `end`, or to so many of them, where the sink failed at the last one; and the counters have risen by no more than
 -- these
 -- lines give.
-pub record Served (left remaining written grown : Option (List ℕ)) (before after : Work) (status : Status) : Type
-    0 where
+pub record Served (begin : State) (left remaining written grown : Option (List ℕ)) (before after : Work)
+    (status : Status) : Type 0 where
   pub taken : List ℕ
   pub count : ℕ
   pub replies : List Reply
@@ -105,7 +105,7 @@ pub record Served (left remaining written grown : Option (List ℕ)) (before aft
   pub takes : Consumes left remaining taken
   pub within : StaysOpen taken
   pub most : Work
-  pub answers : AnswersTaking start (answered_lines status count (whole_lines taken)) replies state most
+  pub answers : AnswersTaking begin (answered_lines status count (whole_lines taken)) replies state most
   pub writes : Sends status written grown replies
-  pub spent : IsSpent start state replies most before after
+  pub spent : IsSpent begin state replies most before after
   pub ends : EndsWith status remaining taken state.ended

@@ -5,6 +5,7 @@ use Rattle.hc_session.specs.declared.session.Session.TheInside.{Inside}
 
 abbrev pub state_of : Inside → State
 state_of session = record {
+  limit = session.limit;
   world = session.world;
   main = session.main;
   kept = session.answers.entries;

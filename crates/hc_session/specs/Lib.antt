@@ -1,8 +1,11 @@
 pub mod Changes
 pub mod Conversation
+pub mod Deciding
 pub mod Inside
 pub mod Laws
 pub mod Sending
 pub mod Session
 pub mod Sound
+pub mod State
+pub mod Stating
 pub mod Status

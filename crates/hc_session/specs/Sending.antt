@@ -4,7 +4,7 @@ use Rattle.std.specs.Prelude.{Option}
 use Rattle.std.specs.List.{flat_map}
 use Rattle.std.specs.Io.KnownBytes.{Appends}
 use Rattle.hc_json.specs.Reply.{Reply, reply_line}
-use Rattle.hc_session.specs.Session.{State, Turns, AnswersTaking, Work, is_no_memory, line_work}
+use Rattle.hc_session.specs.Session.{State, Turns, AnswersTaking, MayTake, Work, is_no_memory}
 
 -- The lines of these replies.
 abbrev pub output : List Reply → List ℕ
@@ -45,14 +45,18 @@ pub record AnswersLine (old new : State) (line : List ℕ)
   pub reply : Reply
   pub turns : Turns old line reply new
   pub writes : Appends written grown (reply_line reply)
-  pub spent : IsSpent old new (reply ∷ []) (line_work old line reply) before after
+  pub own : Work
+  pub takes : MayTake old line reply own
+  pub spent : IsSpent old new (reply ∷ []) own before after
 
 pub record AnswersInPart (old new : State) (line : List ℕ)
     (written grown : Option (List ℕ)) (before after : Work) : Type 0 where
   pub reply : Reply
   pub turns : Turns old line reply new
   pub writes : AppendsFront written grown (reply_line reply)
-  pub spent : IsSpent old new (reply ∷ []) (line_work old line reply) before after
+  pub own : Work
+  pub takes : MayTake old line reply own
+  pub spent : IsSpent old new (reply ∷ []) own before after
 
 -- Several lines were answered.
 pub record AnswersLines (old new : State) (lines : List (List ℕ))

@@ -1,22 +1,22 @@
 -- The session: what each line of a script is answered, and what it leaves. Our own choice.
 use Rattle.std.specs.Prelude.{◌≡◌, ◌⊎◌, ◌+◌, ◌≤◌, ◌==◌, ℕ, List, [], ◌∷◌, length}
 use Rattle.std.specs.Prelude.{take, Bool, true, false, if◌then◌else◌, is_some, Option, Some, None, Result, Ok}
-use Rattle.std.specs.Prelude.{Err, codes}
-use Rattle.std.specs.FinMap.{empty}
+use Rattle.std.specs.Prelude.{Err, ⊤}
 use Rattle.std.specs.Str.{bytes_eq}
 use Rattle.hc_base.specs.declared.codes.TheConstants.{PATH_FORM}
 use Rattle.hc_base.specs.declared.place.Refusal.{Refusal}
-use Rattle.hc_cache.specs.Entries.{Entry, stored, value_of}
+use Rattle.hc_cache.specs.Entries.{stored, value_of}
 use Rattle.hc_json.specs.Asked.{Question}
-use Rattle.hc_json.specs.Command.{Command, put, list, drop, edit, main, check, ask, stats, end, bad_line, command_of}
+use Rattle.hc_json.specs.Claims.{ClaimForm, ScopeForm}
+use Rattle.hc_json.specs.Command.{Command, put, list, drop, edit, main, check, ask, decide, stats, end}
+use Rattle.hc_json.specs.Command.{bad_line, command_of}
 use Rattle.hc_json.specs.Reply as reply
 use Rattle.hc_json.specs.Reply.{Reply, reply_line}
 use Rattle.hc_json.specs.Trail.{trailed_of}
 use Rattle.hc_json.specs.declared.reply.Done.{Done}
 use Rattle.hc_json.specs.declared.reply.Done.TheVariants as what
 use Rattle.hc_include.specs.Flat.{bytes_of}
-use Rattle.hc_kept.specs.Site.{configuration}
-use Rattle.hc_model.specs.World.{World, is_path, new_world, put as put_in}
+use Rattle.hc_model.specs.World.{World, is_path, put as put_in}
 use Rattle.hc_model.specs.declared.config.Config.{Config}
 use Rattle.hc_model.specs.declared.outcome.Outcome.{Outcome}
 use Rattle.hc_model.specs.declared.outcome.Outcome.TheVariants as outcome
@@ -28,60 +28,15 @@ use Rattle.hc_serve.specs.declared.answer.Answer.{Answer}
 use Rattle.hc_serve.specs.declared.answer.TheConstants.{LONGEST_TRAIL}
 use Rattle.hc_steps.specs.Step.{Path}
 use Rattle.hc_world.specs.Edits.{Edited, IsAccepted, dropped, lines_edited, listed}
+use Rattle.hc_session.specs.Deciding.{DecideTurn, MayTry}
+pub use Rattle.hc_session.specs.State.{IsTurn, Kept, State, Turn, present, refusing, saying, start}
 use Rattle.hc_session.specs.declared.limits.TheConstants.{FORBIDDEN, KEPT_ANSWERS}
 use Rattle.hc_session.specs.declared.stepped.Said.{Said}
 use Rattle.hc_session.specs.declared.stepped.Said.TheVariants as is
 use Rattle.hc_session.specs.declared.stepped.Stepped.{Stepped}
 use Rattle.std.specs.declared.alloc.AllocError.{AllocError as NoMemory}
 
--- ---- what a session has
-
--- An answer that is kept, by its request.
-abbrev pub Kept : Type 0
-Kept = Entry Request Answer
-
--- The files, the path of the main file, the answers that are kept, how many asks were answered with an outcome, how
--- many of them were evaluated, and whether it has ended.
-pub record State : Type 0 where
-  pub world : Edited
-  pub main : Path
-  pub kept : List Kept
-  pub asks : ℕ
-  pub evaluations : ℕ
-  pub ended : Bool
-
--- The path of the main file, until another is named.
-abbrev pub main_file : Path
-main_file = codes "/etc/httpd/conf/httpd.conf"
-
-abbrev pub start : State
-start = record {
-  world = record { files = new_world; edits = 0; changes = empty };
-  main = main_file;
-  kept = [];
-  asks = 0;
-  evaluations = 0;
-  ended = false;
-}
-
--- The configuration that the present files give, or its first refusal.
-abbrev pub present : State → Result Config Refusal
-present state = configuration state.world.files state.main
-
--- ---- a line that leaves the files as they are
-
-pub record Turn : Type 0 where
-  pub reply : Reply
-  pub state : State
-
-abbrev pub IsTurn : Turn → Reply → State → Type 0
-IsTurn turn said new = (said ≡ turn.reply) × (new ≡ turn.state)
-
-abbrev pub refusing : State → Refusal → Turn
-refusing state refusal = record { reply = reply.refused refusal; state = state }
-
-abbrev pub saying : State → Reply → Turn
-saying state said = record { reply = said; state = state }
+-- ---- what asks nothing of a request
 
 abbrev pub check_reply : Result Config Refusal → Reply
 check_reply (Ok found) = reply.configured (length found.hosts)
@@ -167,7 +122,7 @@ EditTurn done old (Err code) said new = IsTurn (refusing old (bad_line code []))
 
 -- ---- a line
 
--- The one reply to a command, and what it leaves.
+-- The reply to a command, and what it leaves.
 abbrev pub CommandTurn : State → Result Command Refusal → Reply → State → Type 0
 CommandTurn old (Ok (put path text)) said new = EditTurn what.Put old (put_in old.world.files path text) said new
 CommandTurn old (Ok (list path kind)) said new = EditTurn what.ListPath old (listed old.world.files path kind) said new
@@ -177,6 +132,7 @@ CommandTurn old (Ok (edit path from to text)) said new =
 CommandTurn old (Ok (main path)) said new = IsTurn (main_turn old path) said new
 CommandTurn old (Ok check) said new = IsTurn (check_turn old) said new
 CommandTurn old (Ok (ask question)) said new = IsTurn (ask_turn old question (present old)) said new
+CommandTurn old (Ok (decide claim scope)) said new = DecideTurn old claim scope said new
 CommandTurn old (Ok stats) said new = IsTurn (stats_turn old) said new
 CommandTurn old (Ok end) said new = IsTurn (end_turn old) said new
 CommandTurn old (Err refusal) said new = IsTurn (refusing old refusal) said new
@@ -184,7 +140,7 @@ CommandTurn old (Err refusal) said new = IsTurn (refusing old refusal) said new
 abbrev pub LineTurn : State → List ℕ → Reply → State → Type 0
 LineTurn old line said new = CommandTurn old (command_of line) said new
 
--- A line may be answered `no_memory`, with all as before; else it has its one reply.
+-- A line may be answered `no_memory`, with all as before; else it has its reply.
 abbrev pub Turns : State → List ℕ → Reply → State → Type 0
 Turns old line said new = ((said ≡ reply.no_memory) × (new ≡ old)) ⊎ LineTurn old line said new
 
@@ -207,7 +163,7 @@ new_bytes state request = site_bytes state + request_bytes state.world.files (pr
 abbrev pub ask_bytes : State → Request → ℕ
 ask_bytes state request = if is_kept state request then 0 else new_bytes state request
 
--- All but a `check` and an ask read nothing.
+-- All but a `check`, an ask and a `decide` read nothing.
 unfoldable pub command_bytes : State → Result Command Refusal → ℕ
 command_bytes state (Ok check) = site_bytes state
 command_bytes state (Ok (ask question)) = ask_bytes state question.request
@@ -229,7 +185,7 @@ work evals bytes = record { evals = evals; bytes = bytes }
 abbrev pub both : Work → Work → Work
 both one other = work (one.evals + other.evals) (one.bytes + other.bytes)
 
--- An ask is evaluated at most once, and nothing else is.
+-- An ask is evaluated at most once.
 abbrev pub command_evals : Result Command Refusal → ℕ
 command_evals (Ok (ask question)) = 1
 command_evals other = 0
@@ -238,11 +194,20 @@ abbrev pub is_no_memory : Reply → Bool
 is_no_memory reply.no_memory = true
 is_no_memory other = false
 
--- What a line may take beside the evaluations that the session counts: one evaluation where it is an ask that is
--- answered
--- `no_memory`, and the bytes of the texts that it may read.
-abbrev pub line_work : State → List ℕ → Reply → Work
-line_work old line said = work (if is_no_memory said then command_evals (command_of line) else 0) (line_bytes old line)
+-- What a command may evaluate beside the evaluations that the session counts: an ask that is answered `no_memory` once,
+-- and a `decide` the candidates of branches that may break its claim.
+abbrev pub MayEvaluate : State → Result Command Refusal → Reply → ℕ → Type 0
+MayEvaluate old (Ok (decide claim scope)) said count = MayTry old claim scope count
+MayEvaluate old command said count = count ≡ (if is_no_memory said then command_evals command else 0)
+
+-- The bytes of the texts that it may read; of a `decide` nothing is said.
+abbrev pub MayRead : State → Result Command Refusal → ℕ → Type 0
+MayRead old (Ok (decide claim scope)) count = ⊤
+MayRead old command count = count ≡ command_bytes old command
+
+pub record MayTake (old : State) (line : List ℕ) (said : Reply) (own : Work) : Type 0 where
+  pub evals : MayEvaluate old (command_of line) said own.evals
+  pub bytes : MayRead old (command_of line) own.bytes
 
 -- The session may give these replies to these lines, one after another, and leave this state; and the lines may take so
 -- much. Lines behind an `end` have no replies.
@@ -250,8 +215,8 @@ abbrev pub AnswersTaking : State → List (List ℕ) → List Reply → State �
 AnswersTaking old [] replies new most = (replies ≡ []) × (new ≡ old) × (most ≡ work 0 0)
 AnswersTaking old (line ∷ lines) replies new most =
     ((old.ended ≡ true) × (replies ≡ []) × (new ≡ old) × (most ≡ work 0 0))
-    ⊎ ((old.ended ≡ false) × (said : Reply) × (rest : List Reply) × (mid : State) × (more : Work)
-    × (replies ≡ said ∷ rest) × (most ≡ both (line_work old line said) more)
+    ⊎ ((old.ended ≡ false) × (said : Reply) × (rest : List Reply) × (mid : State) × (own : Work) × (more : Work)
+    × (replies ≡ said ∷ rest) × (most ≡ both own more) × MayTake old line said own
     × Turns old line said mid × AnswersTaking mid lines rest new more)
 
 abbrev pub Answers : State → List (List ℕ) → List Reply → State → Type 0
@@ -286,9 +251,10 @@ Gave (Err _) turn old new = new ≡ old
 abbrev pub StepTurn : Result Stepped NoMemory → State → List ℕ → State → Type 0
 StepTurn result old line new = Gave result (LineTurn old line) old new
 
--- Which lines read no file: all but a `check` and an `ask` that has to be evaluated.
+-- Which lines read no file: all but a `check`, an `ask` that has to be evaluated and a `decide`.
 abbrev pub reads_nothing : State → Result Command Refusal → Bool
 reads_nothing state (Ok check) = false
+reads_nothing state (Ok (decide claim scope)) = false
 reads_nothing state (Ok (ask question)) = is_kept state question.request
 reads_nothing state other = true
 
@@ -317,3 +283,17 @@ abbrev pub Counts : {A : Type 0} → Result A NoMemory → ℕ → State → Sta
 Counts (Ok made) most old new before after =
     (before ≤ after) × (after ≤ before + most) × (after + old.evaluations ≡ before + new.evaluations)
 Counts (Err _) most old new before after = (before ≤ after) × (after ≤ before + most)
+
+-- The runs of a `decide` are no evaluations of the session.
+abbrev pub CountsRuns : State → ClaimForm → ScopeForm → State → ℕ → ℕ → Type 0
+CountsRuns old claim scope new before after =
+    (new.evaluations ≡ old.evaluations) × (spent : ℕ) × (after ≡ before + spent) × MayTry old claim scope spent
+
+abbrev pub CountsCommand : {A : Type 0} → Result A NoMemory → State → Result Command Refusal → State → ℕ → ℕ → Type 0
+CountsCommand result old (Ok (decide claim scope)) new before after = CountsRuns old claim scope new before after
+CountsCommand result old command new before after = Counts result (command_evals command) old new before after
+
+-- The counter of bytes rises by no more than the command may read; of a `decide` nothing is said.
+abbrev pub ReadsCommand : State → Result Command Refusal → ℕ → ℕ → Type 0
+ReadsCommand old (Ok (decide claim scope)) before after = ⊤
+ReadsCommand old command before after = after ≤ before + command_bytes old command

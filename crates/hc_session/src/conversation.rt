@@ -1,5 +1,5 @@
 ghost use Rattle.std.specs.Prelude.{◌≡◌, ◌≢◌, ◌<◌, ◌^◌, ◌-◌, ◌≤◌};
-ghost use Rattle.std.specs.Prelude.{[], IfOk, OnErr, length};
+ghost use Rattle.std.specs.Prelude.{[], IfOk, OnErr, false, length};
 ghost use Rattle.std.specs.Io.KnownBytes.{Consumes, Keeps, IsAtEnd};
 ghost use Rattle.hc_base.specs.Faults.{HasCause};
 ghost use Rattle.hc_session.specs.Conversation.{Served, Completes, status_at_end};
@@ -18,8 +18,10 @@ use std::sync::ledger::Ledger;
 /// source ends, or a line or the script reaches its limit. All that takes memory first (a line
 /// buffer of 16 MiB) is taken before the first byte is read. `evals` rises by one for each request
 /// that is evaluated, and `bytes` by the bytes of the configuration and `.htaccess` texts that are read.
+/// A claim may have fewer branches than `limit`.
 pub fn serve_session<S: Source, K: Sink, E: Ledger, B: Ledger>(
     alloc: Global,
+    limit: u32,
     source: &mut S,
     sink: &mut K,
     evals: &mut Counter<E>,
@@ -32,15 +34,15 @@ pub fn serve_session<S: Source, K: Sink, E: Ledger, B: Ledger>(
     // replies to these bytes, and the status is the session's.
     ensures complete { S.faults source.new ≡ S.faults source.old → K.faults sink.new ≡ K.faults sink.old
         → result ≢ Status.NoMemory
-        → Completes (S.left source.old) (K.written sink.old) (K.written sink.new) result }
+        → Completes (start limit) (S.left source.old) (K.written sink.old) (K.written sink.new) result }
 
     // In every case what was written are the replies to the whole lines taken, unless the sink
     // failed: then those to some of them, of the last one's a front. `evals` has risen by no more
-    // than the evaluations that these lines count, and by one for each ask among them that was
-    // answered `no_memory`; and `bytes`, where no line was, by no more than the texts that they may
-    // read.
+    // than the evaluations that these lines count, by one for each ask among them that was
+    // answered `no_memory`, and by the candidates that each `decide` may try; and `bytes`, where no
+    // line was answered so and none is a `decide`, by no more than the texts that they may read.
     ensures served { result ≢ Status.NoMemory
-        → Served (S.left source.old) (S.left source.new)
+        → Served (start limit) (S.left source.old) (S.left source.new)
         (K.written sink.old) (K.written sink.new)
         (work evals.old bytes.old) (work evals.new bytes.new) result }
 
@@ -50,7 +52,7 @@ pub fn serve_session<S: Source, K: Sink, E: Ledger, B: Ledger>(
     ensures untouched { result ≡ Status.NoMemory → (source.new ≡ source.old) × (sink.new ≡ sink.old) }
     ensures idle { result ≡ Status.NoMemory → work evals.new bytes.new ≡ work evals.old bytes.old }
 {
-    match Desk::new(alloc) {
+    match Desk::new(alloc, limit) {
         Ok(mut desk) => serve(
             &mut desk.session,
             &mut desk.line,
@@ -71,12 +73,12 @@ struct Desk {
 }
 
 impl Desk {
-    fn new(alloc: Global) -> Result<Desk, NoMemory>
-        ensures session { IfOk result (λ desk. desk.session ≡ start) }
+    fn new(alloc: Global, limit: u32) -> Result<Desk, NoMemory>
+        ensures session { IfOk result (λ desk. desk.session ≡ start limit) }
         ensures line { IfOk result (λ desk. desk.line ≡ []) }
     {
         Ok(Desk {
-            session: Session::new(alloc)?,
+            session: Session::new(alloc, limit)?,
             line: LineBuffer::new(alloc)?,
         })
     }
@@ -90,11 +92,11 @@ fn serve<S: Source, K: Sink, E: Ledger, B: Ledger>(
     evals: &mut Counter<E>,
     bytes: &mut Counter<B>,
 ) -> Status
-    requires session { session.old ≡ start }
+    requires going { session.old.ended ≡ false }
     requires line { line.old ≡ [] }
     requires source_counts { S.faults source.old < 2 ^ 64 - 1 }
     requires sink_counts { K.faults sink.old < 2 ^ 64 - 1 }
-    ensures served { Served (S.left source.old) (S.left source.new)
+    ensures served { Served session.old (S.left source.old) (S.left source.new)
         (K.written sink.old) (K.written sink.new)
         (work evals.old bytes.old) (work evals.new bytes.new) result }
     ensures read_fault { result ≡ Status.ReadFault → S.faults source.old < S.faults source.new }

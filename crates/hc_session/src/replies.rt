@@ -1,18 +1,26 @@
 //! The lines of replies, each with what a summary counts of it.
 ghost use Rattle.std.specs.Prelude.{◌≡◌, [], IfOk};
+ghost use Rattle.hc_base.specs.declared.codes.TheConstants.{SET_SYNTAX};
 ghost use Rattle.hc_json.specs.Command.{bad_line};
 ghost use Rattle.hc_json.specs.CommandView.{no_command_view};
 ghost use Rattle.hc_json.specs.Reply as reply;
 ghost use Rattle.hc_json.specs.ReplyView.{reply_view};
+ghost use Rattle.hc_stated.specs.Stated.{field_name};
+ghost use Rattle.hc_session.specs.Deciding.{bad_pattern_line, decided_reply};
 ghost use Rattle.hc_session.specs.Session.{Says, answer_reply, check_reply, said_of_outcome};
 
 use crate::limits::FORBIDDEN;
 use crate::stepped::{Said, Stepped};
-use hc_base::codes::{BAD_COMMAND, BAD_JSON};
+use hc_base::codes::{BAD_COMMAND, BAD_JSON, SET_SYNTAX};
 use hc_base::{NoMemory, Refusal};
-use hc_json::{NoCommand, Reply, Trail, bad_line, print_outcome, print_reply, print_trailed};
+use hc_claim::Decided;
+use hc_json::{
+    NoCommand, Reply, Trail, bad_line, print_outcome, print_refuted, print_reply, print_trailed,
+    print_undecided,
+};
 use hc_model::{Config, Outcome};
 use hc_serve::Answer;
+use hc_stated::{BadPattern, Field};
 use hc_world::World;
 use std::alloc::Global;
 
@@ -58,6 +66,45 @@ pub(crate) fn checked(alloc: Global, built: &Result<Config, Refusal>) -> Result<
     match built {
         Ok(config) => replied(alloc, &Reply::Config(config.hosts.as_slice().len())),
         Err(refusal) => refusing(alloc, refusal),
+    }
+}
+
+/// The refusal of a set that is none.
+pub(crate) fn no_set(alloc: Global, field: Field) -> Result<Stepped, NoMemory>
+    ensures { IfOk result (Says (reply.refused (bad_line SET_SYNTAX (field_name field)))) }
+{
+    replied(
+        alloc,
+        &Reply::Refused(bad_line(alloc, SET_SYNTAX, field.name())?),
+    )
+}
+
+/// The refusal of a pattern in a set.
+pub(crate) fn no_pattern(alloc: Global, bad: BadPattern) -> Result<Stepped, NoMemory>
+    ensures { IfOk result (Says (reply.refused (bad_pattern_line bad))) }
+{
+    let refusal = Refusal {
+        at: bad.why.at,
+        ..bad_line(alloc, bad.why.code, bad.field.name())?
+    };
+    replied(alloc, &Reply::Refused(refusal))
+}
+
+/// The answer to a claim.
+pub(crate) fn decided(alloc: Global, answer: &Decided) -> Result<Stepped, NoMemory>
+    ensures { IfOk result (Says (decided_reply answer.now)) }
+{
+    match answer {
+        Decided::Proved => replied(alloc, &Reply::Proved),
+        Decided::TooMany { count } => replied(alloc, &Reply::TooMany(*count)),
+        Decided::Refuted { request, run } => Ok(Stepped {
+            line: print_refuted(alloc, &run.outcome, request)?,
+            said: Said::Other,
+        }),
+        Decided::Undecided { branch } => Ok(Stepped {
+            line: print_undecided(alloc, branch.as_slice())?,
+            said: Said::Other,
+        }),
     }
 }
 

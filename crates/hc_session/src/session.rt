@@ -2,28 +2,32 @@ ghost use Rattle.std.specs.Prelude.{◌≡◌, ◌+◌, ◌<◌, ◌≤◌, ◌-
 ghost use Rattle.std.specs.Prelude.{IfSome, OnOk};
 ghost use Rattle.hc_base.specs.Paths.{begins_with_slash};
 ghost use Rattle.hc_json.specs.Command.{command_of};
-ghost use Rattle.hc_json.specs.CommandView.{question_view, request_view};
+ghost use Rattle.hc_json.specs.CommandView.{claim_view, question_view, request_view, scope_view};
 ghost use Rattle.hc_kept.specs.Site.{is_current_site};
 ghost use Rattle.hc_session.specs.Changes.{changed_by, done_of};
-ghost use Rattle.hc_session.specs.Session.{Counts, EditTurn, Gave, IsTurn, StepTurn, ask_turn};
-ghost use Rattle.hc_session.specs.Session.{ask_bytes, check_turn, command_bytes, command_evals, end_turn};
+ghost use Rattle.hc_session.specs.Deciding.{DecideTurn, present_lines};
+ghost use Rattle.hc_session.specs.Session.{Counts, CountsCommand, CountsRuns, EditTurn, Gave, IsTurn, ReadsCommand};
+ghost use Rattle.hc_session.specs.Session.{StepTurn, ask_bytes, ask_turn, check_turn, end_turn};
 ghost use Rattle.hc_session.specs.Session.{evaluated_turn, is_kept, kept_turn, main_turn, new_bytes, new_turn, present};
 ghost use Rattle.hc_session.specs.Session.{reads_nothing};
 ghost use Rattle.hc_session.specs.Session.{site_bytes, start, stats_turn};
 ghost use Rattle.hc_session.specs.Sound.{IsAnswerOf, IsSite};
+ghost use Rattle.hc_session.specs.Stating.{IsRead, claim_in, scope_in};
 
 use crate::asking::find_answer;
 use crate::changes::{Change, done_of, make};
+use crate::deciding::{Stating, decide_at};
 use crate::limits::KEPT_ANSWERS;
-use crate::replies::{answered, checked, no_command, refused, refusing, replied};
+use crate::replies::{answered, checked, no_command, no_set, refused, refusing, replied};
 use crate::stepped::Stepped;
 use hc_base::codes::PATH_FORM;
 use hc_base::{Counter, Fault, NoMemory, Text};
 use hc_cache::Cache;
-use hc_json::{Asked, Command, Done, Reply, command_in, parse};
+use hc_json::{Asked, ClaimForm, Command, Done, Reply, ScopeForm, command_in, parse};
 use hc_kept::Site;
 use hc_model::Request;
 use hc_serve::Answer;
+use hc_stated::sets_in;
 use hc_world::{World, is_path};
 use std::alloc::Global;
 use std::marker::Model;
@@ -37,6 +41,8 @@ pub const MAIN_FILE: &str = "/etc/httpd/conf/httpd.conf";
 #[derive(Drop)]
 pub struct Session {
     alloc: Global,
+    /// A claim may have fewer branches than these.
+    limit: u32,
     world: World,
     main: Text,
     answers: Cache<Request, Answer>,
@@ -66,12 +72,13 @@ impl Model for Session {
 }
 
 impl Session {
-    /// A session whose world has the root alone.
-    pub fn new(alloc: Global) -> Result<Session, NoMemory>
-        ensures { IfOk result (λ session. session ≡ start) }
+    /// A session whose world has the root alone, and in which a claim may have fewer branches than `limit`.
+    pub fn new(alloc: Global, limit: u32) -> Result<Session, NoMemory>
+        ensures { IfOk result (λ session. session ≡ start limit) }
     {
         Ok(Session {
             alloc,
+            limit,
             world: World::new(alloc)?,
             main: Text::copy_of(alloc, MAIN_FILE.as_bytes())?,
             answers: Cache::new(alloc, KEPT_ANSWERS),
@@ -104,8 +111,8 @@ impl Session {
     }
 
     /// Answers a line with the line of its reply. Want of memory leaves all as before. `evals` rises by one where the
-    /// request of an ask is evaluated, and `bytes` by the bytes of the configuration and `.htaccess`
-    /// texts that are read.
+    /// request of an ask is evaluated, and where a candidate that may break a claim is run; and `bytes` by the bytes of
+    /// the configuration and `.htaccess` texts that are read.
     #[tactic(auto, unfolding(crate::specs::Session::command_bytes))]
     pub fn step<E: Ledger, L: Ledger>(
         &mut self,
@@ -114,9 +121,9 @@ impl Session {
         bytes: &mut Counter<L>,
     ) -> Result<Stepped, NoMemory>
         ensures turned { StepTurn result self.old line.now self.new }
-        ensures evals { Counts result (command_evals (command_of line.now)) self.old self.new evals.old evals.new }
+        ensures evals { CountsCommand result self.old (command_of line.now) self.new evals.old evals.new }
         ensures idle { reads_nothing self.old (command_of line.now) ≡ true → bytes.new ≡ bytes.old }
-        ensures bytes { OnOk result (bytes.new ≤ bytes.old + command_bytes self.old (command_of line.now)) }
+        ensures bytes { OnOk result (ReadsCommand self.old (command_of line.now) bytes.old bytes.new) }
     {
         let value = parse(self.alloc, line)?;
         match command_in(self.alloc, &value)? {
@@ -139,6 +146,7 @@ impl Session {
             Ok(Command::Main { path }) => self.name_main(path),
             Ok(Command::Check) => self.check(bytes),
             Ok(Command::Ask(asked)) => self.ask(&asked, evals, bytes),
+            Ok(Command::Decide { claim, scope }) => self.decide(claim, scope, evals, bytes),
             Ok(Command::Stats) => self.stats(),
             Ok(Command::End) => self.end(),
             Err(why) => no_command(self.alloc, why),
@@ -270,11 +278,66 @@ impl Session {
         }
     }
 
+    // Decides a claim.
+    fn decide<E: Ledger, L: Ledger>(
+        &mut self,
+        claim: ClaimForm<'_>,
+        scope: ScopeForm<'_>,
+        evals: &mut Counter<E>,
+        bytes: &mut Counter<L>,
+    ) -> Result<Stepped, NoMemory>
+        ensures turned { Gave result (DecideTurn self.old (claim_view claim.entry) (scope_view scope.entry))
+            self.old self.new }
+        ensures evals { CountsRuns self.old (claim_view claim.entry) (scope_view scope.entry) self.new
+            evals.old evals.new }
+    {
+        match sets_in(self.alloc, claim, scope)? {
+            Ok(sets) => self.decide_with(
+                Stating {
+                    claim,
+                    scope,
+                    sets: &sets,
+                },
+                evals,
+                bytes,
+            ),
+            Err(field) => no_set(self.alloc, field),
+        }
+    }
+
+    // The same with its sets as they are written.
+    fn decide_with<E: Ledger, L: Ledger>(
+        &mut self,
+        stating: Stating<'_>,
+        evals: &mut Counter<E>,
+        bytes: &mut Counter<L>,
+    ) -> Result<Stepped, NoMemory>
+        requires sets { IsRead stating }
+        ensures turned { Gave result (DecideTurn self.old (claim_in stating.entry) (scope_in stating.entry))
+            self.old self.new }
+        ensures evals { CountsRuns self.old (claim_in stating.entry) (scope_in stating.entry) self.new
+            evals.old evals.new }
+    {
+        let mut site = self.take_site(bytes)?;
+        let stepped = decide_at(
+            self.alloc,
+            &self.world,
+            &mut site,
+            stating,
+            self.limit,
+            evals,
+            bytes,
+        );
+        put_back(&mut self.site, site);
+        stepped
+    }
+
     // What the main file is read as: what was read of it while that stands, or else read anew.
     fn take_site<L: Ledger>(&mut self, bytes: &mut Counter<L>) -> Result<Site, NoMemory>
         ensures same { self.new ≡ self.old }
         ensures site { IfOk result (IsSite self.old.world self.old.main) }
         ensures built { IfOk result (λ site. site.built ≡ present self.old) }
+        ensures lines { IfOk result (λ site. site.lines ≡ present_lines self.old) }
         ensures bytes { OnOk result (bytes.new ≤ bytes.old + site_bytes self.old) }
     {
         match take_current(&mut self.site, &self.world) {

@@ -7,4 +7,4 @@
 mod decimal;
 mod words;
 
-pub use words::{Words, WordsFault, read_words};
+pub use words::{DEFAULT_CELLS, Words, WordsFault, read_words};

@@ -21,19 +21,20 @@ answered old first new lines said most same answers =
     (answers [] new (work 0 0) (refl, refl, refl))))
 
 -- A run from the start that leaves no step.
-summed : (old new : Run) (seed x : ℕ) (k n : Work) (line : List ℕ) → (old.session ≡ start)
+summed : (old new : Run) (limit seed x : ℕ) (k n : Work) (line : List ℕ) → (old.session ≡ start limit)
     × (old.tally ≡ nothing_said) → x ≡ seed
     → Takes old new (Main ∷ files_behind x) [] k n → line ≡ summary_line new.session new.tally
-    → IsSummary seed line k n
-summed old new seed x k n line fresh same goes told = record {
+    → IsSummary limit seed line k n
+summed old new limit seed x k n line fresh same goes told = record {
   replies = goes.said;
   state = new.session;
   most = goes.most;
-  answers = subst (λ s. AnswersTaking start (script_of s) goes.said new.session goes.most) same
-      (answered _ start _ (script_of x) goes.said goes.most fresh.0 goes.answers);
+  answers = subst (λ s. AnswersTaking (start limit) (script_of s) goes.said new.session goes.most) same
+      (answered _ (start limit) _ (script_of x) goes.said goes.most fresh.0 goes.answers);
   told = rw (← fresh.1, ← goes.counts) told;
   spent = rw (← fresh.0) goes.spent;
 }
 
 pub returns : goal.returns
-returns g c = summed _ _ _ _ _ _ _ c.requires.fresh c.new.ensures c.take_all.ensures c.tell.ensures
+returns g c = λ limit begins.
+    summed _ _ limit _ _ _ _ _ (begins, c.requires.fresh) c.new.ensures c.take_all.ensures c.tell.ensures

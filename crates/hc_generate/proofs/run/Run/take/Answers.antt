@@ -1,4 +1,5 @@
-use Rattle.std.proofs.Common.{arith, refl, sym, ◌∙◌}
+use Rattle.std.proofs.Common.{refl, sym, ◌∙◌}
+use Rattle.hc_session.proofs.Answering.{none_counted}
 use Rattle.hc_generate.proofs.Going.{goes_ended, goes_refused}
 use Rattle.hc_generate.proofs.run.Run.take.Goals as goal
 
@@ -12,4 +13,4 @@ returns-in-Ok-clause-goes g c = λ left.
 pub returns-in-Err-clause-goes : goal.returns-in-Err-clause-goes
 returns-in-Err-clause-goes g c = λ left.
     goes_refused _ _ _ _ _ _ (sym c.has_ended.ensures ∙ c.if-has_ended.false) refl c.count_refusal.ensures.tally
-    (omega arith, omega arith)
+    _ (none_counted _ _ _ _)

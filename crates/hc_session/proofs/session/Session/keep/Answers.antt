@@ -39,6 +39,7 @@ returns c =
       (
         refl,
         (λ i. record {
+          limit = inside.limit;
           world = inside.world;
           main = inside.main;
           kept = ((ap (λ (cached : Cached Request Answer). cached.entries) kept ∙ limited) i);
