@@ -10,14 +10,14 @@ TIME = shutil.which("time")
 RUNS = 5
 
 
-def run_once(program, source, replies):
+def run_once(program, source, replies, args=()):
     """The processor seconds, the peak memory in KiB and the status of one run. What other processes take doesn't count."""
     report = f"{replies}.peak"
     # A child's peak is at least that of the process that starts it, so a small one does where there
     # is one.
     words = [TIME, "-f", "%M", "-o", report] if TIME else []
     with open(source, "rb") as given, open(replies, "wb") as made:
-        child = subprocess.Popen([*words, program], stdin=given, stdout=made)
+        child = subprocess.Popen([*words, program, *args], stdin=given, stdout=made)
         _, status, usage = os.wait4(child.pid, 0)
     seconds = usage.ru_utime + usage.ru_stime
     child.returncode = os.waitstatus_to_exitcode(status)
@@ -34,9 +34,9 @@ def differs(replies, wanted):
         return None if given.read() == wanted else "another reply"
 
 
-def checked_run(program, source, replies, fault_in):
+def checked_run(program, source, replies, fault_in, args=()):
     """The processor seconds and the peak memory in KiB of one run, which ends with status 0 and replies without a fault."""
-    seconds, peak, status = run_once(program, source, replies)
+    seconds, peak, status = run_once(program, source, replies, args)
     fault = f"the program ended with status {status}" if status else fault_in(replies)
     if fault:
         sys.exit(f"FAIL  {source}: {fault}")

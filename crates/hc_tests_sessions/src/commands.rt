@@ -12,7 +12,7 @@ static WRONG: &[&str] = &[
     r#"7 -> bad do"#,
     r#"{} -> bad do"#,
     r#"{"do":7} -> bad do"#,
-    r#"{"do":"decide"} -> bad do"#,
+    r#"{"do":"decide"} -> bad claim"#,
     r#"{"do":"verify","x":1} -> bad do"#,
     r#"{"do":"follow"} -> bad do"#,
     r#"{"do":"stats","x":1} -> bad x"#,

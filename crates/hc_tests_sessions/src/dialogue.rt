@@ -6,6 +6,7 @@
 //! - `main TEXT` and `PATH TEXT` put a file, whose text stands as in JSON; `file PATH ..` and `dir PATH ..` list some
 //! - `ask TARGET FIELD=VALUE ..` asks, `check` checks
 //! - `stats ASKS EVALUATIONS` asks for these stats
+//! - `decide ..`: see `claims`; `cells COUNT` says how many branches are too many in the whole dialogue
 //! - any other line is a command as it stands
 //!
 //! Behind a command stand ` -> ` and its reply in short, or a line with the JSON of the reply. In short it is one of:
@@ -15,10 +16,13 @@
 //! - `refused CODE NAME FILE:LINE:AT` and `ht_refused ..`: a refusal, whose place may end early
 //! - `bad FIELD`: a command of which this field is wrong
 //! - `hosts COUNT`, `done COMMAND`
+//! - `proved`, `too_many COUNT`, `refuted ..`, `undecided ..`: see `claims`
 
-use crate::session::{LONGEST_REPLIES, check, session_over};
+use crate::claims::{decide, refuted, undecided};
+use crate::session::{LONGEST_REPLIES, check, session_within};
 use hc_base::NoMemory;
 use hc_session::{MAIN_FILE, Status};
+use hc_words::DEFAULT_CELLS;
 use std::alloc::Global;
 use std::process::Abort;
 
@@ -27,6 +31,7 @@ use std::process::Abort;
 struct Said {
     input: String,
     wanted: String,
+    cells: u32,
 }
 
 /// What stands before a mark and behind it; where it is missing nothing stands behind.
@@ -88,6 +93,11 @@ fn take_command(alloc: Global, said: &mut Said, command: &str) -> Result<(), NoM
         (kind @ ("file" | "dir"), paths) => list(alloc, said, kind, paths),
         ("ask", asked) => ask(alloc, said, asked),
         ("stats", counts) => stats(alloc, said, counts),
+        ("cells", count) => {
+            said.cells = count.parse().unwrap_or(DEFAULT_CELLS);
+            Ok(())
+        },
+        ("decide", claimed) => push_line(&mut said.input, &decide(alloc, claimed)?),
         ("check", _) => push_line(&mut said.input, r#"{"do":"check"}"#),
         _ => push_line(&mut said.input, command),
     }
@@ -129,6 +139,13 @@ fn outcome(alloc: Global, reply: &str) -> Result<String, NoMemory> {
 fn reply_in_full(alloc: Global, reply: &str) -> Result<String, NoMemory> {
     match parts(reply, " ") {
         ("done", command) => format!(in alloc; r#"{{"done":"{command}"}}"#),
+        ("proved", _) => String::from_str(alloc, r#"{"proved":true}"#),
+        ("too_many", count) => format!(in alloc; r#"{{"too_many":{count}}}"#),
+        ("undecided", decisions) => undecided(alloc, decisions),
+        ("refuted", rest) => {
+            let (asked, reply) = parts(rest, ": ");
+            refuted(alloc, asked, &outcome(alloc, reply)?)
+        },
         ("hosts", count) => format!(in alloc; r#"{{"config":{{"hosts":{count}}}}}"#),
         ("bad", field) => format!(in alloc;
             r#"{{"refused":{{"at":0,"code":46,"field":"{field}","file":"","line":0,"name":"BadCommand"}}}}"#
@@ -178,6 +195,7 @@ fn said_in(alloc: Global, dialogue: &str) -> Result<Said, NoMemory> {
     let mut said = Said {
         input: String::new(alloc),
         wanted: String::new(alloc),
+        cells: DEFAULT_CELLS,
     };
     for line in whole.lines() {
         take_line(alloc, &mut said, line)?;
@@ -188,7 +206,8 @@ fn said_in(alloc: Global, dialogue: &str) -> Result<Said, NoMemory> {
 /// Holds a dialogue in a session of its own.
 pub fn hold(rt: &impl Abort, alloc: Global, dialogue: &str) -> Result<(), NoMemory> {
     let said = said_in(alloc, dialogue)?;
-    let end = session_over(alloc, said.input.as_bytes(), &[], &[], LONGEST_REPLIES)?;
+    let input = said.input.as_bytes();
+    let end = session_within(alloc, said.cells, input, &[], &[], LONGEST_REPLIES)?;
     check(rt, &end, Status::Done, said.wanted.as_bytes(), dialogue);
     Ok(())
 }

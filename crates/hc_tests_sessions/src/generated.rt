@@ -5,6 +5,7 @@ ghost use Rattle.std.specs.Prelude.{◌≡◌, ◌<◌};
 
 use hc_base::{Counter, NoMemory, Text};
 use hc_generate::summary;
+use hc_words::DEFAULT_CELLS;
 use std::alloc::Global;
 use std::marker::Brand;
 use std::sync::ledger::{Blank, Ledger};
@@ -43,7 +44,7 @@ fn summed<E: Ledger, B: Ledger>(
 {
     let mut evals = Counter::<E>::new(for_evals);
     let mut bytes = Counter::<B>::new(for_bytes);
-    summary(alloc, seed, &mut evals, &mut bytes)
+    summary(alloc, DEFAULT_CELLS, seed, &mut evals, &mut bytes)
 }
 
 fn summary_of(alloc: Global, seed: u64) -> Result<Text, NoMemory> {

@@ -5,6 +5,12 @@
 #[cfg(test)]
 mod authorization;
 #[cfg(test)]
+mod claim_forms;
+#[cfg(test)]
+mod claimed;
+#[cfg(test)]
+mod claims;
+#[cfg(test)]
 mod commands;
 #[cfg(test)]
 mod conditions;
@@ -20,6 +26,8 @@ mod extremes;
 mod folder_files;
 #[cfg(test)]
 mod generated;
+#[cfg(test)]
+mod guarded;
 #[cfg(test)]
 mod hosts;
 #[cfg(test)]
@@ -42,6 +50,12 @@ mod sections;
 mod serve;
 #[cfg(test)]
 mod session;
+#[cfg(test)]
+mod shadowed;
+#[cfg(test)]
+mod steps;
+#[cfg(test)]
+mod stops;
 #[cfg(test)]
 mod trails;
 #[cfg(test)]

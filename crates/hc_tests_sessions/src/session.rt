@@ -4,6 +4,7 @@ ghost use Rattle.std.specs.Prelude.{◌≡◌, ◌-◌, ◌<◌, ◌≤◌, ◌^
 
 use hc_base::{Counter, NoMemory, Sink, Source, VecSink, VecSource};
 use hc_session::{Status, serve_session};
+use hc_words::DEFAULT_CELLS;
 use std::alloc::Global;
 use std::marker::Brand;
 use std::process::Abort;
@@ -21,6 +22,7 @@ pub struct Finished {
 
 fn served<S: Source, K: Sink, E: Ledger, B: Ledger>(
     alloc: Global,
+    limit: u32,
     source: &mut S,
     sink: &mut K,
     for_evals: Blank,
@@ -37,7 +39,7 @@ fn served<S: Source, K: Sink, E: Ledger, B: Ledger>(
 {
     let mut evals = Counter::<E>::new(for_evals);
     let mut bytes = Counter::<B>::new(for_bytes);
-    serve_session(alloc, source, sink, &mut evals, &mut bytes)
+    serve_session(alloc, limit, source, sink, &mut evals, &mut bytes)
 }
 
 /// A session over this input. The calls of `read` and `write` with these numbers fail, and a call of
@@ -51,10 +53,25 @@ pub fn session_over(
 ) -> Result<Finished, NoMemory>
     requires { 1 ≤ most }
 {
+    session_within(alloc, DEFAULT_CELLS, input, reads, writes, most)
+}
+
+/// The same, where so many branches of a claim are too many.
+pub fn session_within(
+    alloc: Global,
+    limit: u32,
+    input: &[u8],
+    reads: &[u64],
+    writes: &[u64],
+    most: usize,
+) -> Result<Finished, NoMemory>
+    requires { 1 ≤ most }
+{
     let mut source = VecSource::new(alloc, input, reads)?;
     let mut sink = VecSink::new(alloc, writes, most, LONGEST_REPLIES)?;
     let status = served::<_, _, Brand, Brand>(
         alloc,
+        limit,
         &mut source,
         &mut sink,
         Blank::new(1),
