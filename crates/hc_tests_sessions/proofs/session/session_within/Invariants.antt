@@ -1,4 +1,4 @@
-use Rattle.hc_tests_sessions.proofs.session.session_over.Given as goal
+use Rattle.hc_tests_sessions.proofs.session.session_within.Given as goal
 
 abbrev pub ghosts-served-E-Ledger : goal.ghosts-served-E-Ledger
 ghosts-served-E-Ledger a = record { name = a.for_evals.name; parts = a.for_evals.parts }
