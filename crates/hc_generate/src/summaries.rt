@@ -10,8 +10,9 @@ use std::alloc::Global;
 use std::sync::ledger::Ledger;
 
 /// Runs the script that a seed makes in a session of its own, in which a claim may have fewer branches than `limit`,
-/// and tells the run in a line of JSON, with its LF. `evals` rises by one for each request that is evaluated, and `bytes` by the bytes of the
-/// configuration and `.htaccess` texts that are read. Memory is refused only before the first line of the script.
+/// and tells the run in a line of JSON, with its LF. `evals` rises by one for each request that is evaluated, and
+/// `bytes` by the bytes of the configuration and `.htaccess` texts that are read. Memory is refused only before the
+/// first line of the script.
 pub fn summary<E: Ledger, B: Ledger>(
     alloc: Global,
     limit: u32,

@@ -64,7 +64,8 @@ fn stops_from(value: &Value) -> Result<ClaimForm<'_>, BadField<'_>>
 
 fn shadowed_from(value: &Value) -> Result<ClaimForm<'_>, BadField<'_>>
     ensures { claim_field_view result
-        ≡ no_other (codes "kind" ∷ codes "file" ∷ codes "line" ∷ []) (view value.now) (shadowed_in (view value.now)) }
+        ≡ no_other (codes "kind" ∷ codes "file" ∷ codes "line" ∷ []) (view value.now)
+        (shadowed_in (view value.now)) }
 {
     if let Some(field) = unknown_field(value, &["kind", "file", "line"]) {
         return Err(BadField(field));

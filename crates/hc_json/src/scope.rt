@@ -1,7 +1,8 @@
 ghost use Rattle.std.specs.Prelude.{◌≡◌, ◌∷◌, [], IfOk, codes, option_map};
 ghost use Rattle.serde_json.specs.View.{items_view, view};
 ghost use Rattle.serde_json.specs.Find.{as_str};
-ghost use Rattle.hc_json.specs.Claims.{all_methods, are_methods, client_in, fields_of_scope, is_method_text, methods_in, methods_of};
+ghost use Rattle.hc_json.specs.Claims.{all_methods, are_methods, client_in, fields_of_scope, is_method_text};
+ghost use Rattle.hc_json.specs.Claims.{methods_in, methods_of};
 ghost use Rattle.hc_json.specs.Claims.{blaming, net_from, scope_fields, scope_in};
 ghost use Rattle.hc_json.specs.CommandView.{methods_field_view, methods_view, scope_field_view, value_view};
 ghost use Rattle.hc_json.specs.Fields.{no_other, unknown_field};

@@ -140,7 +140,8 @@ fn has_line<L: Ledger>(
     claim: &Claim,
     bytes: &mut Counter<L>,
 ) -> Result<bool, NoMemory>
-    ensures { IfOk result (λ there. there ≡ has_line_in scene.entry.world.now.files scene.entry.lines.now claim.now) }
+    ensures { IfOk result (λ there. there
+        ≡ has_line_in scene.entry.world.now.files scene.entry.lines.now claim.now) }
 {
     let Scene { world, lines, .. } = scene;
     match claim {
