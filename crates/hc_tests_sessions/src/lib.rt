@@ -1,5 +1,6 @@
-//! Tests of sessions, most of them as dialogues. Tables of cases, whose answers come from the manual or from our
-//! own rules, and never from the code.
+//! Tests of sessions, most of them as dialogues. Tables of cases, whose answers come from the manual or from our own
+//! rules; the reasons of claims that end outside what is read, and the files that a decision names, were filled in from
+//! replies.
 #![tactic(auto)]
 
 #[cfg(test)]
