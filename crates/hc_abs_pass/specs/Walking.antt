@@ -55,6 +55,10 @@ AreWalked shown named found = (client : Option Addr) (state : AbsState) (levels 
 
 -- ---- ends
 
+-- What may follow the name of a file: nothing, or a slash and more.
+abbrev pub AreInfos : Automaton → Type 0
+AreInfos set = Accepts set (λ text. is_empty (component text))
+
 -- What follows the front of an end in its texts.
 abbrev pub rests_of : Behind → TextSet
 rests_of behind.Nothing = is_empty

@@ -1,7 +1,7 @@
 //! The walk of a name over a world, for the states of a set of requests (Apache manual, core, AcceptPathInfo: what
 //! follows the name of a file is path information).
 ghost use Rattle.std.specs.Prelude.{◌≡◌, ◌≤◌, ◌++◌, ◌∷◌, [], IfOk, OnOk};
-ghost use Rattle.hc_abs_pass.specs.Walking.{AddsTried, AreTried, AreWalked, IsLeftOut, IsWalked, LeadsTo};
+ghost use Rattle.hc_abs_pass.specs.Walking.{AddsTried, AreInfos, AreTried, AreWalked, IsLeftOut, IsWalked, LeadsTo};
 ghost use Rattle.hc_abs_pass.specs.Walking.{leads_somewhere, name_of};
 ghost use Rattle.hc_abs_rw.specs.RuleBranches.{states_of};
 ghost use Rattle.hc_dfa.specs.Automata.{accepts};
@@ -14,7 +14,7 @@ ghost use Rattle.hc_cells.specs.declared.slot.Slot.TheVariants as slot;
 ghost use Rattle.hc_steps.specs.Shown.{shown_by};
 
 use crate::walk_ends::{End, walk_ends};
-use crate::walk_sets::{behind_components, components, rests_of};
+use crate::walk_sets::{behind_components, components, infos, rests_of};
 use hc_abs_rw::{Celled, fit};
 use hc_base::{List, NoMemory, Text};
 use hc_cells::{Cell, Slot};
@@ -73,9 +73,10 @@ pub fn walk_branches(
 fn tried(alloc: Global, named: &Named, ends: &[End]) -> Result<Vec<Walked>, NoMemory>
     ensures { IfOk result (λ found. AreTried named.now ends.now found.items) }
 {
+    let infos = infos(alloc)?;
     let mut found = Vec::new(alloc);
     for end in ends {
-        add_tried(alloc, named, end, &mut found)?;
+        add_tried(alloc, named, end, &infos, &mut found)?;
     }
     Ok(found)
 }
@@ -85,11 +86,13 @@ fn add_tried(
     alloc: Global,
     named: &Named,
     end: &End,
+    infos: &Dfa,
     found: &mut Vec<Walked>,
 ) -> Result<(), NoMemory>
+    requires { AreInfos infos.now }
     ensures { OnOk result (AddsTried named.now end.now found.old.items found.new.items) }
 {
-    let set = end_set(alloc, end)?;
+    let set = end_set(alloc, end, infos)?;
     let hand = Hand {
         elements: &named.text,
         off: 0,
@@ -202,10 +205,11 @@ fn stored(alloc: Global, tied: Tied, names: Dfa, infos: Dfa) -> Result<Tied, NoM
 }
 
 /// The texts that lead to an end.
-fn end_set(alloc: Global, end: &End) -> Result<Dfa, NoMemory>
+fn end_set(alloc: Global, end: &End, infos: &Dfa) -> Result<Dfa, NoMemory>
+    requires { AreInfos infos.now }
     ensures { IfOk result (AcceptsOnly (LeadsTo end.now)) }
 {
-    let rests = rests_of(alloc, &end.behind)?;
+    let rests = rests_of(alloc, &end.behind, infos)?;
     let made = put_behind(alloc, end.front.as_bytes(), &rests)?;
     Ok(made)
 }

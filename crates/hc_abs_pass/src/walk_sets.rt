@@ -6,7 +6,7 @@ ghost use Rattle.hc_rw_sets.specs.Made.{MadeOf};
 ghost use Rattle.std.specs.List.{list_any};
 ghost use Rattle.std.specs.Str.{bytes_eq};
 ghost use Rattle.hc_dfa.specs.Built.{Accepts};
-ghost use Rattle.hc_abs_pass.specs.Walking.{rests_of};
+ghost use Rattle.hc_abs_pass.specs.Walking.{AreInfos, rests_of};
 ghost use Rattle.hc_abs_pass.specs.Walks.{behind_component, component, is_empty};
 ghost use Rattle.hc_abs_pass.specs.declared.walk_ends.Behind.TheVariants as behind;
 
@@ -18,14 +18,15 @@ use hc_plan::every_text;
 use hc_rw_sets::{Part, beginning_with, cut_at};
 use std::alloc::Global;
 
-/// What follows the front of an end.
-pub(crate) fn rests_of(alloc: Global, behind: &Behind) -> Result<Dfa, NoMemory>
+/// What follows the front of an end, by what may follow the name of a file.
+pub(crate) fn rests_of(alloc: Global, behind: &Behind, infos: &Dfa) -> Result<Dfa, NoMemory>
+    requires { AreInfos infos.now }
     ensures { IfOk result (λ made. Accepts made (rests_of behind.now)) }
 {
     match behind {
         Behind::Nothing => nothing(alloc),
-        Behind::Info => infos(alloc),
-        Behind::Other(names) => others(alloc, names),
+        Behind::Info => infos.clone(),
+        Behind::Other(names) => others(alloc, names, infos),
     }
 }
 
@@ -37,9 +38,9 @@ fn nothing(alloc: Global) -> Result<Dfa, NoMemory>
     Ok(made)
 }
 
-/// Nothing, or a slash and more.
-fn infos(alloc: Global) -> Result<Dfa, NoMemory>
-    ensures { IfOk result (λ made. Accepts made (λ text. is_empty (component text))) }
+/// What may follow the name of a file: nothing, or a slash and more.
+pub(crate) fn infos(alloc: Global) -> Result<Dfa, NoMemory>
+    ensures { IfOk result AreInfos }
 {
     let nothing = nothing(alloc)?;
     let slashed = beginning_with(alloc, b"/")?;
@@ -48,25 +49,26 @@ fn infos(alloc: Global) -> Result<Dfa, NoMemory>
 }
 
 /// A component that is none of these, or another text that begins with a slash.
-fn others(alloc: Global, names: &List<Text>) -> Result<Dfa, NoMemory>
+fn others(alloc: Global, names: &List<Text>, infos: &Dfa) -> Result<Dfa, NoMemory>
+    requires { AreInfos infos.now }
     ensures { IfOk result (λ made. Accepts made (rests_of (behind.Other names.now))) }
 {
     let nothing = nothing(alloc)?;
-    let named = named(alloc, names.as_slice())?;
+    let named = named(alloc, names.as_slice(), infos)?;
     let either = product(alloc, &nothing, &named, Keep::Either)?;
     let made = complement(alloc, &either)?;
     Ok(made)
 }
 
 /// The texts whose first component is one of these.
-fn named(alloc: Global, names: &[Text]) -> Result<Dfa, NoMemory>
+fn named(alloc: Global, names: &[Text], infos: &Dfa) -> Result<Dfa, NoMemory>
+    requires { AreInfos infos.now }
     ensures { IfOk result (λ made. Accepts made (λ text. list_any (bytes_eq (component text)) names.now)) }
 {
     let texts = listed(alloc, names)?;
     let plain = components(alloc, &every_text(alloc)?)?;
     let own = product(alloc, &texts, &plain, Keep::Both)?;
-    let infos = infos(alloc)?;
-    let made = concat(alloc, &own, &infos)?;
+    let made = concat(alloc, &own, infos)?;
     Ok(made)
 }
 

@@ -27,3 +27,4 @@ pub mod Sole
 pub mod Filled
 pub mod Placing
 pub mod Among
+pub mod Behind

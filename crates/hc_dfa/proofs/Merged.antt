@@ -5,6 +5,7 @@ use Rattle.hc_dfa.proofs.Common.{Automaton, states, next_state, accepts, value_o
 use Rattle.hc_dfa.proofs.Common.{IsStable, AreLeaders, IsSignature, Represents, Bounds, is_final, Accepts, product_of}
 use Rattle.hc_dfa.proofs.Common.{Both, Classing, AreClasses, Tells, class_of}
 use Rattle.hc_dfa.proofs.Runs.{IsAutomaton, next_within, simulated}
+use Rattle.hc_dfa.specs.Blocks.{AreApart}
 use Rattle.hc_dfa.proofs.Tables.{stands_for}
 
 pub refined_finals : (a : Automaton) (blocks finer : List ℕ) → Refines a blocks finer → RespectsFinals a blocks
@@ -20,6 +21,17 @@ stable a blocks finer refines finals e = record {
   steps = λ s t byte sb tb same b. subst (λ (xs : List ℕ). value_on a xs s byte ≡ value_on a xs t byte) (sym e)
       (refines.steps s t byte sb tb same b);
 }
+
+pub apart : (a : Automaton) (blocks : List ℕ) → length blocks ≡ states a → AreApart blocks → IsStable a blocks
+apart a blocks len own = record {
+  len = len;
+  bound = λ s sb. rw (at s sb) sb;
+  finals = λ s t sb tb same. ap (is_final a) (sym (at s sb) ∙ same ∙ at t tb);
+  steps = λ s t byte sb tb same b. ap (λ s. value_on a blocks s byte) (sym (at s sb) ∙ same ∙ at t tb);
+}
+  where
+    at : (s : ℕ) → s < states a → slice_index blocks s ≡ s
+    at s sb = own s (rw len sb)
 
 pub merged : (a made : Automaton) (blocks leaders table : List ℕ) → IsAutomaton a → IsStable a blocks
     → AreLeaders (states a) blocks leaders

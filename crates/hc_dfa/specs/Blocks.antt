@@ -29,6 +29,10 @@ pub record IsStable (a : Automaton) (blocks : List ℕ) : Type 0 where
   pub finals : RespectsFinals a blocks
   pub steps : RespectsSteps a blocks blocks
 
+-- Each state is a block by itself, with its own number.
+abbrev pub AreApart : List ℕ → Type 0
+AreApart blocks = (s : ℕ) → s < length blocks → slice_index blocks s ≡ s
+
 -- Each byte leads every state where one of these bytes leads it.
 abbrev pub Represents : Automaton → List ℕ → Type 0
 Represents a bytes =

@@ -4,6 +4,7 @@ pub mod Built
 pub mod Classings
 pub mod Distances
 pub mod Explored
+pub mod Fronts
 pub mod Graphs
 pub mod Images
 pub mod Lists

@@ -44,9 +44,11 @@ impl Classes {
     {
         let mut classes = Vec::new(alloc);
         let mut firsts = Vec::new(alloc);
+        let mut near = 0;
         for byte in 0..BYTES {
-            let class = class_like(numbers, &firsts, numbers[byte]);
+            let class = class_like(numbers, &firsts, near, numbers[byte]);
             classes.push(class as u8)?;
+            near = class;
             if class < firsts.len() {
                 continue;
             }
@@ -132,14 +134,18 @@ fn all_bytes(alloc: Global) -> Result<Vec<u8>, NoMemory>
     Ok(bytes)
 }
 
-/// The first class whose least byte has this number, or the count of classes where none has.
-fn class_like(numbers: &[u32], firsts: &[u8], number: u32) -> usize
+/// A class whose least byte has this number, or the count of classes where none has. One that is near is looked at
+/// first: the number of a byte is mostly that of the byte before it.
+fn class_like(numbers: &[u32], firsts: &[u8], near: usize, number: u32) -> usize
     requires { length numbers.now ≡ 256 }
     ensures within { result ≤ length firsts.now }
     ensures same { result < length firsts.now → slice_index numbers.now (slice_index firsts.now result) ≡ number }
     ensures none { result ≡ length firsts.now → (class : ℕ) → class < length firsts.now
         → slice_index numbers.now (slice_index firsts.now class) ≡ number → ⊥ }
 {
+    if near < firsts.len() && numbers[firsts[near] as usize] == number {
+        return near;
+    }
     for class in 0..firsts.len() {
         if numbers[firsts[class] as usize] == number {
             return class;

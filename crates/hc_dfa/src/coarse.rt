@@ -5,7 +5,7 @@ ghost use Rattle.hc_dfa.specs.Classings.{AreColumns, IsColumn, TellsByNumber};
 use crate::Dfa;
 use crate::classes::Classes;
 use crate::dfa::BYTES;
-use crate::numbers::number_of;
+use crate::numbers::number_near;
 use crate::tabled::{Transitions, tabled};
 use hc_base::{List, NoMemory};
 use indexmap::IndexSet;
@@ -60,9 +60,11 @@ fn column_numbers(alloc: Global, a: &Dfa, bytes: &[u8]) -> Result<Vec<u32>, NoMe
 {
     let mut columns = IndexSet::new(alloc);
     let mut numbers = Vec::new(alloc);
+    let mut near = 0;
     for byte in bytes {
         let column = column(alloc, a, *byte)?;
-        numbers.push(number_of(&mut columns, column)?)?;
+        near = number_near(&mut columns, near, column)?;
+        numbers.push(near)?;
     }
     Ok(numbers)
 }

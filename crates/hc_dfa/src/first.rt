@@ -42,7 +42,7 @@ pub fn single(alloc: Global, text: &[u8]) -> Result<Dfa, NoMemory>
 }
 
 /// A number for each byte of the text, and 0 for all others.
-fn own_numbers(alloc: Global, text: &[u8]) -> Result<Vec<u32>, NoMemory>
+pub(crate) fn own_numbers(alloc: Global, text: &[u8]) -> Result<Vec<u32>, NoMemory>
     ensures { IfOk result (λ numbers. AreOwn text.now (length text.now) numbers.items) }
 {
     let mut numbers = vec![in alloc; 0; BYTES]?;

@@ -9,7 +9,7 @@ use crate::Dfa;
 use crate::determinize::determinized;
 use crate::exploring::{Walk, explore};
 use crate::machine::{Machine, Step, add_step};
-use crate::numbers::number_of;
+use crate::numbers::{number_near, number_of};
 use crate::reduced::reduce;
 use hc_base::NoMemory;
 use indexmap::IndexSet;
@@ -149,12 +149,13 @@ fn steps_of<G: Graph>(
     ensures steps { IfOk result (λ steps. AreSteps (G.graph graph.now) keys.new.keys key 258 steps.items) }
 {
     let mut steps = Vec::new(alloc);
+    let mut near = 0;
     for choice in 0..CHOICES {
         let Some(step) = graph.step(key, choice_at(choice)) else {
             continue;
         };
-        let to = number_of(keys, step.to)?;
-        add_step(&mut steps, step.byte, to)?;
+        near = number_near(keys, near, step.to)?;
+        add_step(&mut steps, step.byte, near)?;
     }
     Ok(steps)
 }

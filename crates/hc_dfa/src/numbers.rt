@@ -16,3 +16,19 @@ pub fn number_of<K: Eq + Hash + Drop>(keys: &mut IndexSet<K>, key: K) -> Result<
         Err(_) => Err(NoMemory),
     }
 }
+
+/// The same, where the key with a number that is near is looked at first: one byte after the other mostly leads to the
+/// same key.
+pub fn number_near<K: Eq + Hash + Drop>(
+    keys: &mut IndexSet<K>,
+    near: u32,
+    key: K,
+) -> Result<u32, NoMemory>
+    requires { (x y : K) → K.eq x y ≡ true → x ≡ y }
+    ensures { IfOk result (λ number. IsMet keys.old.keys key keys.new.keys number) }
+{
+    if keys.as_slice().get(near as usize) == Some(&key) {
+        return Ok(near);
+    }
+    number_of(keys, key)
+}

@@ -4,6 +4,7 @@ ghost use Rattle.hc_dfa.specs.Readings.{reading_from};
 
 use crate::Dfa;
 use crate::classes::Classes;
+use crate::coarse::coarsened;
 use crate::reduced::reduce;
 use crate::rows::{Rows, table_of};
 use hc_base::NoMemory;
@@ -42,7 +43,8 @@ pub fn tested<R: Reading>(alloc: Global, reading: &R, first: R::Key) -> Result<D
 {
     let classes = Classes::of_single_bytes(alloc)?;
     let table = table_of(alloc, &Keys { reading, first }, (), classes.firsts(), first)?;
-    let reduced = reduce(alloc, &Dfa::made(classes, table.next, table.finals))?;
+    let smaller = coarsened(alloc, &Dfa::made(classes, table.next, table.finals))?;
+    let reduced = reduce(alloc, &smaller)?;
     Ok(reduced)
 }
 

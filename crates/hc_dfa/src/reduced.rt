@@ -1,6 +1,6 @@
-ghost use Rattle.std.specs.Prelude.{◌≡◌, ℕ, false, ◌-◌, ◌<◌, ◌^◌, length, slice_index, IfOk};
+ghost use Rattle.std.specs.Prelude.{◌≡◌, ℕ, true, false, ◌-◌, ◌<◌, ◌^◌, length, slice_index, IfOk};
 ghost use Rattle.hc_dfa.specs.Automata.{accepts, next_state, states};
-ghost use Rattle.hc_dfa.specs.Blocks.{IsSignature, IsStable, AreLeaders, Refines, Represents, RespectsFinals};
+ghost use Rattle.hc_dfa.specs.Blocks.{AreApart, AreLeaders, IsSignature, IsStable, Refines, Represents, RespectsFinals};
 ghost use Rattle.hc_dfa.specs.Built.{Accepts};
 
 use crate::coarse::coarsened;
@@ -58,7 +58,9 @@ fn stable_blocks(alloc: Global, a: &Dfa) -> Result<Vec<u32>, NoMemory>
 {
     let bytes = a.classes().firsts();
     let mut blocks = by_distances(alloc, a)?;
-    settle(&Finer { alloc, a, bytes }, &mut blocks)?;
+    if !are_apart(&blocks) {
+        settle(&Finer { alloc, a, bytes }, &mut blocks)?;
+    }
     Ok(blocks)
 }
 
@@ -79,10 +81,22 @@ impl<'a> Passes for Finer<'a> {
 
     fn pass(&self, blocks: &mut Vec<u32>) -> Result<bool, NoMemory> {
         let finer = refine(self.alloc, self.a, self.bytes, blocks)?;
-        let same = finer == *blocks;
+        let settled = are_apart(&finer) || finer == *blocks;
         *blocks = finer;
-        Ok(!same)
+        Ok(!settled)
     }
+}
+
+/// Whether each state is a block by itself, with its own number. No refinement tells more apart.
+fn are_apart(blocks: &[u32]) -> bool
+    ensures { result ≡ true → AreApart blocks.now }
+{
+    for state in 0..blocks.len() {
+        if blocks[state] as usize != state {
+            return false;
+        }
+    }
+    true
 }
 
 /// States as far from a final state and from one that is not final: mostly few rounds are left then.

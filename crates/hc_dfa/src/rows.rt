@@ -3,7 +3,7 @@ ghost use Rattle.std.specs.Prelude.{slice_get, true, vec_len};
 ghost use Rattle.hc_dfa.specs.Explored.{AreRows, Extends, IsTableOf, RowsExplored};
 
 use crate::exploring::{Walk, explore};
-use crate::numbers::number_of;
+use crate::numbers::{number_near, number_of};
 use hc_base::NoMemory;
 use indexmap::IndexSet;
 use std::alloc::Global;
@@ -148,9 +148,11 @@ fn add_cells<'a, R: Rows>(
     ensures len { OnOk result (vec_len next.new ≡ vec_len next.old + length walk.now.bytes.now) }
     ensures extends { OnOk result (Extends keys.old.keys keys.new.keys) }
 {
+    let mut near = 0;
     for byte in walk.bytes {
         let to = walk.rows.next(scratch, key, *byte)?;
-        next.push(number_of(keys, to)?)?;
+        near = number_near(keys, near, to)?;
+        next.push(near)?;
     }
     Ok(())
 }

@@ -13,6 +13,12 @@ use Rattle.hc_pat_lang.specs.declared.joined.Stage.{Stage}
 use Rattle.std.proofs.lemmas.List.{append-nil, drop-drop}
 use Rattle.std.proofs.Math.Seq.{drop-nil}
 use Rattle.std.specs.Option.{is_none}
+use Rattle.hc_pat_lang.proofs.Common.{◌↔◌, nat_eq, eqb-true, eq-eqb}
+use Rattle.std.proofs.Common.{◌<◌, ◌≤◌, IsTrue, append_assoc, arith, get_or, length}
+use Rattle.hc_dfa.specs.Fronts.{behind_text}
+use Rattle.hc_dfa.specs.Members.{IsOnly}
+use Rattle.hc_pat_lang.specs.Sets.{AreOnly}
+use Rattle.std.proofs.lemmas.Bool.{and_from, and_parts}
 
 -- What stands at a place is the first of what is left from there on.
 first_left : {X : Type 0} (xs : List X) (i : ℕ) → slice_get xs i ≡ slice_get (drop i xs) 0
@@ -105,3 +111,109 @@ two_joined a b made same text bytes = (
       (same text bytes).1
       (is.front, is.back, sym is.joined, is.begins, (is.back, [], sym (append-nil is.back), is.goes_on, refl))),
 )
+
+-- ---- sets with one text each, before others
+
+pub one_joined : (set made : Automaton) → made ≡ set → AcceptsOnly (AreJoined (accepts set ∷ [])) made
+one_joined set made same text bytes = (
+  (λ accepted. (text, [], sym (append-nil text), subst (λ a. IsTrue (accepts a text)) same accepted, refl)),
+  (λ is.
+      let whole : text ≡ is.0 = is.2 ∙ ap (λ rest. is.0 ++ rest) is.4 ∙ append-nil is.0 in
+      subst (λ a. IsTrue (accepts a text)) (sym same) (subst (λ text. IsTrue (accepts set text)) (sym whole) is.3)),
+)
+
+pub sole : {A : Type 0} (xs : List A) (x : A) → 1 ≤ length xs → length xs < 2 → x ≡ get_or xs 0 x → xs ≡ x ∷ []
+sole [] x some few is = absurd (omega (arith, some))
+sole (y ∷ []) x some few is = ap (λ first. first ∷ []) (sym is)
+sole (y ∷ z ∷ xs) x some few is = absurd (omega (arith, few))
+
+pub sole_set : (sets : List Automaton) (set made : Automaton) → sets ≡ set ∷ [] → made ≡ set
+    → AcceptsOnly (AreJoined (map accepts sets)) made
+sole_set sets set made sole same =
+    subst (λ sets. AcceptsOnly (AreJoined (map accepts sets)) made) (sym sole) (one_joined set made same)
+
+pub only_more : (sets : List Automaton) (set : Automaton) (text own : List ℕ) → AreOnly sets text
+    → IsOnly (accepts set) own → AreOnly (sets ++ set ∷ []) (text ++ own)
+only_more [] set text own are is =
+    (own, [], ap (λ text. text ++ own) are ∙ sym (append-nil own), is, refl)
+only_more (first ∷ sets) set text own are is = (
+  are.0,
+  are.1 ++ own,
+  ap (λ text. text ++ own) are.2 ∙ append_assoc are.0 are.1 own,
+  are.3,
+  only_more sets set are.1 own are.4 is,
+)
+
+front_text : (front back : List ℕ) → IsText (front ++ back) → IsText front
+front_text [] back bytes = tt
+front_text (byte ∷ front) back bytes = (bytes.0, front_text front back bytes.1)
+
+-- A text behind another one.
+abbrev IsBeyond : List ℕ → (List ℕ → Type 0) → List ℕ → Type 0
+IsBeyond front Rest text = (rest : List ℕ) × (text ≡ front ++ rest) × Rest rest
+
+beyond_only : (taken left : List Automaton) (front text : List ℕ) → AreOnly taken front → IsText text
+    → AreJoined (map accepts (taken ++ left)) text ↔ IsBeyond front (AreJoined (map accepts left)) text
+beyond_only [] left front text are bytes = (
+  (λ is. (text, ap (λ front. front ++ text) (sym are), is)),
+  (λ is. subst (AreJoined (map accepts left)) (sym (is.1 ∙ ap (λ front. front ++ is.0) are)) is.2),
+)
+beyond_only (set ∷ taken) left front text are bytes = (
+  (λ is.
+      let all = subst IsText is.2 bytes in
+      let own : is.0 ≡ are.0 = are.3.only is.0 (front_text is.0 is.1 all) is.3 in
+      let behind = (beyond_only taken left are.1 is.1 are.4 (back_text is.0 is.1 all)).0 is.4 in (
+        behind.0,
+        is.2 ∙ ap (λ first. first ++ is.1) own ∙ ap (λ back. are.0 ++ back) behind.1
+            ∙ sym (append_assoc are.0 are.1 behind.0) ∙ ap (λ front. front ++ behind.0) (sym are.2),
+        behind.2,
+      )),
+  (λ is.
+      let whole : text ≡ are.0 ++ (are.1 ++ is.0) =
+      is.1 ∙ ap (λ front. front ++ is.0) are.2 ∙ append_assoc are.0 are.1 is.0 in (
+        are.0,
+        are.1 ++ is.0,
+        whole,
+        are.3.member,
+        (beyond_only taken left are.1 (are.1 ++ is.0) are.4 (back_text are.0 _ (subst IsText whole bytes))).1
+            (is.0, refl, is.2),
+      )),
+)
+
+behind_parts : (front : List ℕ) (set : TextSet) (text : List ℕ)
+    → IsTrue (behind_text front set text) ↔ IsBeyond front (λ rest. IsTrue (set rest)) text
+behind_parts [] set text = ((λ is. (text, refl, is)), (λ is. subst (λ text. IsTrue (set text)) (sym is.1) is.2))
+behind_parts (own ∷ front) set [] = ((λ is. absurd (cc)), (λ is. absurd (cc)))
+behind_parts (own ∷ front) set (byte ∷ text) = (
+  (λ is.
+      let parts = and_parts (nat_eq byte own) (behind_text front set text) is in
+      let behind = (behind_parts front set text).0 parts.1 in (
+        behind.0,
+        ap (λ first. first ∷ text) (eqb-true byte own parts.0) ∙ ap (λ rest. own ∷ rest) behind.1,
+        behind.2,
+      )),
+  (λ is.
+      and_from (nat_eq byte own) (behind_text front set text) (eq-eqb byte own (cc))
+      ((behind_parts front set text).1 (is.0, cc, is.2))),
+)
+
+pub put_before : (taken left : List Automaton) (front : List ℕ) (rest made : Automaton) → AreOnly taken front
+    → AcceptsOnly (AreJoined (map accepts left)) rest
+    → ((text : List ℕ) → IsText text → accepts made text ≡ behind_text front (accepts rest) text)
+    → AcceptsOnly (AreJoined (map accepts (taken ++ left))) made
+put_before taken left front rest made are is behind text bytes =
+    let same = behind text bytes in
+    let parts = behind_parts front (accepts rest) text in
+    let only = beyond_only taken left front text are bytes in (
+      (λ accepted.
+          let own = parts.0 (sym same ∙ accepted) in
+          only.1 (
+            own.0,
+            own.1,
+            (is own.0 (back_text front own.0 (subst IsText own.1 bytes))).0 own.2,
+          )),
+      (λ joined.
+          let own = only.0 joined in
+          same
+          ∙ parts.1 (own.0, own.1, (is own.0 (back_text front own.0 (subst IsText own.1 bytes))).1 own.2)),
+    )

@@ -2,6 +2,7 @@
 use Rattle.std.specs.Prelude.{◌≡◌, ℕ, ◌↔◌, IsTrue, List, [], ◌∷◌, ◌++◌, drop}
 use Rattle.hc_base.specs.Paths.{merge_slashes}
 use Rattle.hc_dfa.specs.Automata.{Automaton, accepts}
+use Rattle.hc_dfa.specs.Members.{IsOnly}
 use Rattle.hc_dfa.specs.Texts.{IsText, TextSet}
 
 -- The automaton accepts a text of bytes exactly where this holds of it.
@@ -21,6 +22,12 @@ abbrev pub AreJoined : List TextSet → List ℕ → Type 0
 AreJoined [] text = text ≡ []
 AreJoined (set ∷ sets) text =
     (front : List ℕ) × (rest : List ℕ) × (text ≡ front ++ rest) × IsTrue (set front) × AreJoined sets rest
+
+-- Each set has one text alone, and these are they, one behind the other.
+abbrev pub AreOnly : List Automaton → List ℕ → Type 0
+AreOnly [] text = text ≡ []
+AreOnly (set ∷ sets) text =
+    (own : List ℕ) × (rest : List ℕ) × (text ≡ own ++ rest) × IsOnly (accepts set) own × AreOnly sets rest
 
 -- What is left of a text of the set behind a text of the other one.
 pub record IsRest (set by : TextSet) (text : List ℕ) : Type 0 where

@@ -1,11 +1,11 @@
-ghost use Rattle.std.specs.Prelude.{◌≡◌, IfOk, map};
+ghost use Rattle.std.specs.Prelude.{◌≡◌, ◌≤◌, IfOk, length, map, take};
 ghost use Rattle.hc_dfa.specs.Automata.{accepts};
 ghost use Rattle.hc_pat_lang.specs.Graphs.{IsStage, joined_graph};
-ghost use Rattle.hc_pat_lang.specs.Sets.{AcceptsOnly, AreJoined, IsJoined};
+ghost use Rattle.hc_pat_lang.specs.Sets.{AcceptsOnly, AreJoined, AreOnly, IsJoined};
 ghost use Rattle.std.proofs.Common.{rules};
 
 use hc_base::NoMemory;
-use hc_dfa::{Choice, Dfa, Graph, Move, automaton};
+use hc_dfa::{Choice, Dfa, Graph, Move, automaton, behind_front, only_member};
 use std::alloc::Global;
 
 /// The automaton of the texts that are made of a text of the first set and then one of the second.
@@ -17,10 +17,52 @@ pub fn concat(alloc: Global, a: &Dfa, b: &Dfa) -> Result<Dfa, NoMemory>
     Ok(made)
 }
 
-/// The automaton of the texts that are made of a text of each set, one behind the other.
+/// The automaton of the texts that are made of a text of each set, one behind the other. First sets that have one text
+/// each are put before the others as one text, which is much faster than a graph.
 pub fn concat_all(alloc: Global, sets: &[Dfa]) -> Result<Dfa, NoMemory>
     ensures { IfOk result (AcceptsOnly (AreJoined (map accepts sets.now))) }
 {
+    let front = front_of(alloc, sets)?;
+    let rest = others_joined(alloc, &sets[front.count..])?;
+    if front.text.is_empty() {
+        return Ok(rest);
+    }
+    let made = behind_front(alloc, &front.text, &rest)?;
+    Ok(made)
+}
+
+/// The texts of the first sets that have one each, joined, and how many of them there are.
+#[derive(Drop)]
+struct Front {
+    text: Vec<u8>,
+    count: usize,
+}
+
+fn front_of(alloc: Global, sets: &[Dfa]) -> Result<Front, NoMemory>
+    ensures within { IfOk result (λ front. front.count ≤ length sets.now) }
+    ensures only { IfOk result (λ front. AreOnly (take front.count sets.now) front.text.items) }
+{
+    let mut text = Vec::new(alloc);
+    for count in 0..sets.len() {
+        let Some(only) = only_member(alloc, &sets[count])? else {
+            return Ok(Front { text, count });
+        };
+        text.extend_from_slice(only.as_bytes())?;
+    }
+    Ok(Front {
+        text,
+        count: sets.len(),
+    })
+}
+
+/// The same for any sets, as a graph where there is more than one.
+fn others_joined(alloc: Global, sets: &[Dfa]) -> Result<Dfa, NoMemory>
+    ensures { IfOk result (AcceptsOnly (AreJoined (map accepts sets.now))) }
+{
+    if let [set] = sets {
+        let same = set.clone()?;
+        return Ok(same);
+    }
     let joined = Joined { sets };
     let made = automaton(alloc, &joined, joined.start_of(0))?;
     Ok(made)

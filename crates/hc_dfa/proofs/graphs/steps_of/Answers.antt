@@ -21,14 +21,14 @@ loop-choice-preserved-in_default g c = record {
 
 pub loop-choice-preserved : goal.loop-choice-preserved
 loop-choice-preserved g c =
-    let met = c.in_ok-to.ensures in
+    let met = c.in_ok-near.ensures in
     record {
-      proper = met_keys (g.G.Graph.is_key c.args.graph.now) _ _ c.in-Some.step.to c.in_ok-to.to
+      proper = met_keys (g.G.Graph.is_key c.args.graph.now) _ _ c.in-Some.step.to c.in_ok-near.near
           c.loop-choice.invariant.proper met c.in-Some.ensures.to;
       extends = λ i key at. met.extends i key (c.loop-choice.invariant.extends i key at);
       steps = rw (← c.choice_at.ensures.value)
           (steps_more (g.G.Graph.graph c.args.graph.now) _ _ c.args.key c.choice_at.result c.in-Some.step _ _
-          c.in_ok-to.to (rw c.choice_at.ensures.value c.loop-choice.invariant.steps) c.choice_at.ensures.choice
+          c.in_ok-near.near (rw c.choice_at.ensures.value c.loop-choice.invariant.steps) c.choice_at.ensures.choice
           (sym c.step.ensures.value ∙ c.in-Some.is) met c.in_ok-add_step.ensures);
     }
 

@@ -14,7 +14,7 @@ returns g c =
     let own = c.in_ok-classes.ensures.own in
     λ text bytes.
     c.in_ok-reduced.ensures text bytes
-    ∙ rw c.made.ensures
+    ∙ rw (c.in_ok-smaller.ensures, c.made.ensures)
     (tested (g.R.Reading.is_key test) (g.R.Reading.reads test) (g.R.Reading.holds test) c.args.first
     c.in_ok-classes.classes c.in_ok-table.table.next.items c.in_ok-table.table.finals.items
     (record {

@@ -7,7 +7,7 @@ loop-byte-preserved g c =
     let walk = c.args.walk.now in
     let row = c.requires.row in
     let at = c.loop-byte.invariant.extends row.0 c.args.key.now row.1 in
-    let met = c.in_ok-number_of.ensures in
+    let met = c.in_ok-near.ensures in
     record {
       scratch = c.next.ensures.scratch;
       explored = rw c.in_ok-push.ensures.items
