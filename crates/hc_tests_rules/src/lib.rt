@@ -19,6 +19,8 @@ mod patterns;
 #[cfg(test)]
 mod queries;
 #[cfg(test)]
+mod ranks;
+#[cfg(test)]
 mod rules;
 #[cfg(test)]
 mod shown;

@@ -56,7 +56,7 @@ pub enum How {
 }
 
 impl How {
-    fn is_within(self) -> bool {
+    pub fn is_within(self) -> bool {
         matches!(self, How::Within | How::Based | How::Aliased)
     }
 
@@ -69,6 +69,7 @@ impl How {
 }
 
 /// Rules as a main file has them, of which the last one is tried; those of a directory stand in `<Directory /srv/d>`.
+#[derive(Drop)]
 pub struct Row {
     pub how: How,
     pub rules: &'static str,
