@@ -1,12 +1,12 @@
 //! Deterministic automata over bytes, as sets of texts.
 //!
 //! `product`, `complement`, `byte_image` and `between` accept exactly the sets that their names say, `single` one text
-//! alone, `listed` the texts of a list, `tested` those of which a test holds that reads them byte by byte, and `reduce`
-//! what it is given; `least` is the first of the shortest texts, or there is none; `included` says yes, or has the
-//! least text that is outside; `first_members` gives the first texts in order, and `only_member` the text of a set that
-//! has no other. `automaton` accepts exactly the texts on the ways of a graph; `explore` follows each key that is met,
-//! once, `table_of` makes a table of keys that each byte leads on from, and `settle` goes over a state until a pass
-//! leaves it.
+//! alone, `listed` the texts of a list, `behind_front` those of a set behind a text, `tested` those of which a test
+//! holds that reads them byte by byte, and `reduce` what it is given; `least` is the first of the shortest texts, or
+//! there is none; `included` says yes, or has the least text that is outside; `first_members` gives the first texts in
+//! order, and `only_member` the text of a set that has no other. `automaton` accepts exactly the texts on the ways of a
+//! graph; `explore` follows each key that is met, once, `table_of` makes a table of keys that each byte leads on from,
+//! and `settle` goes over a state until a pass leaves it.
 #![tactic(auto)]
 
 mod around;
