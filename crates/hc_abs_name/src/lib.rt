@@ -9,3 +9,4 @@ mod reading;
 mod walked;
 
 pub use arrived::arrived_branches;
+pub use reading::refused_at;

@@ -12,7 +12,7 @@ use hc_model::{AtFault, Config, HostId, Overrides, Walk};
 use std::alloc::Global;
 
 /// Loads the `.htaccess` files of a walk, from `/` down, up to the first that is refused.
-pub(crate) fn refused_at<O: Overrides>(
+pub fn refused_at<O: Overrides>(
     alloc: Global,
     config: &Config,
     host: HostId,

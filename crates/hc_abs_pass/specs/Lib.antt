@@ -1,3 +1,4 @@
+pub mod Again
 pub mod Authorizing
 pub mod Ends
 pub mod Listing

@@ -239,37 +239,3 @@ module _ (ground : Ground) where
     | true ↦ server_round_plan (begun_with [] false)
     | false ↦ placed_from [] false false
   ]
-
-  -- ---- from a further round
-
-  abbrev pub begun_again : Bool → SoFar
-  begun_again substituted = record { decisions = []; substituted = substituted; replaced = true }
-
-  -- Whether a substitution was made in the pass is a case.
-  abbrev pub from_server_round : Bool → Plan Segment
-  from_server_round substituted = server_round_plan (begun_again substituted)
-
-  abbrev pub again_in : List ℕ → Settings → Option (List ℕ) → Plan Segment
-  again_in dir settings None = leave_out
-  again_in dir settings (Some own) = elim (bytes_eq own dir) [
-    | true ↦ dir_round_plan settings (engine_by settings dir) (begun_again false)
-    | false ↦ leave_out
-  ]
-
-  -- The query that the sections saw is held.
-  abbrev pub again_at : List ℕ → Bool → Option WalkEnd → Plan Segment
-  again_at dir aliased None = leave_out
-  again_at dir aliased (Some end) = put_down (files_by
-      (sections_from (scene_with (held looked 0)) (λ settings. again_in dir settings settings.force.dir) aliased end)
-      (λ left. leave_out) (files_at end))
-
-  -- With empty path information.
-  abbrev pub exactly : WalkEnd → TextSet
-  exactly end = behind_slash (λ rest. end.rests rest && is_empty (end.info rest))
-
-  -- Whether the name comes from an alias is a case. The walk's ends narrow the name and store nothing.
-  unfoldable pub from_dir_round : List ℕ → Bool → Plan Segment
-  from_dir_round dir aliased =
-      let ends = ends_in ground.levels ground.shown at_root in
-      take_up main (slot_item Slot.Name ∷ []) (sort main (map exactly ends) (λ place.
-      again_at dir aliased (end_at ends place)))

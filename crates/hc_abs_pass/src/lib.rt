@@ -33,3 +33,5 @@ mod walk_sets;
 pub use ends::Left;
 pub use list::{Listed, SoFar, Stop, list_branches};
 pub use walk::{Named, Walked, walk_branches};
+pub use walk_ends::{Behind, End, ends_of_walk};
+pub use walk_sets::{first_components, infos, rests_of};

@@ -13,8 +13,8 @@ ghost use Rattle.hc_rw_sets.specs.Made.{MadeOf};
 ghost use Rattle.hc_cells.specs.declared.slot.Slot.TheVariants as slot;
 ghost use Rattle.hc_steps.specs.Shown.{shown_by};
 
-use crate::walk_ends::{End, walk_ends};
-use crate::walk_sets::{behind_components, components, infos, rests_of};
+use crate::walk_ends::{End, ends_of_walk};
+use crate::walk_sets::{behind_components, first_components, infos, rests_of};
 use hc_abs_rw::{Celled, fit};
 use hc_base::{List, NoMemory, Text};
 use hc_cells::{Cell, Slot};
@@ -60,7 +60,7 @@ pub fn walk_branches(
     ensures branches { IfOk result (λ found. AreWalked (shown_by world.now.files) named found.items) }
     ensures room { IfOk result (λ found. states_of (λ one. one.tied.cell) found.items ≤ room) }
 {
-    let ends = walk_ends(alloc, world)?;
+    let ends = ends_of_walk(alloc, world)?;
     let found = tried(alloc, &named, &ends)?;
     let _left = left_out(alloc, &named)?;
     if !fit(&found, room) {
@@ -182,7 +182,7 @@ fn as_text(bytes: &[u8]) -> &[u8]
 fn names_of(alloc: Global, end: &End, rests: &Dfa) -> Result<Dfa, NoMemory>
     ensures { IfOk result (AcceptsOnly (MadeOf (name_of end.now.front) (accepts rests.now))) }
 {
-    let components = components(alloc, rests)?;
+    let components = first_components(alloc, rests)?;
     let made = put_behind(alloc, end.front.as_bytes(), &components)?;
     Ok(made)
 }

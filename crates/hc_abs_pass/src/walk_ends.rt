@@ -48,8 +48,8 @@ struct Frame {
 /// How many names and directories of a world are looked at: where it has more, it is refused as memory is.
 const MOST_TURNS: u32 = u32::MAX;
 
-/// The ends of a world.
-pub(crate) fn walk_ends(alloc: Global, world: &World) -> Result<Vec<End>, NoMemory>
+/// The ends of the walk over a world, in order.
+pub fn ends_of_walk(alloc: Global, world: &World) -> Result<Vec<End>, NoMemory>
     ensures { IfOk result (λ ends. AreEnds (shown_by world.now.files) ends.items) }
 {
     let mut ends = Vec::new(alloc);

@@ -19,7 +19,7 @@ use hc_rw_sets::{Part, beginning_with, cut_at};
 use std::alloc::Global;
 
 /// What follows the front of an end, by what may follow the name of a file.
-pub(crate) fn rests_of(alloc: Global, behind: &Behind, infos: &Dfa) -> Result<Dfa, NoMemory>
+pub fn rests_of(alloc: Global, behind: &Behind, infos: &Dfa) -> Result<Dfa, NoMemory>
     requires { AreInfos infos.now }
     ensures { IfOk result (λ made. Accepts made (rests_of behind.now)) }
 {
@@ -39,7 +39,7 @@ fn nothing(alloc: Global) -> Result<Dfa, NoMemory>
 }
 
 /// What may follow the name of a file: nothing, or a slash and more.
-pub(crate) fn infos(alloc: Global) -> Result<Dfa, NoMemory>
+pub fn infos(alloc: Global) -> Result<Dfa, NoMemory>
     ensures { IfOk result AreInfos }
 {
     let nothing = nothing(alloc)?;
@@ -66,14 +66,14 @@ fn named(alloc: Global, names: &[Text], infos: &Dfa) -> Result<Dfa, NoMemory>
     ensures { IfOk result (λ made. Accepts made (λ text. list_any (bytes_eq (component text)) names.now)) }
 {
     let texts = listed(alloc, names)?;
-    let plain = components(alloc, &every_text(alloc)?)?;
+    let plain = first_components(alloc, &every_text(alloc)?)?;
     let own = product(alloc, &texts, &plain, Keep::Both)?;
     let made = concat(alloc, &own, infos)?;
     Ok(made)
 }
 
 /// What stands before the first slash in the texts of a set.
-pub(crate) fn components(alloc: Global, set: &Dfa) -> Result<Dfa, NoMemory>
+pub fn first_components(alloc: Global, set: &Dfa) -> Result<Dfa, NoMemory>
     ensures { IfOk result (AcceptsOnly (MadeOf component (accepts set.now))) }
 {
     cut_at(alloc, set, b'/', Part::Before)

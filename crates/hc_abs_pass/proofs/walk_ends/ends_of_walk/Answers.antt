@@ -2,7 +2,7 @@ use Rattle.std.proofs.lemmas.List.{nil_from_length}
 use Rattle.hc_abs_pass.proofs.Common.{arith}
 use Rattle.hc_steps.specs.Shown.{shown_by}
 use Rattle.hc_abs_pass.proofs.Finding.{walk_begins, walk_goes_on, walk_over}
-use Rattle.hc_abs_pass.proofs.walk_ends.walk_ends.Goals as goal
+use Rattle.hc_abs_pass.proofs.walk_ends.ends_of_walk.Goals as goal
 
 pub loop-turn-init : goal.loop-turn-init
 loop-turn-init c =

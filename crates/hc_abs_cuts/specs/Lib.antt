@@ -1,0 +1,3 @@
+pub mod Cuts
+pub mod Exact
+pub mod Coded
