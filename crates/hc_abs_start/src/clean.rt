@@ -10,7 +10,7 @@ use hc_dfa::{Dfa, Reading, tested};
 use std::alloc::Global;
 
 /// The clean paths.
-pub(crate) fn clean_paths(alloc: Global) -> Result<Dfa, NoMemory>
+pub fn clean_paths(alloc: Global) -> Result<Dfa, NoMemory>
     ensures { IfOk result (λ made. Accepts made is_clean) }
 {
     let made = tested(alloc, &Clean, Spot::Start)?;

@@ -10,5 +10,6 @@ mod sets;
 mod sole;
 mod starting;
 
+pub use clean::clean_paths;
 pub use sole::sole_client;
 pub use starting::start;

@@ -84,7 +84,7 @@ module _ (asked : Asked) (names : Names) (ground : Ground) (fits : Fits asked na
 
 -- ---- the answer
 
-as_many : {A B : Type 0} (Fit : A → B → Type 0) (xs : List A) (ys : List B) → AllFit Fit xs ys → length xs ≡ length ys
+pub as_many : {A B : Type 0} (Fit : A → B → Type 0) (xs : List A) (ys : List B) → AllFit Fit xs ys → length xs ≡ length ys
 as_many Fit [] ys none = sym (ap length none)
 as_many Fit (x ∷ xs) ys fit =
     let rest = as_many Fit xs fit.1 fit.4 in

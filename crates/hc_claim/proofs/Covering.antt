@@ -2,9 +2,10 @@
 use Rattle.hc_claim.proofs.Common.{◌≡◌, ◌∙◌, inl, inr, ℕ, List, [], ◌∷◌, ◌&&◌, Bool, true}
 use Rattle.hc_claim.proofs.Common.{false, refl, sym, ap, subst}
 use Rattle.hc_claim.proofs.Common.{true≢false, Option, Some, None}
+use Rattle.hc_claim.proofs.Common.outcome
 use Rattle.std.proofs.Common.{ap₂}
 use Rattle.std.proofs.lemmas.Bool.{and_parts, eqb-true, false≢true}
-use Rattle.std.specs.Prelude.{◌==◌, length, if◌then◌else◌}
+use Rattle.std.specs.Prelude.{◌==◌, ◌⊎◌, length, if◌then◌else◌}
 use Rattle.hc_addr.specs.Printed.{printed}
 use Rattle.hc_addr.specs.declared.addr.Addr.{Addr}
 use Rattle.hc_addr.specs.declared.addr.Addr.TheVariants.{V4, V6}
@@ -14,6 +15,7 @@ use Rattle.hc_members.specs.Requests.{common_request, is_asked, reads_within, sa
 unfoldable use Rattle.hc_members.specs.Requests.{is_of_scope}
 use Rattle.hc_model.specs.declared.event.Event.TheVariants as event
 use Rattle.hc_model.specs.declared.config.Config.{Config}
+use Rattle.hc_model.specs.declared.outcome.Reason.TheVariants.{LongText}
 use Rattle.hc_model.specs.declared.config.HostId.{HostId}
 use Rattle.hc_model.specs.declared.config.Server.{Server}
 use Rattle.hc_model.specs.declared.request.Request.{Request}
@@ -62,7 +64,7 @@ use Rattle.hc_abs_start.proofs.Members.{facts_of}
 use Rattle.hc_abs_start.specs.Starts.{first_of, first_set, first_state}
 use Rattle.hc_abs_restart.specs.Restarted.{is_among}
 use Rattle.hc_abs_tree.proofs.Leaves.{each_has_leaf}
-use Rattle.hc_abs_tree.specs.Leaves.{HasLeaf, begun_at}
+use Rattle.hc_abs_tree.specs.Leaves.{HasLeaf, IsLeafOf, begun_at, way_from}
 use Rattle.hc_abs_tree.specs.Trees.{AreLeaves, Leaf, common_site}
 use Rattle.hc_claim.specs.Asking.{Asked, AreUnder, HasEmptySlot, known_before, soil_of}
 use Rattle.hc_claim.specs.Bad.{AreBad, IsBad}
@@ -82,13 +84,13 @@ addrs_same (V6 one) (V6 other) is = ap V6 (eqb-true one other is)
 addrs_same (V4 one) (V6 other) is = absurd (false≢true is)
 addrs_same (V6 one) (V4 other) is = absurd (false≢true is)
 
-record Same (one other : Request) : Type 0 where
-  scheme : one.scheme ≡ other.scheme
-  server : one.server ≡ other.server
-  port : one.port ≡ other.port
-  host : one.host ≡ other.host
+pub record Same (one other : Request) : Type 0 where
+  pub scheme : one.scheme ≡ other.scheme
+  pub server : one.server ≡ other.server
+  pub port : one.port ≡ other.port
+  pub host : one.host ≡ other.host
 
-asked_same : (scope : Scope) (request : Request) → is_of_scope scope request ≡ true
+pub asked_same : (scope : Scope) (request : Request) → is_of_scope scope request ≡ true
     → Same (common_request scope) request
 unfolding is_of_scope
 asked_same scope request is =
@@ -135,10 +137,10 @@ site_with config host scheme server port name called = record {
   };
 }
 
-abbrev common_at : Config → Request → Site
+abbrev pub common_at : Config → Request → Site
 common_at config request = common_site (site_at config (asked_of config request) request)
 
-sites_same : (config : Config) (one other : Request) → Same one other → common_at config one ≡ common_at config other
+pub sites_same : (config : Config) (one other : Request) → Same one other → common_at config one ≡ common_at config other
 sites_same config one other same =
     let scheme = same.scheme in
     let server = same.server in
@@ -169,7 +171,7 @@ module _ (asked : Asked) (request : Request) (is : is_of_scope asked.scope reque
   abbrev shown : Shown
   shown = shown_by asked.world
 
-  abbrev site : Site
+  abbrev pub site : Site
   site = site_at asked.config (asked_of asked.config request) request
 
   abbrev begun : Restarted
@@ -183,7 +185,7 @@ module _ (asked : Asked) (request : Request) (is : is_of_scope asked.scope reque
   unfolding way opened host_of host_told passes_of passes_at first_pass run ◌>>=◌ ending
   whole_is = rw is_read refl
 
-  ground : AreAbsolute asked.config → (levels : ℕ) → IsListed levels shown → IsGround site shown levels merges
+  pub ground : AreAbsolute asked.config → (levels : ℕ) → IsListed levels shown → IsGround site shown levels merges
   ground absolute levels listed = record {
     listed = listed;
     rooted = absolute.rooted site.host;
@@ -191,6 +193,12 @@ module _ (asked : Asked) (request : Request) (is : is_of_scope asked.scope reque
     settles = settles;
     nested = all_nested asked.config site.host;
   }
+
+  -- Where it stands before its first pass.
+  pub record Begins (names : Names) : Type 0 where
+    pub meets : MeetsPass site (first_of path query) (first_state site (first_of path query))
+    pub covers : Covers (known_before asked names) (first_state site (first_of path query))
+    pub filled : HasEmptySlot (known_before asked names) → ⊥
 
   module _ (names : Names) where
     abbrev begins : MeetsPass site (first_of path query) (first_state site (first_of path query))
@@ -204,25 +212,95 @@ module _ (asked : Asked) (request : Request) (is : is_of_scope asked.scope reque
         let set = first_set asked.scope (is_among names.variables) (is_among names.headers) none.0 in
         true≢false (sym held ∙ none.1 own (is_text own (and_left _ (set own) held)))
 
-    -- The request's own leaf.
-    leaf_of : AreAbsolute asked.config → (levels : ℕ) → IsListed levels shown → (leaves : List Leaf)
-        → AreUnder AreLeaves (soil_of asked levels names) (known_before asked names) leaves → (ended : Ended)
-        → passed.way ≡ is_over ended
-        → HasLeaf site shown (begun_at (first_of path query) None) leaves ended (decisions_in passed.events)
-    leaf_of absolute levels listed leaves (inl none) ended over = absurd (filled none.0)
-    leaf_of absolute levels listed leaves (inr tree) ended over =
-        let count = passes_are_segments site shown (most_passes site.config site.host) begun in
-        let all : run (segments count.0 site (at_pass begun)) shown
-        ≡ record { events = passed.events; reads = passed.reads; way = is_over ended } =
+    -- What is known at the start covers it, and each slot has a text.
+    pub begins_so : Begins names
+    begins_so = record { meets = begins.0; covers = begins.1; filled = filled }
+
+  -- As so many segments.
+  abbrev pub way_of : ℕ → Run Ended Cut
+  way_of count = way_from site shown count (begun_at (first_of path query) None)
+
+  in_segments : (ended : Ended) → passed.way ≡ is_over ended
+      → (count : ℕ) × (way_of count ≡ record { events = passed.events; reads = passed.reads; way = is_over ended })
+  in_segments ended over =
+      let count = passes_are_segments site shown (most_passes site.config site.host) begun in (
+        count.0,
         sym count.1
-        ∙ in_turn (passes (most_passes site.config site.host) site begun) (λ left. left_off (at_pass left)) shown
-        ∙ over_before passed passed.way _ ended over in
-        subst (HasLeaf site shown (begun_at (first_of path query) None) leaves ended)
-        (ap (λ (run : Run Ended Cut). decisions_in run.events) all)
-        (each_has_leaf (soil_of asked levels names) site (first_of path query) None (known_before asked names)
-        (first_state site (first_of path query)) leaves count.0 ended
-        (sites_same asked.config (common_request asked.scope) request (asked_same asked.scope request is))
-        (ground absolute levels listed) begins.0 none_once begins.1 tree.1 (ap (λ (run : Run Ended Cut). run.way) all))
+            ∙ in_turn (passes (most_passes site.config site.host) site begun) (λ left. left_off (at_pass left)) shown
+            ∙ over_before passed passed.way _ ended over,
+      )
+
+-- ---- a claim that the request's own leaf doesn't break
+
+-- How a run ends that isn't left over.
+abbrev broken_by : (asked : Asked) (request : Request) (way : Way Ended Restarted) → Bool
+broken_by asked request way =
+    breaks asked.claim (outcome_of way) (whole_run asked.world asked.config request).events (needs_of (tree_of way))
+
+-- The request's own leaf is not bad, unless a text is too long.
+abbrev pub HasGood : Claim → Site → Shown → Cut → Ended → List Decision → Type 0
+HasGood claim site shown from ended decisions =
+    (ended.outcome ≡ outcome.Outside LongText)
+    ⊎ ((leaf : Leaf) × (IsBad claim leaf → ⊥) × IsLeafOf site shown from leaf ended decisions)
+
+-- It is not so that it has none, whatever number of segments it takes.
+abbrev pub IsGood : (asked : Asked) (request : Request) → is_of_scope asked.scope request ≡ true → (path query : List ℕ)
+    → read request.target ≡ Path path query → Type 0
+IsGood asked request is path query is_read =
+    (count : ℕ) (ended : Ended) → (way_of asked request is path query is_read count).way ≡ is_over ended
+    → (HasGood asked.claim (site asked request is path query is_read) (shown_by asked.world)
+    (begun_at (first_of path query) None) ended (decisions_in (way_of asked request is path query is_read count).events)
+    → ⊥) → ⊥
+
+module _ (asked : Asked) (request : Request) (is : is_of_scope asked.scope request ≡ true) (path query : List ℕ)
+    (is_read : read request.target ≡ Path path query) (good : IsGood asked request is path query is_read) where
+  abbrev whole : Run Ended Restarted
+  whole = whole_run asked.world asked.config request
+
+  same : whole ≡ saying (event.Host (server_at asked.config (asked_of asked.config request)).place)
+      (passed asked request is path query is_read)
+  same = whole_is asked request is path query is_read
+
+  by_leaf : (ended : Ended) → breaks asked.claim ended.outcome whole.events (needs_of ended.require) ≡ true
+      → HasGood asked.claim (site asked request is path query is_read) (shown_by asked.world)
+      (begun_at (first_of path query) None) ended
+      (decisions_in (passed asked request is path query is_read).events) → ⊥
+  by_leaf ended broken (inl long) =
+      true≢false (sym broken ∙ ap (λ own. breaks asked.claim own whole.events (needs_of ended.require)) long)
+  by_leaf ended broken (inr own) =
+      own.1
+      (by_finish own.0 whole.events
+      ((own.2).decided ∙ sym (ap (λ (run : Run Ended Restarted). decisions_in run.events) same))
+      (site asked request is path query is_read) (pass_at (own.2).last) (own.2).state (own.2).covers asked.claim
+      ended.outcome (own.0).finish refl (own.2).finish
+      (ap (λ require. breaks asked.claim ended.outcome whole.events (needs_of require)) (own.2).require ∙ broken))
+
+  over_is : (ended : Ended) → whole.way ≡ is_over ended
+      → breaks asked.claim ended.outcome whole.events (needs_of ended.require) ≡ true → ⊥
+  over_is ended over broken =
+      let all = in_segments asked request is path query is_read ended
+      (sym (ap (λ (run : Run Ended Restarted). run.way) same) ∙ over) in
+      good all.0 ended (ap (λ (run : Run Ended Cut). run.way) all.1)
+      (λ own. by_leaf ended broken
+      (subst (HasGood asked.claim (site asked request is path query is_read) (shown_by asked.world)
+      (begun_at (first_of path query) None) ended) (ap (λ (run : Run Ended Cut). decisions_in run.events) all.1) own))
+
+  unbroken : (way : Way Ended Restarted) → whole.way ≡ way → (told : Bool) → broken_by asked request way ≡ told
+      → told ≡ false
+  unbroken (goes_on left) over told is_told = absurd (none_is_left asked.config request (shown_by asked.world) left over)
+  unbroken (is_over ended) over false is_told = refl
+  unbroken (is_over ended) over true is_told = absurd (over_is ended over is_told)
+
+-- A request with a good leaf breaks no claim.
+pub good_holds : (asked : Asked) (request : Request) (is : is_of_scope asked.scope request ≡ true)
+    → ((path query : List ℕ) (is_read : read request.target ≡ Path path query)
+    → IsGood asked request is path query is_read)
+    → is_broken asked.world asked.config asked.claim request ≡ false
+good_holds asked request is good =
+    let to = target_read asked.scope (read request.target) (facts_of asked.scope request is).within in
+    unbroken asked request is to.0 to.1 to.2 (good to.0 to.1 to.2)
+    (whole_run asked.world asked.config request).way refl
+    (is_broken asked.world asked.config asked.claim request) refl
 
 -- ---- a claim that may be broken at no leaf
 
@@ -233,47 +311,30 @@ none_bad claim (own ∷ leaves) (inl none) leaf among bad = let e = none.2 in cc
 none_bad claim (own ∷ leaves) (inr rest) leaf (inl same) bad = rest.0 (subst (IsBad claim) same bad)
 none_bad claim (own ∷ leaves) (inr rest) leaf (inr among) bad = none_bad claim leaves rest.1 leaf among bad
 
--- How a run ends that isn't left over.
-abbrev broken_by : (asked : Asked) (request : Request) (way : Way Ended Restarted) → Bool
-broken_by asked request way =
-    breaks asked.claim (outcome_of way) (whole_run asked.world asked.config request).events (needs_of (tree_of way))
-
 module _ (asked : Asked) (absolute : AreAbsolute asked.config) (levels : ℕ) (listed : IsListed levels (shown_by asked.world))
-    (names : Names) (leaves : List Leaf)
-    (tree : AreUnder AreLeaves (soil_of asked levels names) (known_before asked names) leaves)
-    (none : AreBad asked.claim leaves []) (request : Request) (is : is_of_scope asked.scope request ≡ true)
-    (path query : List ℕ) (is_read : read request.target ≡ Path path query) where
-  abbrev whole : Run Ended Restarted
-  whole = whole_run asked.world asked.config request
+    (names : Names) (leaves : List Leaf) (none : AreBad asked.claim leaves []) (request : Request)
+    (is : is_of_scope asked.scope request ≡ true) (path query : List ℕ)
+    (is_read : read request.target ≡ Path path query) where
+  abbrev there : Begins asked request is path query is_read names
+  there = begins_so asked request is path query is_read names
 
-  same : whole ≡ saying (event.Host (server_at asked.config (asked_of asked.config request)).place)
-      (passed asked request is path query is_read)
-  same = whole_is asked request is path query is_read
+  of_leaf : (ended : Ended) (decisions : List Decision) → HasLeaf (site asked request is path query is_read)
+      (shown_by asked.world) (begun_at (first_of path query) None) leaves ended decisions
+      → HasGood asked.claim (site asked request is path query is_read) (shown_by asked.world)
+      (begun_at (first_of path query) None) ended decisions
+  of_leaf ended decisions (inl long) = inl long
+  of_leaf ended decisions (inr own) = inr (own.0, none_bad asked.claim leaves none own.0 own.1, own.2)
 
-  by_leaf : (ended : Ended) → breaks asked.claim ended.outcome whole.events (needs_of ended.require) ≡ true
-      → HasLeaf (site asked request is path query is_read) (shown_by asked.world) (begun_at (first_of path query) None)
-      leaves ended (decisions_in (passed asked request is path query is_read).events) → ⊥
-  by_leaf ended broken (inl long) =
-      true≢false (sym broken ∙ ap (λ own. breaks asked.claim own whole.events (needs_of ended.require)) long)
-  by_leaf ended broken (inr own) =
-      none_bad asked.claim leaves none own.0 own.1
-      (by_finish own.0 whole.events
-      ((own.2).decided ∙ sym (ap (λ (run : Run Ended Restarted). decisions_in run.events) same))
-      (site asked request is path query is_read) (pass_at (own.2).last) (own.2).state (own.2).covers asked.claim
-      ended.outcome (own.0).finish refl (own.2).finish
-      (ap (λ require. breaks asked.claim ended.outcome whole.events (needs_of require)) (own.2).require ∙ broken))
-
-  over_is : (ended : Ended) → whole.way ≡ is_over ended
-      → breaks asked.claim ended.outcome whole.events (needs_of ended.require) ≡ true → ⊥
-  over_is ended over broken =
-      by_leaf ended broken (leaf_of asked request is path query is_read names absolute levels listed leaves tree ended
-      (sym (ap (λ (run : Run Ended Restarted). run.way) same) ∙ over))
-
-  unbroken : (way : Way Ended Restarted) → whole.way ≡ way → (told : Bool) → broken_by asked request way ≡ told
-      → told ≡ false
-  unbroken (goes_on left) over told is_told = absurd (none_is_left asked.config request (shown_by asked.world) left over)
-  unbroken (is_over ended) over false is_told = refl
-  unbroken (is_over ended) over true is_told = absurd (over_is ended over is_told)
+  all_good : AreUnder AreLeaves (soil_of asked levels names) (known_before asked names) leaves
+      → IsGood asked request is path query is_read
+  all_good (inl empty) count ended over = absurd (there.filled empty.0)
+  all_good (inr tree) count ended over = λ bad. bad
+      (of_leaf ended (decisions_in (way_of asked request is path query is_read count).events)
+      (each_has_leaf (soil_of asked levels names) (site asked request is path query is_read) (first_of path query) None
+      (known_before asked names) (first_state (site asked request is path query is_read) (first_of path query)) leaves
+      count ended (sites_same asked.config (common_request asked.scope) request (asked_same asked.scope request is))
+      (ground asked request is path query is_read absolute levels listed) there.meets none_once there.covers tree.1
+      over))
 
 pub proved_holds : (asked : Asked) → AreAbsolute asked.config → (levels : ℕ) → IsListed levels (shown_by asked.world)
     → (names : Names) (leaves : List Leaf)
@@ -281,7 +342,5 @@ pub proved_holds : (asked : Asked) → AreAbsolute asked.config → (levels : �
     → AreBad asked.claim leaves [] → (request : Request) → is_of_scope asked.scope request ≡ true
     → is_broken asked.world asked.config asked.claim request ≡ false
 proved_holds asked absolute levels listed names leaves tree none request is =
-    let to = target_read asked.scope (read request.target) (facts_of asked.scope request is).within in
-    unbroken asked absolute levels listed names leaves tree none request is to.0 to.1 to.2
-    (whole_run asked.world asked.config request).way refl
-    (is_broken asked.world asked.config asked.claim request) refl
+    good_holds asked request is (λ path query is_read.
+    all_good asked absolute levels listed names leaves none request is path query is_read tree)

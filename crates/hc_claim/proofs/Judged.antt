@@ -31,7 +31,7 @@ use Rattle.hc_claim.specs.Judging.{HasMember, IsJudged, MayBreakIn, Meets}
 
 -- ---- answers
 
-answer_from : {P Q : Type 0} (is : Bool) → (P → Q) → (Q → P) → IsAnswer P is → IsAnswer Q is
+pub answer_from : {P Q : Type 0} (is : Bool) → (P → Q) → (Q → P) → IsAnswer P is → IsAnswer Q is
 answer_from true to from held = to held
 answer_from false to from none = λ q. none (from q)
 
@@ -39,7 +39,7 @@ answer_from false to from none = λ q. none (from q)
 
 -- What a leaf is said to end with, by how it ends.
 module _ (caller : Caller) where
-  out_is : (own : LeafEnd) (finish : Finish) → EndFits caller own finish → is_out finish ≡ ends_out own
+  pub out_is : (own : LeafEnd) (finish : Finish) → EndFits caller own finish → is_out finish ≡ ends_out own
   out_is (end.Stopped (left.Status number)) finish is = ap is_out is
   out_is (end.Stopped (left.Outside reason)) finish is = ap is_out is
   out_is (end.Stopped (left.Found kind)) finish is = ap is_out is
@@ -52,7 +52,7 @@ module _ (caller : Caller) where
   out_is (end.Ruled (next.Redirect number own noescape)) finish is = ap is_out is
   out_is (end.Ruled (next.Outside reason)) finish is = ap is_out is
 
-  limited_is : (own : LeafEnd) (finish : Finish) → EndFits caller own finish → is_limited finish ≡ ends_limited own
+  pub limited_is : (own : LeafEnd) (finish : Finish) → EndFits caller own finish → is_limited finish ≡ ends_limited own
   limited_is (end.Stopped (left.Status number)) finish is = ap is_limited is
   limited_is (end.Stopped (left.Outside reason)) finish is = ap is_limited is
   limited_is (end.Stopped (left.Found kind)) finish is = ap is_limited is
@@ -62,7 +62,7 @@ module _ (caller : Caller) where
   limited_is (end.Stopped left.NextPass) finish is = ap is_limited is
   limited_is (end.Ruled next) finish is = ap is_limited is
 
-  served_is : (own : LeafEnd) (finish : Finish) → EndFits caller own finish → is_served finish ≡ ends_served own
+  pub served_is : (own : LeafEnd) (finish : Finish) → EndFits caller own finish → is_served finish ≡ ends_served own
   served_is (end.Stopped (left.Status number)) finish is = ap is_served is
   served_is (end.Stopped (left.Outside reason)) finish is = ap is_served is
   served_is (end.Stopped (left.Found kind)) finish is = ap is_served is

@@ -100,7 +100,7 @@ fn walked<O: Overrides>(
 }
 
 /// What rules ask of texts, at the server that answers the requests of the scope.
-fn tests_of(alloc: Global, question: Question<'_>, host: HostId) -> Result<TextTests, NoMemory>
+pub fn tests_of(alloc: Global, question: Question<'_>, host: HostId) -> Result<TextTests, NoMemory>
     ensures { IfOk result (λ tests. tests ≡ caller_at question.entry.config.now host
         (common_request question.entry.scope.now)) }
 {

@@ -19,13 +19,15 @@ pub(crate) fn ends_out(end: &LeafEnd) -> bool
     }
 }
 
-fn is_left_outside(left: &Left) -> bool
+/// The pass ends outside.
+pub fn is_left_outside(left: &Left) -> bool
     ensures { result ≡ is_left_outside left.now }
 {
     matches!(left, Left::Outside(_))
 }
 
-fn is_ruled_outside(next: &Next) -> bool
+/// A rule answers outside.
+pub fn is_ruled_outside(next: &Next) -> bool
     ensures { result ≡ is_ruled_outside next.now }
 {
     matches!(next, Next::Outside(_))
@@ -41,7 +43,8 @@ pub(crate) fn ends_limited(end: &LeafEnd) -> bool
     }
 }
 
-fn is_bound_left(left: &Left) -> bool
+/// The pass ends at a limit.
+pub fn is_bound_left(left: &Left) -> bool
     ensures { result ≡ is_bound_left left.now }
 {
     matches!(left, Left::Limit(_))
@@ -57,7 +60,8 @@ pub(crate) fn ends_served(end: &LeafEnd) -> bool
     }
 }
 
-fn serves(left: &Left) -> bool
+/// The pass ends with a file or a directory.
+pub fn serves(left: &Left) -> bool
     ensures { result ≡ serves left.now }
 {
     match left {

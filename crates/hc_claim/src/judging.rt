@@ -41,7 +41,7 @@ fn may_break(alloc: Global, claim: &Claim, leaf: &Leaf) -> Result<bool, NoMemory
 }
 
 /// The rule of this place matched.
-fn has_match(place: &Place, decisions: &[Decision]) -> bool
+pub fn has_match(place: &Place, decisions: &[Decision]) -> bool
     ensures { result ≡ list_any (is_match place.now) decisions.now }
 {
     decisions.iter().any(|decision| is_match(place, decision))
@@ -74,7 +74,7 @@ fn unguarded(alloc: Global, target: &Dfa, by: &Place, leaf: &Leaf) -> Result<boo
 }
 
 /// A file name may be of the set.
-fn may_name(alloc: Global, cell: &Cell, set: &Dfa) -> Result<bool, NoMemory>
+pub fn may_name(alloc: Global, cell: &Cell, set: &Dfa) -> Result<bool, NoMemory>
     ensures { IfOk result (IsAnswer (Meets (cell_of cell.now Name) (accepts set.now))) }
 {
     match cell.set_of(&Slot::Name) {

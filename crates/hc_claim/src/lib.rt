@@ -19,5 +19,7 @@ mod trying;
 mod walking;
 
 pub use decided::Decided;
-pub use deciding::decide;
+pub use deciding::{MOST_STATES, decide, tests_of};
+pub use ending::{is_bound_left, is_left_outside, is_ruled_outside, serves};
+pub use judging::{has_match, may_name};
 pub use question::Question;
