@@ -15,6 +15,7 @@ use Rattle.hc_members.specs.Requests.{common_request, is_asked, reads_within, sa
 unfoldable use Rattle.hc_members.specs.Requests.{is_of_scope}
 use Rattle.hc_model.specs.declared.event.Event.TheVariants as event
 use Rattle.hc_model.specs.declared.config.Config.{Config}
+use Rattle.hc_model.specs.declared.event.Decision.{Decision}
 use Rattle.hc_model.specs.declared.outcome.Reason.TheVariants.{LongText}
 use Rattle.hc_model.specs.declared.config.HostId.{HostId}
 use Rattle.hc_model.specs.declared.config.Server.{Server}
