@@ -1,0 +1,5 @@
+pub mod Cells
+pub mod Conditions
+pub mod Checking
+pub mod Coded
+pub mod Holding
