@@ -1,5 +1,5 @@
-//! The sections in force where a directory's list goes on (Apache manual, "Configuration Sections", "How the sections are
-//! merged").
+//! The sections in force where a directory's list goes on (Apache manual, "Configuration Sections", "How the sections
+//! are merged").
 ghost use Rattle.std.specs.Prelude.{◌≡◌, IfOk, OnOk, map};
 ghost use Rattle.hc_abs_cuts.specs.Coded.{AddsInForce, AreInForce, AreSectioned};
 ghost use Rattle.hc_abs_pass.specs.Again.{is_list_of};

@@ -44,7 +44,8 @@ pub fn check<O: Overrides>(
     over: &mut O,
 ) -> Result<Verdict, NoMemory>
     requires { Lends O.reading O.size (O.fixed over.old) question.world.now.files question.config.now }
-    ensures verdict { IfOk result (λ verdict. (levels : ℕ) → IsListed levels (shown_by question.entry.world.now.files)
+    ensures verdict { IfOk result (λ verdict. (levels : ℕ)
+        → IsListed levels (shown_by question.entry.world.now.files)
         → IsVerdict (asked_in question.entry) cells.now levels verdict) }
     ensures valid { OnOk result (IsWorld question.entry.world.now.files) }
     ensures over { Returns O.fixed O.loaded over }
