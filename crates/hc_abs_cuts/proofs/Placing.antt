@@ -18,8 +18,7 @@ use Rattle.hc_serve.specs.Files.{files_left}
 use Rattle.hc_steps.specs.Run.{Way}
 use Rattle.hc_abs_force.specs.Merging.{merges}
 use Rattle.hc_abs_left.specs.Grounds.{world_in}
-use Rattle.hc_abs_name.proofs.Refusing.{left_ordered, looked_way}
-use Rattle.hc_abs_name.specs.Reading.{first_refused, way_by}
+use Rattle.hc_abs_run.proofs.Common.{first_refused, left_ordered, looked_way, way_by}
 use Rattle.hc_abs_pass.proofs.Alike.{IsEnd, IsSeen, root_fit}
 use Rattle.hc_abs_pass.specs.Passing.{files_at, scene_with}
 use Rattle.hc_abs_pass.specs.Sections.{sections_plan}

@@ -5,7 +5,7 @@ use Rattle.hc_abs_leaves.proofs.Common.{shown_in}
 use Rattle.hc_plan.proofs.Coded.{both_fit}
 use Rattle.hc_abs_left.specs.Segments.{SegmentFits}
 use Rattle.hc_abs_left.specs.declared.segment.Segment.{Segment as SegmentIn}
-use Rattle.hc_abs_name.proofs.Clients.{with_clients}
+use Rattle.hc_abs_run.proofs.Common.{with_clients}
 use Rattle.hc_abs_leaves.proofs.Heights.{leaf_over, node_over, then_over}
 use Rattle.hc_abs_leaves.proofs.Nexts.{next_fits, parent_fits}
 use Rattle.hc_abs_leaves.proofs.Stacks.{last_fits, map_fits, reverse_fits}

@@ -72,15 +72,20 @@ fn without_file(alloc: Global, cell: &Cell) -> Result<Cell, NoMemory>
 }
 
 /// The cell in which a variable has its value, too.
-fn with_variable(alloc: Global, before: &Cell, name: &Text, cell: Cell) -> Result<Cell, NoMemory>
+fn with_variable(
+    alloc: Global,
+    before: &Cell,
+    name: &Text,
+    mut cell: Cell,
+) -> Result<Cell, NoMemory>
     ensures { IfOk result (LooksAt before.now name.now cell) }
 {
     let Some(set) = values_of(alloc, before, name.as_bytes())? else {
         return Ok(cell);
     };
     let slot = Slot::Env(Text::copy_of(alloc, name.as_bytes())?);
-    let made = with(alloc, &cell, &slot, &set)?;
-    Ok(made)
+    cell.put(alloc, slot, set)?;
+    Ok(cell)
 }
 
 /// The values of a variable, by the cell before; none where it may have any: the status, behind the front those of the

@@ -8,4 +8,5 @@ mod placed;
 mod running;
 mod server;
 
+pub use hc_abs_name::refused_at;
 pub use running::{pass_branches, server_round_branches};

@@ -12,7 +12,7 @@ ghost use Rattle.hc_abs_start.specs.Starts.{IsStart, first_ties};
 use crate::bytes::{Bytes, texts_of};
 use crate::sets::{paths, queries};
 use hc_base::{List, NoMemory, Text};
-use hc_cells::{Cell, Slot, Ties, with};
+use hc_cells::{Cell, Slot, Ties};
 use hc_dfa::{Dfa, listed, single};
 use hc_plan::Tied;
 use hc_scope::Scope;
@@ -58,7 +58,7 @@ fn with_each(alloc: Global, before: &Cell, slots: &[Slot], set: &Dfa) -> Result<
 {
     let mut cell = before.clone()?;
     for slot in slots {
-        cell = with(alloc, &cell, slot, set)?;
+        cell.put(alloc, slot.clone()?, set.clone()?)?;
     }
     Ok(cell)
 }

@@ -1,5 +1,5 @@
 ghost use Rattle.std.specs.Option.{option_copied};
-ghost use Rattle.std.specs.Prelude.{◌≡◌, ◌↔◌, [], IfOk, IsTrue, option_map};
+ghost use Rattle.std.specs.Prelude.{◌≡◌, ◌↔◌, [], IfOk, IsTrue, OnOk, option_map};
 ghost use Rattle.hc_cells.specs.Cells.{HasEmptySlot, LacksVariables, Puts, Restricts, holds, room_left, set_at};
 ghost use Rattle.hc_cells.specs.Cells.{sets_in, states_in};
 ghost use Rattle.hc_dfa.specs.Members.{IsOnlyOf};
@@ -60,6 +60,15 @@ impl Cell {
         }
     }
 
+    /// Gives a slot this set in place of its own.
+    pub fn put(&mut self, alloc: Global, slot: Slot, set: Dfa) -> Result<(), NoMemory>
+        ensures { OnOk result (Puts self.old slot set self.new) }
+    {
+        let shared = Rc::new(alloc, Shared::new(alloc, set)?)?;
+        self.sets.insert(slot, shared)?;
+        Ok(())
+    }
+
     /// What is left of a room for states without those of the sets that are there; none where they don't fit.
     pub fn room_left(&self, room: u64) -> Option<u64>
         ensures { result ≡ room_left room (states_in self.now) }
@@ -98,10 +107,7 @@ pub fn with(alloc: Global, cell: &Cell, slot: &Slot, set: &Dfa) -> Result<Cell, 
     ensures { IfOk result (λ made. Puts cell.now slot.now set.now made) }
 {
     let mut made = cell.clone()?;
-    made.sets.insert(
-        slot.clone()?,
-        Rc::new(alloc, Shared::new(alloc, set.clone()?)?)?,
-    )?;
+    made.put(alloc, slot.clone()?, set.clone()?)?;
     Ok(made)
 }
 

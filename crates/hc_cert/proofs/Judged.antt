@@ -13,7 +13,7 @@ use Rattle.hc_model.specs.declared.section.Effective.{Effective}
 use Rattle.hc_scope.specs.declared.claim.Claim.{Claim}
 use Rattle.hc_scope.specs.declared.claim.Claim.TheVariants.{Guarded, Shadowed, Stops}
 use Rattle.hc_serve.specs.Needs.{needs_of}
-use Rattle.hc_abs_leaves.specs.declared.leaf.LeafEnd.TheVariants as end
+use Rattle.hc_claim.proofs.Common.end
 use Rattle.hc_abs_pass.specs.declared.ends.Left.TheVariants as left
 use Rattle.hc_claim.proofs.Judged.{limited_is as limited_by, out_is as out_by, served_is as served_by}
 use Rattle.hc_claim.specs.Bad.{IsBad, MayBreak, is_limited, is_match, is_out, is_served}

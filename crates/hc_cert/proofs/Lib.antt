@@ -6,3 +6,4 @@ pub mod Faulty
 pub mod Branching
 pub mod Bytes
 pub mod Said
+pub mod Claims

@@ -3,3 +3,4 @@ pub mod Conditions
 pub mod Checking
 pub mod Coded
 pub mod Holding
+pub mod Claims

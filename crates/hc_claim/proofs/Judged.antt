@@ -19,7 +19,7 @@ use Rattle.hc_serve.specs.Needs.{needs_of}
 use Rattle.hc_abs_leaves.specs.Fitting.{EndFits, LeafFits}
 use Rattle.hc_abs_leaves.specs.declared.leaf.Leaf.{Leaf as LeafIn}
 use Rattle.hc_abs_leaves.specs.declared.leaf.LeafEnd.{LeafEnd}
-use Rattle.hc_abs_leaves.specs.declared.leaf.LeafEnd.TheVariants as end
+use Rattle.hc_claim.proofs.Common.end
 use Rattle.hc_abs_pass.specs.Passing.{Finish}
 use Rattle.hc_abs_pass.specs.declared.ends.Left.TheVariants as left
 use Rattle.hc_abs_rw.specs.declared.apply.Next.TheVariants as next

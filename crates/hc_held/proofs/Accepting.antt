@@ -23,8 +23,8 @@ use Rattle.hc_abs_restart.specs.Restarted.{is_among}
 use Rattle.hc_abs_start.specs.Starts.{first_of, first_state}
 use Rattle.hc_abs_tree.specs.Leaves.{begun_at}
 use Rattle.hc_abs_tree.specs.Trees.{common_site}
-use Rattle.hc_claim.proofs.Covering.{IsGood, asked_same, begins_so, good_holds, ground, sites_same, site as site_for}
-use Rattle.hc_claim.specs.Asking.{Asked, known_before}
+use Rattle.hc_cert.proofs.Claims.{IsGood, asked_same, begins_so, good_holds, ground, sites_same, site as site_for}
+use Rattle.hc_cert.specs.Claims.{Asked, known_before}
 use Rattle.hc_cert.specs.Cells.{Belongs, known_in}
 use Rattle.hc_cert.specs.Checking.{AreBehind, AreWalked, Begins, FirstIn, FirstOf, FirstSaid, IsSaid, LeaveBytes}
 use Rattle.hc_cert.specs.Checking.{OrBehind, OrNext, Ranks, Sought, Walked, conditions, ground_in, site_of, verdict_of}

@@ -22,7 +22,7 @@ use Rattle.hc_abs_force.specs.Merging.{merges}
 use Rattle.hc_abs_pass.specs.Again.{AreFromDir}
 use Rattle.hc_abs_pass.specs.Passing.{Ground, Segment}
 use Rattle.hc_abs_segments.specs.Agreeing.{IsGround, ground_of}
-use Rattle.hc_claim.specs.Bad.{IsBad}
+use Rattle.hc_cert.specs.Claims.{IsBad}
 use Rattle.hc_cert.specs.Cells.{Belongs, Lacks, known_in, led_to, same_cut}
 use Rattle.hc_cert.specs.Checking.{AreBehind, AreFrom, LeaveBytes}
 use Rattle.hc_cert.specs.Conditions.{Stalls, Strays, bounds_of, leaf_of}

@@ -25,8 +25,8 @@ use Rattle.hc_steps.specs.Run.{Way, goes_on, is_over, run}
 use Rattle.hc_abs_again.specs.Arriving.{IsLimited, IsTooLong, LeadsSo, directory_at, server_at}
 use Rattle.hc_abs_pass.specs.Passing.{Finish, Segment, dir_round as in_dir_again, server_round as in_server_again}
 use Rattle.hc_abs_segments.specs.Counting.{pass_at}
-use Rattle.hc_claim.proofs.Breaking.{by_finish}
-use Rattle.hc_claim.specs.Bad.{IsBad}
+use Rattle.hc_cert.proofs.Claims.{by_finish}
+use Rattle.hc_cert.specs.Claims.{IsBad}
 use Rattle.hc_cert.specs.Cells.{led_to}
 use Rattle.hc_cert.specs.Conditions.{leaf_of, round_grows}
 use Rattle.hc_held.proofs.Arrivals.{Arrives, Basis, IsAccepted, IsFine, arrives, leads_in}

@@ -33,8 +33,8 @@ use Rattle.hc_abs_rw.specs.Standing.{decisions_in}
 use Rattle.hc_abs_segments.specs.Counting.{pass_at}
 use Rattle.hc_abs_tree.specs.Leaves.{FinishedSo, way_from}
 use Rattle.hc_abs_tree.specs.Trees.{Leaf}
-use Rattle.hc_claim.proofs.Covering.{HasGood}
-use Rattle.hc_claim.specs.Bad.{IsBad, is_match}
+use Rattle.hc_cert.proofs.Claims.{HasGood}
+use Rattle.hc_cert.specs.Claims.{IsBad, is_match}
 use Rattle.hc_cert.specs.Cells.{Belongs, LiesIn}
 use Rattle.hc_cert.specs.Conditions.{leaf_of}
 use Rattle.hc_held.proofs.Arrivals.{Arrives, Basis, IsAccepted, arrives, leads_in}

@@ -24,7 +24,7 @@ use Rattle.hc_steps.specs.Step.{Shown}
 use Rattle.hc_abs_again.specs.Arriving.{StandsAt, WasReached}
 use Rattle.hc_abs_rw.specs.Known.{client_given}
 use Rattle.hc_abs_start.specs.Starts.{sole_client}
-use Rattle.hc_claim.specs.Asking.{HasEmptySlot}
+use Rattle.hc_cert.specs.Claims.{HasEmptySlot}
 use Rattle.hc_cert.specs.Cells.{Belongs, LiesIn, known_in, same_cut, ties_at}
 use Rattle.hc_held.proofs.Further.{first_at}
 use Rattle.hc_held.proofs.Weakly.{Weakly, and_so, either_way, weakly}

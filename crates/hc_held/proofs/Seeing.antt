@@ -14,7 +14,7 @@ use Rattle.hc_steps.specs.Run.{goes_on, run}
 use Rattle.hc_abs_again.specs.Arriving.{SeesBytes, StandsAt, WasReached}
 use Rattle.hc_abs_again.specs.Bytes.{HasBytes, ServerHasBytes}
 use Rattle.hc_abs_force.specs.Merging.{merges}
-use Rattle.hc_claim.specs.Asking.{HasEmptySlot}
+use Rattle.hc_cert.specs.Claims.{HasEmptySlot}
 use Rattle.hc_cert.specs.Cells.{known_in, same_cut}
 use Rattle.hc_cert.specs.Checking.{LeavesBytes, is_dir}
 use Rattle.hc_held.proofs.Arrivals.{Basis, IsAccepted, ground_on}

@@ -5,7 +5,7 @@ use Rattle.hc_htaccess.specs.Reading.{reading_in}
 use Rattle.hc_merge.specs.Overriding.{files_read, wanted_by}
 use Rattle.hc_model.specs.declared.walk.Walk.{Walk}
 use Rattle.hc_abs_left.specs.Grounds.{world_in}
-use Rattle.hc_abs_name.specs.Reading.{first_refused}
+use Rattle.hc_abs_run.proofs.Common.{first_refused}
 use Rattle.hc_abs_cuts.proofs.Placing.{Led, end_led, refused_later, sections_later}
 use Rattle.hc_abs_cuts.specs.Coded.{AreSectioned, IsAtEnd}
 use Rattle.hc_abs_cuts.proofs.places.at_end.Goals as goal

@@ -14,8 +14,8 @@ returns-in_default c =
 
 pub returns : goal.returns
 returns c =
-    value_put c.args.before.now c.args.name.now c.args.cell c.in_ok-made.made c.in-Some.set
+    value_put c.args.before.now c.args.name.now c.args.cell c.put.new.self c.in-Some.set
     (subst (λ name. IsSource c.args.before.now (variable_source name) (Some c.in-Some.set)) c.as_bytes.ensures
     (subst (IsSource c.args.before.now (variable_source c.as_bytes.result.now)) c.in-Some.is c.in_ok-set.ensures))
-    (subst (λ name. Puts c.args.cell (slot.Env name) c.in-Some.set c.in_ok-made.made)
-    (c.in_ok-copy_of.ensures ∙ c.as_bytes-2.ensures) c.in_ok-made.ensures)
+    (subst (λ name. Puts c.args.cell (slot.Env name) c.in-Some.set c.put.new.self)
+    (c.in_ok-copy_of.ensures ∙ c.as_bytes-2.ensures) c.in_ok-put.ensures)

@@ -1,11 +1,7 @@
-use Rattle.hc_cells.proofs.Common.{ap, sym, ◌∙◌, cond, Some, option_map, shared_set, set_at, same_slot}
-use Rattle.hc_cells.proofs.Looking.{look_up, put_shared}
+use Rattle.hc_cells.proofs.Common.{◌∙◌, cond, Some, set_at, same_slot}
 use Rattle.hc_cells.proofs.cell.with.Goals as goal
 
 pub returns : goal.returns
-returns c = λ other.
-    let set = c.in_ok-new-2.ensures.ok ∙ c.in_ok-new.ensures ∙ c.in_ok-clone-2.ensures.cases in
-    let before = sym (look_up _ other) ∙ ap (λ sets. set_at sets other)
-    (c.made.view_is ∙ c.in_ok-made.ensures.cases) in
-    look_up _ other ∙ ap (option_map shared_set) (c.in_ok-insert.ensures.updates.0 other) ∙ put_shared _ _ _
-    ∙ (λ i. cond (same_slot (c.in_ok-clone.ensures.cases i) other) (Some (set i)) (before i))
+returns c = λ other. c.in_ok-put.ensures other
+    ∙ (λ i. cond (same_slot (c.in_ok-clone.ensures.cases i) other) (Some (c.in_ok-clone-2.ensures.cases i))
+    (set_at (c.in_ok-made.ensures.cases i) other))
