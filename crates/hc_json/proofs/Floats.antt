@@ -17,8 +17,9 @@ use Rattle.hc_model.specs.declared.read.Read.TheVariants.{KindOf}
 use Rattle.hc_model.specs.declared.request.Header.{Header}
 use Rattle.hc_model.specs.declared.request.Request.{Request}
 use Rattle.hc_json.specs.Claimed.{decision_data, with_headers}
-use Rattle.hc_json.specs.Reply.{outcome_data, refuted, reply_data, trailed_data, undecided}
+use Rattle.hc_json.specs.Reply.{outcome_data, refuted, rejected, reply_data, trailed_data, undecided}
 use Rattle.hc_json.specs.Shown.{shown}
+use Rattle.hc_json.specs.declared.rejected.Condition.{Condition}
 use Rattle.hc_json.specs.Trail.{Trailed, event_data, read_data, sourced_data, text_data}
 
 items_without : {A : Type 0} (f : A → Data) → ((x : A) → has_float (f x) ≡ false) → (xs : List A)
@@ -52,6 +53,10 @@ decision_without (decision.Rule place matched) = refl
 
 pub undecided_without : (branch : List Decision) → has_float (reply_data (undecided branch)) ≡ false
 undecided_without branch = rw (items_without decision_data decision_without branch) refl
+
+pub rejected_without : (branch : List Decision) (cell : ℕ) (condition : Condition) (witness : List ℕ)
+    → has_float (reply_data (rejected branch cell condition witness)) ≡ false
+rejected_without branch cell condition witness = rw (items_without decision_data decision_without branch) refl
 
 put_without : (key : List ℕ) (d : Data) (ms : Members) → has_float d ≡ false → members_have_float ms ≡ false
     → members_have_float (put key d ms) ≡ false

@@ -7,6 +7,7 @@ use Rattle.serde_json.specs.Read.{read}
 use Rattle.hc_base.specs.declared.codes.TheConstants.{BAD_COMMAND, BAD_JSON}
 use Rattle.hc_base.specs.declared.place.Refusal.{Refusal}
 use Rattle.hc_json.specs.Asked.{Question, asked_in}
+use Rattle.hc_json.specs.Cells.{CellForm, cells_in}
 use Rattle.hc_json.specs.Claims.{ClaimForm, ScopeForm, claim_in, scope_in}
 use Rattle.hc_json.specs.Fields.{no_other, required, ◌>>=◌}
 use Rattle.hc_json.specs.Forms.{line_in}
@@ -25,6 +26,8 @@ pub data Command : Type 0 where
   ask : Question → Command
   -- what is claimed, and of which requests
   decide : ClaimForm → ScopeForm → Command
+  -- the same, and the cells that may show it
+  verify : ClaimForm → ScopeForm → List CellForm → Command
   stats : Command
   end : Command
 
@@ -71,6 +74,13 @@ ask_in d = asked_in d >>= λ question. Ok (ask question)
 abbrev pub decide_in : Data → Result Command (List ℕ)
 decide_in d = claim_in d >>= λ claim. scope_in d >>= λ scope. Ok (decide claim scope)
 
+abbrev pub verify_in : Data → Result Command (List ℕ)
+verify_in d =
+    claim_in d >>= λ claim.
+    scope_in d >>= λ scope.
+    cells_in d >>= λ cells.
+    Ok (verify claim scope cells)
+
 -- ---- which fields each has
 
 abbrev pub put_fields : List (List ℕ)
@@ -97,6 +107,9 @@ ask_fields =
 abbrev pub decide_fields : List (List ℕ)
 decide_fields = codes "do" ∷ codes "claim" ∷ codes "scope" ∷ []
 
+abbrev pub verify_fields : List (List ℕ)
+verify_fields = codes "do" ∷ codes "claim" ∷ codes "scope" ∷ codes "cells" ∷ []
+
 -- ---- the commands
 
 abbrev pub with_fields : List (List ℕ) → (Data → Result Command (List ℕ)) → Data → Result Command (List ℕ)
@@ -120,9 +133,10 @@ question_named name d =
     if bytes_eq name (codes "check") then without_fields check d
     else (if bytes_eq name (codes "ask") then with_fields ask_fields ask_in d
     else (if bytes_eq name (codes "decide") then with_fields decide_fields decide_in d
+    else (if bytes_eq name (codes "verify") then with_fields verify_fields verify_in d
     else (if bytes_eq name (codes "stats") then without_fields stats d
     else (if bytes_eq name (codes "end") then without_fields end d
-    else Err (codes "do")))))
+    else Err (codes "do"))))))
 
 abbrev pub or_question : List ℕ → Data → Option (Result Command (List ℕ)) → Result Command (List ℕ)
 or_question name d (Some read) = read

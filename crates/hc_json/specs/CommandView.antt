@@ -14,21 +14,28 @@ use Rattle.hc_base.specs.declared.place.Refusal.{Refusal}
 use Rattle.hc_model.specs.declared.request.Header.{Header}
 use Rattle.hc_model.specs.declared.request.Request.{Request}
 use Rattle.hc_json.specs.Asked.{Question}
+use Rattle.hc_json.specs.Cells as cells
+use Rattle.hc_json.specs.Cells.{cells_of, slots_of}
 use Rattle.hc_json.specs.Claims as claims
 use Rattle.hc_json.specs.Claims.{methods_of}
 use Rattle.hc_json.specs.Command as spec
 use Rattle.hc_json.specs.Forms.{headers_of}
 use Rattle.hc_json.specs.declared.asked.Asked.{Asked}
+use Rattle.hc_json.specs.declared.cells.CellForm.{CellForm}
+use Rattle.hc_json.specs.declared.cells.CutForm.{CutForm}
+use Rattle.hc_json.specs.declared.cells.CutForm.TheVariants as cut
 use Rattle.hc_json.specs.declared.claim.ClaimForm.{ClaimForm}
 use Rattle.hc_json.specs.declared.claim.ClaimForm.TheVariants as form
 use Rattle.hc_json.specs.declared.claim.PlaceForm.{PlaceForm}
 use Rattle.hc_json.specs.declared.fields.BadField.{BadField}
 use Rattle.hc_json.specs.declared.scope.ScopeForm.{ScopeForm}
+use Rattle.hc_json.specs.declared.slots.SlotForm.{SlotForm}
+use Rattle.hc_json.specs.declared.slots.SlotForm.TheVariants as slot
 use Rattle.hc_json.specs.declared.command.Command.{Command}
 use Rattle.hc_json.specs.declared.command.NoCommand.{NoCommand}
 use Rattle.hc_json.specs.declared.command.NoCommand.TheVariants as wrong
 use Rattle.hc_json.specs.declared.command.Command.TheVariants.{Put, ListPath, DropPath, Edit, Main, Check, Ask, Stats}
-use Rattle.hc_json.specs.declared.command.Command.TheVariants.{Decide, End}
+use Rattle.hc_json.specs.declared.command.Command.TheVariants.{Decide, End, Verify}
 
 abbrev pub headers_view : Option (Bor (BTreeMap (String Global) Value)) → List Header
 headers_view None = []
@@ -76,6 +83,32 @@ scope_view scope = record {
   query = set_view scope.query;
 }
 
+abbrev pub cut_view : CutForm → cells.CutForm
+cut_view cut.Pass = cells.pass
+cut_view cut.Server = cells.server
+cut_view (cut.Dir path) = cells.dir path.now
+
+abbrev pub slot_view : SlotForm → cells.SlotForm
+slot_view slot.Origin = cells.origin
+slot_view slot.Path = cells.path
+slot_view slot.Query = cells.query
+slot_view slot.Text = cells.text
+slot_view slot.Name = cells.name
+slot_view slot.Info = cells.info
+slot_view slot.End = cells.end
+slot_view slot.Method = cells.method
+slot_view slot.Request = cells.request
+slot_view (slot.Env name) = cells.env name.now
+slot_view (slot.Header name) = cells.header name.now
+
+abbrev pub cell_view : CellForm → cells.CellForm
+cell_view cell = record {
+  at = cut_view cell.at;
+  rank = cell.rank;
+  round = cell.round;
+  slots = slots_of (members_view cell.slots.now.entries);
+}
+
 abbrev pub command_view : Command → spec.Command
 command_view (Put path bytes) = spec.put path.now bytes.now
 command_view (ListPath path kind) = spec.list path.now kind
@@ -85,6 +118,8 @@ command_view (Main path) = spec.main path.now
 command_view Check = spec.check
 command_view (Ask asked) = spec.ask (question_view asked)
 command_view (Decide claim scope) = spec.decide (claim_view claim) (scope_view scope)
+command_view (Verify claim scope values) =
+    spec.verify (claim_view claim) (scope_view scope) (cells_of (items_view values.now.items))
 command_view Stats = spec.stats
 command_view End = spec.end
 
@@ -127,6 +162,23 @@ scope_field_view (Err bad) = Err bad.0.now
 abbrev pub methods_field_view : Result (Option (Bor (Vec Value Global))) BadField → Result (List (List ℕ)) (List ℕ)
 methods_field_view (Ok methods) = Ok (methods_view methods)
 methods_field_view (Err bad) = Err bad.0.now
+
+abbrev pub cut_field_view : Result CutForm BadField → Result cells.CutForm (List ℕ)
+cut_field_view (Ok at) = Ok (cut_view at)
+cut_field_view (Err bad) = Err bad.0.now
+
+abbrev pub slots_field_view :
+    Result (Bor (BTreeMap (String Global) Value)) BadField → Result (List (cells.SlotForm × Data)) (List ℕ)
+slots_field_view (Ok members) = Ok (slots_of (members_view members.now.entries))
+slots_field_view (Err bad) = Err bad.0.now
+
+abbrev pub cell_field_view : Result CellForm BadField → Result cells.CellForm (List ℕ)
+cell_field_view (Ok cell) = Ok (cell_view cell)
+cell_field_view (Err bad) = Err bad.0.now
+
+abbrev pub cells_field_view : Result (Bor (Vec Value Global)) BadField → Result (List cells.CellForm) (List ℕ)
+cells_field_view (Ok values) = Ok (cells_of (items_view values.now.items))
+cells_field_view (Err bad) = Err bad.0.now
 
 abbrev pub field_view : Result (Bor (List ℕ)) BadField → Result (List ℕ) (List ℕ)
 field_view (Ok text) = Ok text.now

@@ -1,4 +1,5 @@
 pub mod Asked
+pub mod Cells
 pub mod Claimed
 pub mod Claims
 pub mod Command

@@ -18,8 +18,10 @@ use Rattle.hc_model.specs.declared.request.Request.{Request}
 use Rattle.hc_json.specs.Shown.{shown}
 use Rattle.hc_json.specs.declared.reply.Done.{Done}
 use Rattle.hc_json.specs.declared.reply.Done.TheVariants.{Put, ListPath, DropPath, Edit, Main, End}
+use Rattle.hc_json.specs.declared.rejected.Condition.{Condition}
+use Rattle.hc_json.specs.declared.rejected.Condition.TheVariants.{Start, Arrivals, Ends, Ranks, Size}
 use Rattle.hc_json.specs.Claimed.{branch_data, request_data}
-use Rattle.hc_json.specs.Trail.{Trailed, reads_data, trail_data}
+use Rattle.hc_json.specs.Trail.{Trailed, reads_data, text_data, trail_data}
 
 pub data Reply : Type 0 where
   -- a command that asks nothing was done
@@ -37,6 +39,11 @@ pub data Reply : Type 0 where
   undecided : List Decision → Reply
   -- there are so many branches at least
   too_many : ℕ → Reply
+  -- the cells show that a claim holds of each request of its scope
+  accepted : Reply
+  -- they don't: what a branch decided, the number of a cell, the condition that isn't met there, and a text that
+  -- shows it
+  rejected : List Decision → ℕ → Condition → List ℕ → Reply
   -- how many asks were answered with an outcome, and how many of them were evaluated
   stats : ℕ → ℕ → Reply
   refused : Refusal → Reply
@@ -113,6 +120,21 @@ refuted_data o request =
     member (codes "outcome") (outcome_data o) (
     member (codes "request") (request_data request) no_members))
 
+abbrev pub condition_name : Condition → List ℕ
+condition_name Start = codes "K1"
+condition_name Arrivals = codes "K2"
+condition_name Ends = codes "K3"
+condition_name Ranks = codes "K4"
+condition_name Size = codes "K5"
+
+abbrev pub rejected_data : List Decision → ℕ → Condition → List ℕ → Data
+rejected_data branch cell condition witness =
+    object (
+    member (codes "branch") (branch_data branch) (
+    member (codes "cell") (number (unsigned cell)) (
+    member (codes "condition") (string (condition_name condition)) (
+    member (codes "text") (text_data witness) no_members))))
+
 abbrev pub reply_data : Reply → Data
 reply_data (done what) = only (codes "done") (string (done_name what))
 reply_data (configured hosts) = only (codes "config") (only (codes "hosts") (number (unsigned hosts)))
@@ -122,6 +144,9 @@ reply_data proved = only (codes "proved") (boolean true)
 reply_data (refuted o request) = only (codes "refuted") (refuted_data o request)
 reply_data (undecided branch) = only (codes "undecided") (only (codes "branch") (branch_data branch))
 reply_data (too_many branches) = only (codes "too_many") (number (unsigned branches))
+reply_data accepted = only (codes "accepted") (boolean true)
+reply_data (rejected branch cell condition witness) =
+    only (codes "rejected") (rejected_data branch cell condition witness)
 reply_data (stats asks evaluations) = only (codes "stats") (stats_data asks evaluations)
 reply_data (refused r) = only (codes "refused") (refusal_data r)
 reply_data no_memory = only (codes "no_memory") (boolean true)

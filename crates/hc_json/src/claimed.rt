@@ -139,7 +139,8 @@ fn put_value(
 
 // ---- what a branch decided
 
-fn branch_value(alloc: Global, branch: &[Decision]) -> Result<Value, NoMemory>
+/// What a branch decided.
+pub(crate) fn branch_value(alloc: Global, branch: &[Decision]) -> Result<Value, NoMemory>
     ensures { IfOk result (λ value. view value ≡ branch_data branch.now) }
 {
     let mut values = Vec::new(alloc);

@@ -4,11 +4,14 @@ ghost use Rattle.serde_json.specs.View.{view};
 ghost use Rattle.hc_json.specs.Command.{ask_fields, ask_in, bad_line, command_in, command_named, command_of_json};
 ghost use Rattle.hc_json.specs.Command.{decide_fields, decide_in, drop_in, edit_fields, edit_in, json_of, list_fields};
 ghost use Rattle.hc_json.specs.Command.{list_in, list_kind, main_in, path_fields, put_fields, put_in};
-ghost use Rattle.hc_json.specs.Command.{with_fields, without_fields};
-ghost use Rattle.hc_json.specs.CommandView.{IsAskable, command_view, line_view, read_view, value_view};
+ghost use Rattle.hc_json.specs.Command.{verify_fields, verify_in, with_fields, without_fields};
+ghost use Rattle.hc_json.specs.Cells.{cells_in};
+ghost use Rattle.hc_json.specs.CommandView.{IsAskable, cells_field_view, command_view, line_view, read_view};
+ghost use Rattle.hc_json.specs.CommandView.{value_view};
 ghost use Rattle.hc_json.specs.Fields.{unknown_field};
 
 use crate::asked::{Asked, read_asked};
+use crate::cells::cells_in;
 use crate::claim::{ClaimForm, claim_in};
 use crate::fields::{BadField, line_in, required, unknown_field};
 use crate::scope::{ScopeForm, scope_in};
@@ -53,6 +56,13 @@ pub enum Command<'v> {
     Decide {
         claim: ClaimForm<'v>,
         scope: ScopeForm<'v>,
+    },
+    /// Asks whether cells show that a claim holds of all requests of a scope.
+    Verify {
+        claim: ClaimForm<'v>,
+        scope: ScopeForm<'v>,
+        /// Values, each a cell: `cells_of` reads them.
+        cells: &'v Vec<Value>,
     },
     /// Asks how many asks were answered, and how many of them were evaluated.
     Stats,
@@ -149,6 +159,7 @@ fn command_named<'v>(
         "check" => Ok(without_fields(Command::Check, value)),
         "ask" => read_ask(alloc, value),
         "decide" => Ok(read_decide(value)),
+        "verify" => read_verify(alloc, value),
         "stats" => Ok(without_fields(Command::Stats, value)),
         "end" => Ok(without_fields(Command::End, value)),
         _ => Ok(Err(BadField("do"))),
@@ -264,6 +275,36 @@ fn read_decide(value: &Value) -> Result<Command<'_>, BadField<'_>>
     let claim = claim_in(value)?;
     let scope = scope_in(value)?;
     Ok(Command::Decide { claim, scope })
+}
+
+fn read_verify(alloc: Global, value: &Value) -> Result<Result<Command<'_>, BadField<'_>>, NoMemory>
+    ensures command { IfOk result (λ read. read_view read ≡ with_fields verify_fields verify_in (view value.now)) }
+    ensures askable { IfOk result (λ read. IfOk read IsAskable) }
+{
+    if let Some(field) = unknown_field(value, &["do", "claim", "scope", "cells"]) {
+        return Ok(Err(BadField(field)));
+    }
+    let cells = cells_in(alloc, value)?;
+    Ok(verify_with(value, cells))
+}
+
+// The same with what its cells are read as.
+fn verify_with<'v>(
+    value: &'v Value,
+    cells: Result<&'v Vec<Value>, BadField<'v>>,
+) -> Result<Command<'v>, BadField<'v>>
+    requires cells { cells_field_view cells ≡ cells_in (view value.now) }
+    ensures command { read_view result ≡ verify_in (view value.now) }
+    ensures askable { IfOk result IsAskable }
+{
+    let claim = claim_in(value)?;
+    let scope = scope_in(value)?;
+    let cells = cells?;
+    Ok(Command::Verify {
+        claim,
+        scope,
+        cells,
+    })
 }
 
 fn unknown_ask_field(value: &Value) -> Option<&str>

@@ -27,7 +27,8 @@ pub(crate) fn are_headers(alloc: Global, members: &Map<String, Value>) -> Result
     Ok(true)
 }
 
-fn lower_name(alloc: Global, name: &[u8]) -> Result<Text, NoMemory>
+/// The name of a header without case.
+pub(crate) fn lower_name(alloc: Global, name: &[u8]) -> Result<Text, NoMemory>
     ensures { IfOk result (λ lower. lower ≡ str_to_ascii_lowercase name.now) }
 {
     Ok(Text::from(name.to_ascii_lowercase(alloc)?))

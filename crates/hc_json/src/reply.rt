@@ -24,8 +24,9 @@ pub enum Done {
     End,
 }
 
-/// The answer to a line. An outcome is printed by `print_outcome`, one with its trail by `print_trailed`, and what
-/// comes of a claim that isn't proved by `print_refuted` and `print_undecided`.
+/// The answer to a line. An outcome is printed by `print_outcome`, one with its trail by `print_trailed`, what comes of
+/// a claim that isn't proved by `print_refuted` and `print_undecided`, and of cells that don't show it by
+/// `print_rejected`.
 #[derive(Drop)]
 pub enum Reply {
     /// A command was done.
@@ -36,6 +37,8 @@ pub enum Reply {
     Proved,
     /// It has so many branches at least.
     TooMany(u32),
+    /// Cells show that it holds.
+    Accepted,
     /// How many asks were answered with an outcome, and how many of them were evaluated.
     Stats { asks: u64, evaluations: u64 },
     /// Why the line is not answered.
@@ -77,6 +80,7 @@ fn reply_value(alloc: Global, reply: &Reply) -> Result<Value, NoMemory>
         Reply::Config(hosts) => json!(in alloc; {"config": {"hosts": *hosts}}),
         Reply::Proved => json!(in alloc; {"proved": true}),
         Reply::TooMany(branches) => json!(in alloc; {"too_many": *branches}),
+        Reply::Accepted => json!(in alloc; {"accepted": true}),
         Reply::Stats { asks, evaluations } => {
             json!(in alloc; {"stats": {"asks": *asks, "evaluations": *evaluations}})
         }
