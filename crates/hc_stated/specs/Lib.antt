@@ -1,3 +1,5 @@
+pub mod CellViews
+pub mod Cells
 pub mod Shapes
 pub mod Stated
 pub mod Views

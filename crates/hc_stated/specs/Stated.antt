@@ -3,7 +3,6 @@ use Rattle.std.specs.Prelude.{◌≡◌, ℕ, List, Option, Some, None, Result, 
 use Rattle.std.specs.Option.{option_or}
 use Rattle.serde_json.specs.Data.{Data}
 use Rattle.hc_base.specs.declared.fault.AtByte.{AtByte}
-use Rattle.hc_base.specs.declared.place.Place.{Place}
 use Rattle.hc_json.specs.Claims.{ClaimForm, ScopeForm, guarded, shadowed, stops}
 use Rattle.hc_regset.specs.Forms.{Form, every}
 use Rattle.hc_regset.specs.Sets.{IsSetOf, refusal}
@@ -18,6 +17,7 @@ use Rattle.hc_stated.specs.declared.stated.BadPattern.{BadPattern}
 abbrev pub field_name : Field → List ℕ
 field_name field.Claim = codes "claim"
 field_name field.Scope = codes "scope"
+field_name field.Cells = codes "cells"
 
 -- ---- the sets
 

@@ -1,11 +1,12 @@
 ghost use Rattle.std.specs.Prelude.{◌≡◌};
 ghost use Rattle.hc_stated.specs.Stated.{field_name};
 
-/// A field of a `decide` that sets stand in.
+/// A field of a `decide` or a `verify` that sets stand in.
 #[derive(Clone, Copy, PartialEq, Eq)]
 pub enum Field {
     Claim,
     Scope,
+    Cells,
 }
 
 impl Field {
@@ -16,6 +17,7 @@ impl Field {
         match self {
             Field::Claim => "claim",
             Field::Scope => "scope",
+            Field::Cells => "cells",
         }
     }
 }

@@ -49,8 +49,8 @@ pub fn state(
     })
 }
 
-// The automaton of a set of a field.
-fn made(alloc: Global, field: Field, set: &SetForm) -> Result<Dfa, StatedFault>
+/// The automaton of a set of a field.
+pub(crate) fn made(alloc: Global, field: Field, set: &SetForm) -> Result<Dfa, StatedFault>
     ensures { GivesIn field result set.now }
 {
     match compile_set(alloc, set) {

@@ -1,4 +1,4 @@
-use Rattle.std.proofs.Common.{◌≡◌, refl}
+use Rattle.std.proofs.Common.{refl}
 use Rattle.hc_regset.specs.Forms.{form_of}
 use Rattle.hc_stated.specs.Views.{sets_in}
 use Rattle.hc_stated.proofs.stated.state.Goals as goal
