@@ -12,7 +12,7 @@ use Rattle.std.specs.declared.alloc.AllocError.{AllocError as NoMemory}
 use Rattle.serde_json.proofs.OnLiterals.{serde_json_on_literals}
 use Rattle.hc_json.specs.Reply.{Reply, no_memory, reply_line}
 use Rattle.hc_base.specs.declared.place.Refusal.{Refusal}
-use Rattle.hc_json.specs.Command.{Command, command_of, decide}
+use Rattle.hc_json.specs.Command.{Command, command_of, decide, verify}
 use Rattle.hc_session.specs.Session.{CountsCommand, LineTurn, MayEvaluate, MayRead, ReadsCommand, Says}
 use Rattle.hc_session.specs.Session.{command_bytes, command_evals, is_no_memory}
 use Rattle.hc_session.specs.declared.stepped.Stepped.{Stepped}
@@ -91,6 +91,16 @@ module _ (old new : State) (k n : Work) where
       bytes = λ none. absurd (omega (arith, none));
     };
   }
+  took_refused (Ok (verify claim scope cells)) fault same counts = record {
+    own = work 0 n.bytes;
+    evals = refl;
+    bytes = tt;
+    spent = record {
+      rises = counts.0;
+      evals = omega (arith, counts.1, ap (λ s. s.evaluations) same);
+      bytes = λ none. absurd (omega (arith, none));
+    };
+  }
   took_refused command fault same counts = record {
     own = work (command_evals command) (command_bytes old command);
     evals = refl;
@@ -115,6 +125,12 @@ module _ (old new : State) (k n : Work) where
       evals = omega (arith, counts.2, counts.0);
       bytes = λ none. omega arith;
     };
+  }
+  took_answered (Ok (verify claim scope cells)) said stepped counts reads = record {
+    own = work (if is_no_memory said then 0 else 0) n.bytes;
+    evals = refl;
+    bytes = tt;
+    spent = record { rises = counts.0; evals = omega (arith, counts.2); bytes = λ none. omega arith };
   }
   took_answered command said stepped counts reads = record {
     own = work (if is_no_memory said then command_evals command else 0) (command_bytes old command);

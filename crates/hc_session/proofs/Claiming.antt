@@ -5,23 +5,28 @@ use Rattle.std.specs.Prelude.{◌||◌, IfOk, Ok, Err, Result}
 use Rattle.std.specs.declared.alloc.AllocError.{AllocError as NoMemory}
 use Rattle.hc_absolute.proofs.Built.{built_are_absolute}
 use Rattle.hc_absolute.specs.Absolute.{AreAbsolute}
+use Rattle.hc_abs_pass.proofs.Listable.{all_listed}
+use Rattle.hc_abs_pass.specs.Walks.{IsListed}
 use Rattle.hc_base.specs.declared.place.Refusal.{Refusal}
-use Rattle.hc_claim.specs.Asking.{Asked}
-use Rattle.hc_claim.specs.Deciding.{Answers, MayRun, Runs}
-use Rattle.hc_claim.specs.Holding.{Holds}
-use Rattle.hc_claim.specs.declared.decided.Decided.{Decided}
+use Rattle.hc_held.specs.Verdicts.{IsVerdict, Verdict}
+use Rattle.hc_held.specs.Claims.{Answers, Asked, Decided, Holds, MayRun, Runs}
 use Rattle.hc_claim_lines.specs.declared.lines.ClaimLines.{ClaimLines}
+use Rattle.hc_held.proofs.Accepting.{verdicts_hold}
 use Rattle.hc_include.specs.Flat.{flat_of}
+use Rattle.hc_invariant.specs.declared.named.NamedCell.{NamedCell}
 use Rattle.hc_json.specs.Claims.{ClaimForm, guarded, shadowed, stops}
 use Rattle.hc_json.specs.Reply.{Reply}
 use Rattle.hc_kept.specs.Site.{configuration}
-use Rattle.hc_model.specs.World.{World}
+use Rattle.hc_model.specs.World.{IsWorld, World}
 use Rattle.hc_model.specs.declared.config.Config.{Config}
 use Rattle.hc_scope.specs.declared.claim.Claim.{Claim}
 use Rattle.hc_scope.specs.declared.claim.Claim.TheVariants as claim
+use Rattle.hc_stated.specs.CellViews.{cells_view}
+use Rattle.hc_stated.specs.Cells.{AreCells, CellSets}
 use Rattle.hc_stated.specs.Stated.{IsClaim, IsScope, Sets, bad_pattern}
 use Rattle.hc_stated.specs.Views.{IsStated}
 use Rattle.hc_stated.specs.declared.stated.Stated.{Stated}
+use Rattle.hc_steps.specs.Shown.{shown_by}
 use Rattle.hc_session.specs.Deciding.{IsAnswered, IsAsked, IsTried, Posed, SaysOfLine, SaysOfSets, SaysUnder, Tries}
 use Rattle.hc_session.specs.Deciding.{decided_reply, has_line}
 use Rattle.hc_session.specs.Session.{Says}
@@ -30,6 +35,8 @@ use Rattle.hc_session.specs.Stating.{posed_at, scope_in, sets_of_stating}
 use Rattle.hc_session.specs.declared.deciding.Scene.{Scene}
 use Rattle.hc_session.specs.declared.deciding.Stating.{Stating}
 use Rattle.hc_session.specs.declared.stepped.Stepped.{Stepped}
+use Rattle.hc_session.specs.declared.verifying.Verifying.{Verifying}
+use Rattle.hc_session.specs.Verifying.{IsVerified, VerifiesLine, verdict_reply}
 
 -- A configuration that files give has file paths that begin with a slash.
 pub absolute : (config : Config) → IsConfiguration (Ok config) → AreAbsolute config
@@ -94,3 +101,40 @@ module _ (scene : Scene) (stating : Stating) (stated : Stated)
 
 pub tries_none : (posed : Posed) (built : Result Config Refusal) (count : ℕ) → CountsTries posed built count count
 tries_none posed built count = (0, omega arith, inl refl)
+
+-- ---- an invariant
+
+-- The reply to one that was checked.
+pub verified : (asked : Asked) (cells : List NamedCell) (verdict : Verdict) (stepped : Stepped)
+    → AreAbsolute asked.config → IsWorld asked.world
+    → ((levels : ℕ) → IsListed levels (shown_by asked.world) → IsVerdict asked cells levels verdict)
+    → Says (verdict_reply verdict) stepped → Replies (IsVerified asked cells) stepped
+verified asked cells verdict stepped absolute world is says = (
+  verdict_reply verdict,
+  record {
+    verdict = verdict;
+    is = is;
+    holds = let listed = all_listed asked.world world in
+        verdicts_hold asked cells 4098 verdict absolute listed (is 4098 listed);
+    says = refl;
+  },
+  says,
+)
+
+module _ (scene : Scene) (verifying : Verifying) (stated : Stated)
+    (is : IsStated (verifying.stating).claim (verifying.stating).scope (sets_of_stating verifying.stating) stated) where
+  abbrev posing : Posed
+  posing = posed_at scene verifying.stating
+
+  abbrev sets : Sets
+  sets = sets_of_stating verifying.stating
+
+  abbrev own : List CellSets
+  own = cells_view verifying.cells.now
+
+  pub verifies_there : (cells : List NamedCell) (has : Bool) (stepped : Stepped) → has ≡ true → AreCells own cells
+      → Replies (IsVerified (asked_at scene stated) cells) stepped
+      → Replies (VerifiesLine posing sets own scene.config.now has) stepped
+  verifies_there cells has stepped it_has are (said, verified, says) =
+      subst (λ has. Replies (VerifiesLine posing sets own scene.config.now has) stepped) (sym it_has)
+      (said, (asked_at scene stated, cells, asked_is scene verifying.stating stated is, are, verified), says)

@@ -8,3 +8,4 @@ pub mod Known
 pub mod Requests
 pub mod Serving
 pub mod Standing
+pub mod Turned

@@ -4,11 +4,8 @@ use Rattle.hc_base.specs.declared.codes.TheConstants.{NO_SUCH_PLACE, SET_SYNTAX}
 use Rattle.hc_base.specs.declared.place.Place.{Place}
 use Rattle.hc_base.specs.declared.place.Refusal.{Refusal}
 use Rattle.hc_broken.specs.Breaking.{has_place}
-use Rattle.hc_claim.specs.Asking.{Asked}
-use Rattle.hc_claim.specs.Deciding.{IsDecided, MayRun}
-use Rattle.hc_claim.specs.Holding.{Holds}
-use Rattle.hc_claim.specs.declared.decided.Decided.{Decided}
-use Rattle.hc_claim.specs.declared.decided.Decided.TheVariants as decided
+use Rattle.hc_held.specs.Claims.{Asked, Decided, Holds, IsDecided, MayRun}
+use Rattle.hc_held.specs.Claims.decided
 use Rattle.hc_claim_lines.specs.ClaimLines.{claim_lines, stands_in}
 use Rattle.hc_claim_lines.specs.declared.lines.ClaimLines.{ClaimLines}
 use Rattle.hc_claim_lines.specs.declared.subject.Subject.{Subject}

@@ -9,3 +9,4 @@ pub mod Sound
 pub mod State
 pub mod Stating
 pub mod Status
+pub mod Verifying

@@ -8,7 +8,7 @@ use Rattle.hc_base.specs.declared.place.Refusal.{Refusal}
 use Rattle.hc_cache.specs.Entries.{stored, value_of}
 use Rattle.hc_json.specs.Asked.{Question}
 use Rattle.hc_json.specs.Claims.{ClaimForm, ScopeForm}
-use Rattle.hc_json.specs.Command.{Command, put, list, drop, edit, main, check, ask, decide, stats, end}
+use Rattle.hc_json.specs.Command.{Command, put, list, drop, edit, main, check, ask, decide, verify, stats, end}
 use Rattle.hc_json.specs.Command.{bad_line, command_of}
 use Rattle.hc_json.specs.Reply as reply
 use Rattle.hc_json.specs.Reply.{Reply, reply_line}
@@ -29,6 +29,7 @@ use Rattle.hc_serve.specs.declared.answer.TheConstants.{LONGEST_TRAIL}
 use Rattle.hc_steps.specs.Step.{Path}
 use Rattle.hc_world.specs.Edits.{Edited, IsAccepted, dropped, lines_edited, listed}
 use Rattle.hc_session.specs.Deciding.{DecideTurn, MayTry}
+use Rattle.hc_session.specs.Verifying.{VerifyTurn}
 pub use Rattle.hc_session.specs.State.{IsTurn, Kept, State, Turn, present, refusing, saying, start}
 use Rattle.hc_session.specs.declared.limits.TheConstants.{FORBIDDEN, KEPT_ANSWERS}
 use Rattle.hc_session.specs.declared.stepped.Said.{Said}
@@ -133,6 +134,7 @@ CommandTurn old (Ok (main path)) said new = IsTurn (main_turn old path) said new
 CommandTurn old (Ok check) said new = IsTurn (check_turn old) said new
 CommandTurn old (Ok (ask question)) said new = IsTurn (ask_turn old question (present old)) said new
 CommandTurn old (Ok (decide claim scope)) said new = DecideTurn old claim scope said new
+CommandTurn old (Ok (verify claim scope cells)) said new = VerifyTurn old claim scope cells said new
 CommandTurn old (Ok stats) said new = IsTurn (stats_turn old) said new
 CommandTurn old (Ok end) said new = IsTurn (end_turn old) said new
 CommandTurn old (Err refusal) said new = IsTurn (refusing old refusal) said new
@@ -163,7 +165,7 @@ new_bytes state request = site_bytes state + request_bytes state.world.files (pr
 abbrev pub ask_bytes : State → Request → ℕ
 ask_bytes state request = if is_kept state request then 0 else new_bytes state request
 
--- All but a `check`, an ask and a `decide` read nothing.
+-- All but a `check`, an ask, a `decide` and a `verify` read nothing.
 unfoldable pub command_bytes : State → Result Command Refusal → ℕ
 command_bytes state (Ok check) = site_bytes state
 command_bytes state (Ok (ask question)) = ask_bytes state question.request
@@ -200,9 +202,10 @@ abbrev pub MayEvaluate : State → Result Command Refusal → Reply → ℕ → 
 MayEvaluate old (Ok (decide claim scope)) said count = MayTry old claim scope count
 MayEvaluate old command said count = count ≡ (if is_no_memory said then command_evals command else 0)
 
--- The bytes of the texts that it may read; of a `decide` nothing is said.
+-- The bytes of the texts that it may read; of a `decide` and a `verify` nothing is said.
 abbrev pub MayRead : State → Result Command Refusal → ℕ → Type 0
 MayRead old (Ok (decide claim scope)) count = ⊤
+MayRead old (Ok (verify claim scope cells)) count = ⊤
 MayRead old command count = count ≡ command_bytes old command
 
 pub record MayTake (old : State) (line : List ℕ) (said : Reply) (own : Work) : Type 0 where
@@ -251,10 +254,11 @@ Gave (Err _) turn old new = new ≡ old
 abbrev pub StepTurn : Result Stepped NoMemory → State → List ℕ → State → Type 0
 StepTurn result old line new = Gave result (LineTurn old line) old new
 
--- Which lines read no file: all but a `check`, an `ask` that has to be evaluated and a `decide`.
+-- Which lines read no file: all but a `check`, an `ask` that has to be evaluated, a `decide` and a `verify`.
 abbrev pub reads_nothing : State → Result Command Refusal → Bool
 reads_nothing state (Ok check) = false
 reads_nothing state (Ok (decide claim scope)) = false
+reads_nothing state (Ok (verify claim scope cells)) = false
 reads_nothing state (Ok (ask question)) = is_kept state question.request
 reads_nothing state other = true
 
@@ -293,7 +297,8 @@ abbrev pub CountsCommand : {A : Type 0} → Result A NoMemory → State → Resu
 CountsCommand result old (Ok (decide claim scope)) new before after = CountsRuns old claim scope new before after
 CountsCommand result old command new before after = Counts result (command_evals command) old new before after
 
--- The counter of bytes rises by no more than the command may read; of a `decide` nothing is said.
+-- The counter of bytes rises by no more than the command may read; of a `decide` and a `verify` nothing is said.
 abbrev pub ReadsCommand : State → Result Command Refusal → ℕ → ℕ → Type 0
 ReadsCommand old (Ok (decide claim scope)) before after = ⊤
+ReadsCommand old (Ok (verify claim scope cells)) before after = ⊤
 ReadsCommand old command before after = after ≤ before + command_bytes old command

@@ -1,7 +1,7 @@
--- What code has of a claim that it decides.
+-- What code has of a claim that it decides, and of an invariant that it checks.
 use Rattle.std.specs.Prelude.{◌≡◌, ℕ, ◌+◌, Bool, true, Result, Ok}
 use Rattle.hc_base.specs.declared.place.Refusal.{Refusal}
-use Rattle.hc_claim.specs.Asking.{Asked}
+use Rattle.hc_held.specs.Claims.{Asked}
 use Rattle.hc_claim_lines.specs.declared.lines.ClaimLines.{ClaimLines}
 use Rattle.hc_claim_lines.specs.declared.subject.Subject.TheVariants as subject
 use Rattle.hc_json.specs.Claims.{ClaimForm, ScopeForm}
@@ -12,15 +12,19 @@ use Rattle.hc_model.specs.World.{World}
 use Rattle.hc_model.specs.declared.config.Config.{Config}
 use Rattle.hc_scope.specs.declared.claim.Claim.{Claim}
 use Rattle.hc_scope.specs.declared.claim.Claim.TheVariants as claim
+use Rattle.hc_stated.specs.CellViews.{cells_view}
 use Rattle.hc_stated.specs.Stated.{Sets, sets_of}
 use Rattle.hc_stated.specs.Views.{sets_in}
 use Rattle.hc_stated.specs.declared.stated.Stated.{Stated}
 use Rattle.hc_steps.specs.Step.{Path}
-use Rattle.hc_session.specs.Deciding.{Posed, Tries, is_there}
+use Rattle.hc_session.specs.Deciding.{Posed, Tries, is_there, posed}
 use Rattle.hc_session.specs.Session.{Says as SaysIn}
 use Rattle.hc_session.specs.declared.deciding.Scene.{Scene}
 use Rattle.hc_session.specs.declared.deciding.Stating.{Stating}
 use Rattle.hc_session.specs.declared.stepped.Stepped.{Stepped}
+use Rattle.hc_session.specs.declared.verifying.Verifying.{Verifying}
+use Rattle.hc_session.specs.State.{State, present}
+use Rattle.hc_session.specs.Verifying.{VerifiesUnder}
 
 abbrev pub claim_in : Stating → ClaimForm
 claim_in stating = claim_view stating.claim
@@ -67,3 +71,10 @@ Replies Says stepped = (said : Reply) × Says said × SaysIn said stepped
 -- The counter of runs has risen by so many candidates at most.
 abbrev pub CountsTries : Posed → Result Config Refusal → ℕ → ℕ → Type 0
 CountsTries posed built before after = (spent : ℕ) × (after ≡ before + spent) × Tries posed built spent
+
+-- What a `verify` is answered, with its sets as they are written.
+abbrev pub VerifiesWith : State → Verifying → Reply → State → Type 0
+VerifiesWith state verifying said new =
+    VerifiesUnder (posed state (claim_in verifying.stating) (scope_in verifying.stating))
+    (sets_of_stating verifying.stating) (cells_view verifying.cells.now) (present state) said
+    × (new ≡ state)

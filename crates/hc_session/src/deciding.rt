@@ -3,8 +3,7 @@ ghost use Rattle.std.specs.Prelude.{◌≡◌, ◌||◌, IfOk, Ok};
 ghost use Rattle.hc_broken.specs.Breaking.{has_place};
 ghost use Rattle.hc_claim_lines.specs.ClaimLines.{stands_in};
 ghost use Rattle.hc_absolute.specs.Absolute.{AreAbsolute};
-ghost use Rattle.hc_claim.specs.Deciding.{Answers, Runs};
-ghost use Rattle.hc_claim.specs.Holding.{Holds};
+ghost use Rattle.hc_held.specs.Claims.{Answers, Holds, Runs};
 ghost use Rattle.hc_kept.specs.Files.{AreFilesOf};
 ghost use Rattle.hc_kept.specs.Site.{IsSiteOf};
 ghost use Rattle.hc_session.specs.Deciding.{IsAnswered, SaysOfLine, SaysOfSets, SaysUnder, has_line};
@@ -18,8 +17,8 @@ use crate::stepped::Stepped;
 use hc_base::codes::NO_SUCH_PLACE;
 use hc_base::{Counter, Fault, NoMemory, Place};
 use hc_broken::lacks;
-use hc_claim::{Decided, Question, decide};
 use hc_claim_lines::{ClaimLines, Subject, stands_in};
+use hc_held::{Decided, Question, decide};
 use hc_json::{ClaimForm, ScopeForm};
 use hc_kept::{CachedFiles, CachedOverrides, KeptFiles, Site};
 use hc_model::Config;
@@ -40,11 +39,11 @@ pub(crate) struct Stating<'f> {
 /// What it is decided under.
 #[derive(Clone, Copy)]
 pub(crate) struct Scene<'s> {
-    world: &'s World,
-    config: &'s Config,
-    lines: &'s ClaimLines,
+    pub(crate) world: &'s World,
+    pub(crate) config: &'s Config,
+    pub(crate) lines: &'s ClaimLines,
     /// A claim may have fewer branches than these.
-    limit: u32,
+    pub(crate) limit: u32,
 }
 
 /// Decides a claim under what the main file was read as.
@@ -134,7 +133,7 @@ fn decide_stated<E: Ledger, L: Ledger>(
 
 // ---- the line that a claim speaks of
 
-fn has_line<L: Ledger>(
+pub(crate) fn has_line<L: Ledger>(
     alloc: Global,
     scene: Scene<'_>,
     claim: &Claim,

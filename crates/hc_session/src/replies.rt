@@ -8,15 +8,16 @@ ghost use Rattle.hc_json.specs.ReplyView.{reply_view};
 ghost use Rattle.hc_stated.specs.Stated.{field_name};
 ghost use Rattle.hc_session.specs.Deciding.{bad_pattern_line, decided_reply};
 ghost use Rattle.hc_session.specs.Session.{Says, answer_reply, check_reply, said_of_outcome};
+ghost use Rattle.hc_session.specs.Verifying.{told_as, verdict_reply};
 
 use crate::limits::FORBIDDEN;
 use crate::stepped::{Said, Stepped};
 use hc_base::codes::{BAD_COMMAND, BAD_JSON, SET_SYNTAX};
 use hc_base::{NoMemory, Refusal};
-use hc_claim::Decided;
+use hc_held::{Decided, Verdict};
 use hc_json::{
-    NoCommand, Reply, Trail, bad_line, print_outcome, print_refuted, print_reply, print_trailed,
-    print_undecided,
+    Condition, NoCommand, Rejection, Reply, Trail, bad_line, print_outcome, print_refuted,
+    print_rejected, print_reply, print_trailed, print_undecided,
 };
 use hc_model::{Config, Outcome};
 use hc_serve::Answer;
@@ -105,6 +106,45 @@ pub(crate) fn decided(alloc: Global, answer: &Decided) -> Result<Stepped, NoMemo
             line: print_undecided(alloc, branch.as_slice())?,
             said: Said::Other,
         }),
+    }
+}
+
+/// The verdict on an invariant.
+pub(crate) fn verified(alloc: Global, verdict: &Verdict) -> Result<Stepped, NoMemory>
+    ensures { IfOk result (Says (verdict_reply verdict.now)) }
+{
+    match verdict {
+        Verdict::Accepted => replied(alloc, &Reply::Accepted),
+        Verdict::Rejected(rejection) => Ok(Stepped {
+            line: print_rejected(alloc, rejection_of(rejection))?,
+            said: Said::Other,
+        }),
+    }
+}
+
+fn rejection_of(rejection: &hc_held::Rejection) -> Rejection<'_>
+    ensures branch { result.branch.now ≡ rejection.now.branch }
+    ensures cell { result.cell ≡ rejection.now.cell }
+    ensures condition { result.condition ≡ told_as rejection.now.condition }
+    ensures text { result.text.now ≡ rejection.now.text }
+{
+    Rejection {
+        branch: rejection.branch.as_slice(),
+        cell: rejection.cell as usize,
+        condition: told_as(rejection.condition),
+        text: rejection.text.as_bytes(),
+    }
+}
+
+fn told_as(condition: hc_held::Condition) -> Condition
+    ensures { result ≡ told_as condition }
+{
+    match condition {
+        hc_held::Condition::Start => Condition::Start,
+        hc_held::Condition::Arrivals => Condition::Arrivals,
+        hc_held::Condition::Ends => Condition::Ends,
+        hc_held::Condition::Ranks => Condition::Ranks,
+        hc_held::Condition::Size => Condition::Size,
     }
 }
 

@@ -1,6 +1,8 @@
 ghost use Rattle.std.specs.Prelude.{◌≡◌, ◌+◌, ◌<◌, ◌≤◌, ◌-◌, ◌^◌, None, Some, true, IfOk};
 ghost use Rattle.std.specs.Prelude.{IfSome, OnOk};
+ghost use Rattle.serde_json.specs.View.{items_view};
 ghost use Rattle.hc_base.specs.Paths.{begins_with_slash};
+ghost use Rattle.hc_json.specs.Cells.{cells_of};
 ghost use Rattle.hc_json.specs.Command.{command_of};
 ghost use Rattle.hc_json.specs.CommandView.{claim_view, question_view, request_view, scope_view};
 ghost use Rattle.hc_kept.specs.Site.{is_current_site};
@@ -12,7 +14,8 @@ ghost use Rattle.hc_session.specs.Session.{evaluated_turn, is_kept, kept_turn, m
 ghost use Rattle.hc_session.specs.Session.{reads_nothing};
 ghost use Rattle.hc_session.specs.Session.{site_bytes, start, stats_turn};
 ghost use Rattle.hc_session.specs.Sound.{IsAnswerOf, IsSite};
-ghost use Rattle.hc_session.specs.Stating.{IsRead, claim_in, scope_in};
+ghost use Rattle.hc_session.specs.Stating.{IsRead, VerifiesWith, claim_in, scope_in};
+ghost use Rattle.hc_session.specs.Verifying.{VerifyTurn};
 
 use crate::asking::find_answer;
 use crate::changes::{Change, done_of, make};
@@ -20,15 +23,17 @@ use crate::deciding::{Stating, decide_at};
 use crate::limits::KEPT_ANSWERS;
 use crate::replies::{answered, checked, no_command, no_set, refused, refusing, replied};
 use crate::stepped::Stepped;
+use crate::verifying::{Verifying, verify_at};
 use hc_base::codes::PATH_FORM;
 use hc_base::{Counter, Fault, NoMemory, Text};
 use hc_cache::Cache;
-use hc_json::{Asked, ClaimForm, Command, Done, Reply, ScopeForm, command_in, parse};
+use hc_json::{Asked, ClaimForm, Command, Done, Reply, ScopeForm, cells_of, command_in, parse};
 use hc_kept::Site;
 use hc_model::Request;
 use hc_serve::Answer;
-use hc_stated::sets_in;
+use hc_stated::{cells_in, sets_in};
 use hc_world::{World, is_path};
+use serde_json::Value;
 use std::alloc::Global;
 use std::marker::Model;
 use std::sync::ledger::Ledger;
@@ -147,6 +152,13 @@ impl Session {
             Ok(Command::Check) => self.check(bytes),
             Ok(Command::Ask(asked)) => self.ask(&asked, evals, bytes),
             Ok(Command::Decide { claim, scope }) => self.decide(claim, scope, evals, bytes),
+            Ok(
+                Command::Verify {
+                    claim,
+                    scope,
+                    cells,
+                },
+            ) => self.verify(claim, scope, cells, bytes),
             Ok(Command::Stats) => self.stats(),
             Ok(Command::End) => self.end(),
             Err(why) => no_command(self.alloc, why),
@@ -326,6 +338,59 @@ impl Session {
             stating,
             self.limit,
             evals,
+            bytes,
+        );
+        put_back(&mut self.site, site);
+        stepped
+    }
+
+    // Checks an invariant.
+    fn verify<L: Ledger>(
+        &mut self,
+        claim: ClaimForm<'_>,
+        scope: ScopeForm<'_>,
+        cells: &[Value],
+        bytes: &mut Counter<L>,
+    ) -> Result<Stepped, NoMemory>
+        ensures turned { Gave result (VerifyTurn self.old (claim_view claim.entry) (scope_view scope.entry)
+            (cells_of (items_view cells.now))) self.old self.new }
+        ensures evaluations { self.new.evaluations ≡ self.old.evaluations }
+    {
+        let sets = match sets_in(self.alloc, claim, scope)? {
+            Ok(sets) => sets,
+            Err(field) => return no_set(self.alloc, field),
+        };
+        let forms = cells_of(self.alloc, cells)?;
+        match cells_in(self.alloc, forms.as_slice())? {
+            Ok(cells) => {
+                let stating = Stating {
+                    claim,
+                    scope,
+                    sets: &sets,
+                };
+                let cells = cells.as_slice();
+                self.verify_with(Verifying { stating, cells }, bytes)
+            },
+            Err(field) => no_set(self.alloc, field),
+        }
+    }
+
+    // The same with its sets as they are written.
+    fn verify_with<L: Ledger>(
+        &mut self,
+        verifying: Verifying<'_>,
+        bytes: &mut Counter<L>,
+    ) -> Result<Stepped, NoMemory>
+        ensures turned { Gave result (VerifiesWith self.old verifying.entry) self.old self.new }
+        ensures evaluations { self.new.evaluations ≡ self.old.evaluations }
+    {
+        let mut site = self.take_site(bytes)?;
+        let stepped = verify_at(
+            self.alloc,
+            &self.world,
+            &mut site,
+            verifying,
+            self.limit,
             bytes,
         );
         put_back(&mut self.site, site);
