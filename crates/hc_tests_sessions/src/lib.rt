@@ -60,4 +60,6 @@ mod stops;
 #[cfg(test)]
 mod trails;
 #[cfg(test)]
+mod verifying;
+#[cfg(test)]
 mod words;
