@@ -1,12 +1,13 @@
 #!/usr/bin/env bash
-# Times claims:
+# Times claims and invariants:
 #
 #     bench/claims.sh [PROGRAM]
 #
 # Each world is put, and one claim on all its requests is decided; what that takes is the run with it less the one without. Beside
 # it stands how many branches the claim has: the least `--cells` for which it isn't too many. Worlds: a site whose `.htaccess` has
 # the rules that WordPress writes, alone, with 100 files and with 20 such folders; 1,000 files; 50 rules of a server and a
-# `Require`; and eleven rules of which each doubles the branches, where 200 and 2,000 are too many. Nothing is built here.
+# `Require`; and eleven rules of which each doubles the branches, where 200 and 2,000 are too many. The invariant has ten cells, over
+# the world of WordPress with its 100 files. Nothing is built here.
 source "$(dirname -- "$(readlink -f -- "$0")")/program.sh"
 
 python3 - "$program" "$room" << 'PYTHON'
@@ -66,6 +67,15 @@ def doubling():
 STOPS = {"kind": "stops"}
 GUARDED = {"kind": "guarded", "target": {"pattern": "^/srv/new7/"}, "file": MAIN_FILE, "line": 54}
 
+# Ten cells where a pass begins: the front controller's, eight by the first letter of a path, and all.
+def ten_cells():
+    def cell(rank, slots):
+        return {"at": "pass", "rank": rank, "slots": slots}
+
+    by_letter = [cell(0, {"path": {"pattern": f"^/{letter}"}}) for letter in "abcdefgh"]
+    return [cell(1, {"path": {"literal": "/index.php"}}), *by_letter, cell(0, {})]
+
+
 # A name, a world, a claim, and the seconds that it may take.
 CLAIMS = [
     ("WordPress", [put(MAIN_FILE, SITE), *folder("/")], STOPS, 0.1),
@@ -85,13 +95,16 @@ def run(program, room, lines, cells):
         return *told, replies.read().splitlines()[-1]
 
 
-def decided(program, room, world, claim, cells):
-    """The seconds of the claim alone, the peak memory, and its answer."""
-    ask = {"do": "decide", "claim": claim, "scope": {}}
+def answered(program, room, world, ask, cells):
+    """The seconds of the question alone, the peak memory, and its answer."""
     both = [
         (run(program, room, [*world, ask], cells), run(program, room, world, cells)) for _ in range(TURNS)
     ]
     return statistics.median(one[0] - other[0] for one, other in both), both[0][0][1], both[0][0][2]
+
+
+def decided(program, room, world, claim, cells):
+    return answered(program, room, world, {"do": "decide", "claim": claim, "scope": {}}, cells)
 
 
 def branches(program, room, world, claim):
@@ -120,6 +133,13 @@ def main():
     for cells in (200, 2_000):
         took, peak, answer = decided(program, room, doubling(), STOPS, cells)
         print(f"{'too many':>20} {took:8.3f} s  {cells:>7} branches  {peak:>8} KiB  {answer[:60]}")
+    world = [put(MAIN_FILE, SITE), *folder("/"), *files(100)]
+    ask = {"do": "verify", "claim": STOPS, "scope": {}, "cells": ten_cells()}
+    took, peak, answer = answered(program, room, world, ask, MOST)
+    print(f"{'ten cells':>20} {took:8.3f} s  {peak:>8} KiB  {answer[:60]}")
+    is_well = took <= 1 and answer == '{"accepted":true}'
+    failed = failed or not is_well
+    print(f"{'PASS' if is_well else 'FAIL'}  ten cells: accepted within 1 s")
     sys.exit(1 if failed else 0)
 
 
