@@ -111,6 +111,15 @@ class Files:
             text = self._texts[path] = pieces_of(text)
         return text
 
+    def paths(self):
+        """The paths of the texts, in byte order."""
+        return sorted(self._texts)
+
+    def text(self, path):
+        """A text as its bytes; None where there is none."""
+        text = self._texts.get(path)
+        return b"".join(text) if isinstance(text, list) else text
+
     def line(self, path, number):
         """The logical line that begins at a line, without its joins and the blanks around it; None if there is none."""
         pieces = self._pieces_of(path)

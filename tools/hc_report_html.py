@@ -62,7 +62,7 @@ article:target { border-left-color: var(--link); }
 .at b { margin-right: .5rem; font-weight: 650; }
 .at a { color: var(--soft); }
 .grave { color: var(--grave); } .broken { color: var(--broken); } .open { color: var(--open); }
-.unknown { color: var(--unknown); } .good { color: var(--good); }
+.unknown { color: var(--unknown); } .note { color: var(--link); } .good { color: var(--good); }
 ol { margin: .35rem 0 .6rem; padding-left: 2rem; }
 ol li { padding-left: .2rem; margin: .15rem 0; }
 ol li::marker { color: var(--soft); font-variant-numeric: tabular-nums; }
@@ -135,13 +135,15 @@ PARTS = {Sentence: _sentence, Quote: _quote, Steps: _steps, Shell: _shell}
 
 
 def _anchor(entry):
-    return f"line-{entry.number}" if entry.kind not in ("mismatch", "unanswered") else f"{entry.kind}-{entry.number}"
+    is_of_line = entry.number and entry.kind not in ("mismatch", "unanswered")
+    return f"line-{entry.number}" if is_of_line else f"{entry.kind}-{entry.number}"
 
 
 def _entry(entry):
     grade = GRADE_NAMES[entry.grade]
     label = f'<b class="{grade}">{escape(entry.label)}</b> ' if entry.label else ""
-    at = f'<p class="at">{label}<a href="#{_anchor(entry)}">line {entry.number}</a></p>'
+    line = f'<a href="#{_anchor(entry)}">line {entry.number}</a>' if entry.number else ""
+    at = f'<p class="at">{label}{line}</p>'
     parts = "".join("\n" + PARTS[type(part)](part) for part in entry.parts)
     title = f"<h3>{_words(entry.title)}</h3>"
     return f'<article id="{_anchor(entry)}" class="of-{grade}">\n{at}\n{title}{parts}\n</article>'
@@ -155,7 +157,7 @@ def _list(entries, none):
 
 
 def _links(entries):
-    links = [f'<a href="#{_anchor(entry)}">{entry.number}</a>' for entry in entries[:MANY_LINKS]]
+    links = [f'<a href="#{_anchor(entry)}">{entry.number or "below"}</a>' for entry in entries[:MANY_LINKS]]
     more = len(entries) - MANY_LINKS
     return ", ".join(links) + (f" and {more:,} more" if more > 0 else "")
 

@@ -2,12 +2,12 @@
 
 from hc_report_parts import Quote, Sentence, Shell, Steps
 from hc_report_texts import Code, columns
-from hc_report_words import BROKEN, GRAVE, IN_ORDER, OPEN, UNKNOWN
+from hc_report_words import BROKEN, GRAVE, IN_ORDER, NOTE, OPEN, UNKNOWN
 
 INDENT = "    "
 
 BOLD, DIM, CYAN = "1", "2", "36"
-COLORS = {GRAVE: "1;31", BROKEN: "1;31", OPEN: "1;33", UNKNOWN: "1;35", IN_ORDER: "1;32"}
+COLORS = {GRAVE: "1;31", BROKEN: "1;31", OPEN: "1;33", UNKNOWN: "1;35", NOTE: "1;36", IN_ORDER: "1;32"}
 
 
 class TextPrinter:
@@ -27,7 +27,8 @@ class TextPrinter:
     def entry(self, entry):
         """The text of an entry, each line with its end."""
         label = self.paint(entry.label + ":", COLORS[entry.grade]) + " " if entry.label else ""
-        lines = [f"{self.paint(f'[{entry.number}]', DIM)} {label}{self.words(entry.title)}"]
+        at = self.paint(f"[{entry.number}]", DIM) + " " if entry.number else ""
+        lines = [f"{at}{label}{self.words(entry.title)}"]
         for part in entry.parts:
             lines += [INDENT + line for line in self._part(part)]
         return "".join(line + "\n" for line in lines)

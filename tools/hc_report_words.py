@@ -6,32 +6,40 @@ between backticks is code.
 
 # ---- grades
 
-GRAVE, BROKEN, OPEN, UNKNOWN, IN_ORDER = range(5)
+GRAVE, BROKEN, OPEN, UNKNOWN, NOTE, IN_ORDER = range(6)
 
 GRADE_NAMES = {
     GRAVE: "grave",
     BROKEN: "broken",
     OPEN: "open",
     UNKNOWN: "unknown",
+    NOTE: "note",
     IN_ORDER: "good",
 }
 
 # The kinds of entries, those that weigh most first: the grade, the label, the kind as it is counted, and what it says.
 KINDS = {
     "refuted": (GRAVE, "Refuted", "refuted", "a request breaks the claim"),
+    "served": (GRAVE, "Served", "served", "a name that begins with .ht is served"),
     "refused": (GRAVE, "Refused", "refused", "not answered, for a reason that is named"),
     "limit": (BROKEN, "Limit", "at a limit", "the server gives up with 500"),
     "ht_refused": (BROKEN, "Broken .htaccess", "at a broken .htaccess", "a file on the way isn't read"),
     "undecided": (OPEN, "Undecided", "undecided", "it isn't known whether the claim holds"),
     "too_many": (OPEN, "Too many branches", "with too many branches", "the claim wasn't decided"),
     "rejected": (OPEN, "Rejected", "rejected", "the invariant doesn't show the claim"),
+    "late": (OPEN, "Not in time", "not in time", "the question was given up"),
+    "left_out": (OPEN, "Left out", "left out", "questions that weren't asked for their number"),
     "outside": (UNKNOWN, "Outside", "outside", "nothing is said of the request"),
     "no_memory": (UNKNOWN, "No memory", "without memory", "not answered, and may be asked again"),
     "mismatch": (UNKNOWN, "Mismatch", "with a reply that doesn't fit", "a reply to something else than the script has"),
     "unanswered": (UNKNOWN, "No reply", "without a reply", "lines of the script that nothing came of"),
     "unknown": (UNKNOWN, "Unknown", "with an unknown reply", "shown as it came"),
+    "dead": (NOTE, "Dead rule", "dead", "a rule that never matches"),
+    "unread": (NOTE, "Never read", "never read", "a .htaccess that isn't read"),
+    "taken": (IN_ORDER, "", "taken", "the servers that were asked"),
     "proved": (IN_ORDER, "Proved", "proved", "the claim holds of each request of its scope"),
     "accepted": (IN_ORDER, "Accepted", "accepted", "the invariant shows that the claim holds"),
+    "unasked": (IN_ORDER, "Not asked", "not asked", "what no question was asked of, and why"),
     "answered": (IN_ORDER, "", "answered", "what a request receives, or what there is"),
     "done": (IN_ORDER, "", "done", "edits of the files"),
     "ended": (IN_ORDER, "", "ended", "the end of the session"),
@@ -372,3 +380,25 @@ REFUSALS = {
         "Name the file and the line at which the RewriteRule, or the Require, stands now: edits move lines.",
     ),
 }
+
+# ---- audits
+
+SERVED_MEANING = "Files whose names begin with `.ht` hold passwords and rules; the client gets this one as it is."
+SERVED_ADVICE = 'Keep them out: `<Files ".ht*">` with `Require all denied`, behind which no section opens them again.'
+GUARD_ADVICE = (
+    "Look in the steps for the section that applies last, or the rule that leads around the guard. Set the guard in a"
+    " `<Directory>` of the folder that the file is served from, where it counts whatever the URL is."
+)
+DEAD_ADVICE = (
+    "Take the line away, or look what keeps requests from it: an earlier rule that ends the run, a condition, or"
+    " `RewriteEngine`."
+)
+UNREAD_MEANING = "`AllowOverride` allows nothing there, so its `Require` lines and rules aren't in force."
+UNREAD_ADVICE = "Allow what it holds with `AllowOverride`, move its lines into a `<Directory>`, or take it away."
+LATE_ADVICE = (
+    "Give it longer with `--seconds`; or state it by hand with `decide` for the paths that matter, or with `verify`"
+    " (docs/INVARIANTS.md)."
+)
+ENDED_ADVICE = "Ask it alone, to see whether the program ends again."
+MOST_ADVICE = "Ask more with `--most`, or for fewer names with `--host`."
+FAULTS_ADVICE = "Look why the program ends; each of these questions may be asked by hand."
