@@ -1,4 +1,4 @@
-ghost use Rattle.std.specs.Prelude.{◌≡◌, ◌<◌, ◌≤◌, ◌++◌, ◌∷◌, [], None, IsOk, OnErr, OnOk};
+ghost use Rattle.std.specs.Prelude.{◌≡◌, ◌<◌, ◌≤◌, ◌++◌, ◌∷◌, [], IfOk, None, IsOk, OnErr, OnOk};
 ghost use Rattle.std.specs.Prelude.{drop, length, option_map};
 ghost use Rattle.indexmap.specs.IndexMap.{IsUnique, get, spare};
 ghost use Rattle.hc_cache.specs.Entries.{Entry, stored, value_of, without};
@@ -19,6 +19,21 @@ pub struct Kept<V> {
     pub reads: List<Read>,
     pub at: u64,
     pub value: V,
+}
+
+impl<V: Clone> Clone for Kept<V> {
+    ghost use Rattle.std.specs.Prelude.{◌≡◌};
+
+    ghost is_clone = { λ kept copy.
+        (copy.reads ≡ kept.reads) × (copy.at ≡ kept.at) × V.is_clone kept.value copy.value };
+
+    fn clone(&self) -> Result<Kept<V>, NoMemory> {
+        Ok(Kept {
+            reads: self.reads.copy()?,
+            at: self.at,
+            value: self.value.clone()?,
+        })
+    }
 }
 
 /// Values by their keys, each with what it rests on, the oldest first and at most so many. They stand in a ring, so
@@ -97,6 +112,21 @@ impl<K: Eq + Hash + Drop, V: Drop> Cache<K, V> {
         ensures { self.new ≡ record { limit = self.old.limit; entries = [] } }
     {
         self.ring.clear();
+    }
+}
+
+impl<K: Eq + Hash + Clone, V: Clone> Cache<K, V> {
+    /// A cache with clones of the keys and values, which equals this one where the clones equal them.
+    pub fn copy(&self) -> Result<Cache<K, V>, NoMemory>
+        requires keys { (x y : K) → K.is_clone x y → y ≡ x }
+        requires values { (x y : V) → V.is_clone x y → y ≡ x }
+        ensures { IfOk result (λ copy. copy ≡ self.now) }
+    {
+        Ok(Cache {
+            limit: self.limit,
+            ring: self.ring.clone()?,
+            oldest: self.oldest,
+        })
     }
 }
 

@@ -1,9 +1,8 @@
 //! What is kept of a world with what it rests on, until an edit changes that.
 //!
 //! `Cache::find_valid` gives the value of a key while nothing that it rests on has changed since it was kept;
-//! `store` puts it last, in the place of its key's or of the oldest (specs/Entries.antt). `value_kept` gives a value
-//! that
-//! is kept elsewhere.
+//! `store` puts it last, in the place of its key's or of the oldest (specs/Entries.antt); `copy` makes a second cache
+//! like it. `value_kept` gives a value that is kept elsewhere.
 #![tactic(auto)]
 
 mod cache;
