@@ -17,8 +17,9 @@ use Rattle.hc_model.specs.declared.read.Read.TheVariants.{KindOf}
 use Rattle.hc_model.specs.declared.request.Header.{Header}
 use Rattle.hc_model.specs.declared.request.Request.{Request}
 use Rattle.hc_json.specs.Claimed.{decision_data, with_headers}
-use Rattle.hc_json.specs.Reply.{outcome_data, refuted, rejected, reply_data, trailed_data, undecided}
+use Rattle.hc_json.specs.Reply.{followed, outcome_data, refuted, rejected, reply_data, trailed_data, undecided}
 use Rattle.hc_json.specs.Shown.{shown}
+use Rattle.hc_json.specs.declared.followed.Stop.{Stop}
 use Rattle.hc_json.specs.declared.rejected.Condition.{Condition}
 use Rattle.hc_json.specs.Trail.{Trailed, event_data, read_data, sourced_data, text_data}
 
@@ -46,6 +47,10 @@ trailed_without answer =
       items_without read_data read_without answer.reads,
       items_without sourced_data (λ told. event_without told.event told.source) answer.trail,
     ) refl
+
+pub followed_without : (outcome : Outcome) (steps : ℕ) (stop : Stop)
+    → has_float (reply_data (followed outcome steps stop)) ≡ false
+followed_without outcome steps stop = rw (outcome_without outcome) refl
 
 decision_without : (decision : Decision) → has_float (decision_data decision) ≡ false
 decision_without (decision.Cond place held) = refl

@@ -49,9 +49,9 @@ headers_in d = optional (codes "headers") [] headers_from d
 abbrev pub trail_in : Data → Result Bool (List ℕ)
 trail_in d = optional (codes "trail") false as_bool d
 
--- The question, or the first field that is missing or ill-formed.
-abbrev pub asked_in : Data → Result Question (List ℕ)
-asked_in d =
+-- The request, or the first field that is missing or ill-formed.
+abbrev pub request_in : Data → Result Request (List ℕ)
+request_in d =
     target_in d >>= λ target.
     method_in d >>= λ method.
     scheme_in d >>= λ scheme.
@@ -60,17 +60,19 @@ asked_in d =
     host_in d >>= λ host.
     client_in d >>= λ client.
     headers_in d >>= λ headers.
-    trail_in d >>= λ trail.
     Ok (record {
-      request = record {
-        method = method;
-        scheme = scheme;
-        server = server;
-        port = port;
-        host = host;
-        client = client;
-        headers = headers;
-        target = target;
-      };
-      trail = trail;
+      method = method;
+      scheme = scheme;
+      server = server;
+      port = port;
+      host = host;
+      client = client;
+      headers = headers;
+      target = target;
     })
+
+abbrev pub asked_in : Data → Result Question (List ℕ)
+asked_in d =
+    request_in d >>= λ request.
+    trail_in d >>= λ trail.
+    Ok (record { request = request; trail = trail })

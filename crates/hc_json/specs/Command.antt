@@ -6,11 +6,13 @@ use Rattle.serde_json.specs.Data.{Data}
 use Rattle.serde_json.specs.Read.{read}
 use Rattle.hc_base.specs.declared.codes.TheConstants.{BAD_COMMAND, BAD_JSON}
 use Rattle.hc_base.specs.declared.place.Refusal.{Refusal}
-use Rattle.hc_json.specs.Asked.{Question, asked_in}
+use Rattle.hc_json.specs.Asked.{Question, asked_in, request_in}
 use Rattle.hc_json.specs.Cells.{CellForm, cells_in}
 use Rattle.hc_json.specs.Claims.{ClaimForm, ScopeForm, claim_in, scope_in}
 use Rattle.hc_json.specs.Fields.{no_other, required, ◌>>=◌}
 use Rattle.hc_json.specs.Forms.{line_in}
+use Rattle.hc_json.specs.Hosts.{HostForm, hosts_in}
+use Rattle.hc_model.specs.declared.request.Request.{Request}
 use Rattle.hc_world.specs.declared.world.ListKind.{ListKind}
 use Rattle.hc_world.specs.declared.world.ListKind.TheVariants.{File, Dir}
 
@@ -24,6 +26,8 @@ pub data Command : Type 0 where
   main : List ℕ → Command
   check : Command
   ask : Question → Command
+  -- a request, and the own servers to which its redirects are followed
+  follow : Request → List HostForm → Command
   -- what is claimed, and of which requests
   decide : ClaimForm → ScopeForm → Command
   -- the same, and the cells that may show it
@@ -71,6 +75,9 @@ main_in d = required (codes "path") d >>= λ path. Ok (main path)
 abbrev pub ask_in : Data → Result Command (List ℕ)
 ask_in d = asked_in d >>= λ question. Ok (ask question)
 
+abbrev pub follow_in : Data → Result Command (List ℕ)
+follow_in d = request_in d >>= λ request. hosts_in d >>= λ hosts. Ok (follow request hosts)
+
 abbrev pub decide_in : Data → Result Command (List ℕ)
 decide_in d = claim_in d >>= λ claim. scope_in d >>= λ scope. Ok (decide claim scope)
 
@@ -104,6 +111,12 @@ ask_fields =
     ∷ codes "host"
     ∷ codes "client" ∷ codes "headers" ∷ codes "trail" ∷ []
 
+abbrev pub follow_fields : List (List ℕ)
+follow_fields =
+    codes "do" ∷ codes "target" ∷ codes "method" ∷ codes "scheme" ∷ codes "server" ∷ codes "port"
+    ∷ codes "host"
+    ∷ codes "client" ∷ codes "headers" ∷ codes "hosts" ∷ []
+
 abbrev pub decide_fields : List (List ℕ)
 decide_fields = codes "do" ∷ codes "claim" ∷ codes "scope" ∷ []
 
@@ -132,11 +145,12 @@ abbrev pub question_named : List ℕ → Data → Result Command (List ℕ)
 question_named name d =
     if bytes_eq name (codes "check") then without_fields check d
     else (if bytes_eq name (codes "ask") then with_fields ask_fields ask_in d
+    else (if bytes_eq name (codes "follow") then with_fields follow_fields follow_in d
     else (if bytes_eq name (codes "decide") then with_fields decide_fields decide_in d
     else (if bytes_eq name (codes "verify") then with_fields verify_fields verify_in d
     else (if bytes_eq name (codes "stats") then without_fields stats d
     else (if bytes_eq name (codes "end") then without_fields end d
-    else Err (codes "do"))))))
+    else Err (codes "do")))))))
 
 abbrev pub or_question : List ℕ → Data → Option (Result Command (List ℕ)) → Result Command (List ℕ)
 or_question name d (Some read) = read

@@ -20,7 +20,10 @@ use Rattle.hc_json.specs.Claims as claims
 use Rattle.hc_json.specs.Claims.{methods_of}
 use Rattle.hc_json.specs.Command as spec
 use Rattle.hc_json.specs.Forms.{headers_of}
+use Rattle.hc_json.specs.Hosts as hosts
+use Rattle.hc_json.specs.Hosts.{hosts_of}
 use Rattle.hc_json.specs.declared.asked.Asked.{Asked}
+use Rattle.hc_json.specs.declared.asked.RequestForm.{RequestForm}
 use Rattle.hc_json.specs.declared.cells.CellForm.{CellForm}
 use Rattle.hc_json.specs.declared.cells.CutForm.{CutForm}
 use Rattle.hc_json.specs.declared.cells.CutForm.TheVariants as cut
@@ -28,6 +31,7 @@ use Rattle.hc_json.specs.declared.claim.ClaimForm.{ClaimForm}
 use Rattle.hc_json.specs.declared.claim.ClaimForm.TheVariants as form
 use Rattle.hc_json.specs.declared.claim.PlaceForm.{PlaceForm}
 use Rattle.hc_json.specs.declared.fields.BadField.{BadField}
+use Rattle.hc_json.specs.declared.hosts.HostForm.{HostForm}
 use Rattle.hc_json.specs.declared.scope.ScopeForm.{ScopeForm}
 use Rattle.hc_json.specs.declared.slots.SlotForm.{SlotForm}
 use Rattle.hc_json.specs.declared.slots.SlotForm.TheVariants as slot
@@ -35,26 +39,29 @@ use Rattle.hc_json.specs.declared.command.Command.{Command}
 use Rattle.hc_json.specs.declared.command.NoCommand.{NoCommand}
 use Rattle.hc_json.specs.declared.command.NoCommand.TheVariants as wrong
 use Rattle.hc_json.specs.declared.command.Command.TheVariants.{Put, ListPath, DropPath, Edit, Main, Check, Ask, Stats}
-use Rattle.hc_json.specs.declared.command.Command.TheVariants.{Decide, End, Verify}
+use Rattle.hc_json.specs.declared.command.Command.TheVariants.{Decide, End, Follow, Verify}
 
 abbrev pub headers_view : Option (Bor (BTreeMap (String Global) Value)) → List Header
 headers_view None = []
 headers_view (Some members) = headers_of (members_view members.now.entries)
 
-abbrev pub request_view : Asked → Request
-request_view asked = record {
-  method = asked.method.now;
-  scheme = asked.scheme;
-  server = asked.server;
-  port = asked.port;
-  host = asked.host.now;
-  client = asked.client;
-  headers = headers_view asked.headers;
-  target = asked.target.now;
+abbrev pub request_view : RequestForm → Request
+request_view request = record {
+  method = request.method.now;
+  scheme = request.scheme;
+  server = request.server;
+  port = request.port;
+  host = request.host.now;
+  client = request.client;
+  headers = headers_view request.headers;
+  target = request.target.now;
 }
 
 abbrev pub question_view : Asked → Question
-question_view asked = record { request = request_view asked; trail = asked.trail }
+question_view asked = record { request = request_view asked.request; trail = asked.trail }
+
+abbrev pub host_view : HostForm → hosts.HostForm
+host_view host = record { scheme = host.scheme; host = host.host.now; port = host.port }
 
 abbrev pub place_view : PlaceForm → Place
 place_view place = record { file = place.file.now; line = place.line }
@@ -117,15 +124,17 @@ command_view (Edit path from to bytes) = spec.edit path.now from to bytes.now
 command_view (Main path) = spec.main path.now
 command_view Check = spec.check
 command_view (Ask asked) = spec.ask (question_view asked)
+command_view (Follow request values) = spec.follow (request_view request) (hosts_of (items_view values.now.items))
 command_view (Decide claim scope) = spec.decide (claim_view claim) (scope_view scope)
 command_view (Verify claim scope values) =
     spec.verify (claim_view claim) (scope_view scope) (cells_of (items_view values.now.items))
 command_view Stats = spec.stats
 command_view End = spec.end
 
--- The target of an `ask` begins with a slash.
+-- The target of an `ask` and of a `follow` begins with a slash.
 abbrev pub IsAskable : Command → Type 0
-IsAskable (Ask asked) = begins_with_slash asked.target.now ≡ true
+IsAskable (Ask asked) = begins_with_slash (asked.request).target.now ≡ true
+IsAskable (Follow request hosts) = begins_with_slash request.target.now ≡ true
 IsAskable command = ⊤
 
 -- Why a line is no command, as the refusal that it is answered with.
@@ -146,6 +155,18 @@ read_view (Err bad) = Err bad.0.now
 abbrev pub asked_view : Result Asked BadField → Result Question (List ℕ)
 asked_view (Ok asked) = Ok (question_view asked)
 asked_view (Err bad) = Err bad.0.now
+
+abbrev pub request_field_view : Result RequestForm BadField → Result Request (List ℕ)
+request_field_view (Ok request) = Ok (request_view request)
+request_field_view (Err bad) = Err bad.0.now
+
+abbrev pub host_field_view : Result HostForm BadField → Result hosts.HostForm (List ℕ)
+host_field_view (Ok host) = Ok (host_view host)
+host_field_view (Err bad) = Err bad.0.now
+
+abbrev pub hosts_field_view : Result (Bor (Vec Value Global)) BadField → Result (List hosts.HostForm) (List ℕ)
+hosts_field_view (Ok values) = Ok (hosts_of (items_view values.now.items))
+hosts_field_view (Err bad) = Err bad.0.now
 
 abbrev pub place_field_view : Result PlaceForm BadField → Result Place (List ℕ)
 place_field_view (Ok place) = Ok (place_view place)

@@ -6,6 +6,7 @@ pub mod Command
 pub mod CommandView
 pub mod Fields
 pub mod Forms
+pub mod Hosts
 pub mod Reply
 pub mod ReplyView
 pub mod Shown

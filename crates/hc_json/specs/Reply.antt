@@ -18,6 +18,8 @@ use Rattle.hc_model.specs.declared.request.Request.{Request}
 use Rattle.hc_json.specs.Shown.{shown}
 use Rattle.hc_json.specs.declared.reply.Done.{Done}
 use Rattle.hc_json.specs.declared.reply.Done.TheVariants.{Put, ListPath, DropPath, Edit, Main, End}
+use Rattle.hc_json.specs.declared.followed.Stop.{Stop}
+use Rattle.hc_json.specs.declared.followed.Stop.TheVariants as stop
 use Rattle.hc_json.specs.declared.rejected.Condition.{Condition}
 use Rattle.hc_json.specs.declared.rejected.Condition.TheVariants.{Start, Arrivals, Ends, Ranks, Size}
 use Rattle.hc_json.specs.Claimed.{branch_data, request_data}
@@ -31,6 +33,8 @@ pub data Reply : Type 0 where
   outcome : Outcome → Reply
   -- an outcome, and how it came
   trailed : Trailed → Reply
+  -- what the last request of a chain receives, after so many redirects, and why none follows
+  followed : Outcome → ℕ → Stop → Reply
   -- a claim holds of each request of its scope
   proved : Reply
   -- this request breaks it, and receives this
@@ -114,6 +118,19 @@ stats_data asks evaluations =
     member (codes "asks") (number (unsigned asks)) (
     member (codes "evaluations") (number (unsigned evaluations)) no_members))
 
+abbrev pub stop_name : Stop → List ℕ
+stop_name stop.Ended = codes "ended"
+stop_name stop.Away = codes "away"
+stop_name stop.BadTarget = codes "bad target"
+stop_name stop.TooMany = codes "too many"
+
+abbrev pub followed_data : Outcome → ℕ → Stop → Data
+followed_data o steps stop =
+    object (
+    member (codes "outcome") (outcome_data o) (
+    member (codes "steps") (number (unsigned steps)) (
+    member (codes "stop") (string (stop_name stop)) no_members)))
+
 abbrev pub refuted_data : Outcome → Request → Data
 refuted_data o request =
     object (
@@ -140,6 +157,7 @@ reply_data (done what) = only (codes "done") (string (done_name what))
 reply_data (configured hosts) = only (codes "config") (only (codes "hosts") (number (unsigned hosts)))
 reply_data (outcome o) = only (codes "outcome") (outcome_data o)
 reply_data (trailed answer) = trailed_data answer
+reply_data (followed o steps stop) = only (codes "followed") (followed_data o steps stop)
 reply_data proved = only (codes "proved") (boolean true)
 reply_data (refuted o request) = only (codes "refuted") (refuted_data o request)
 reply_data (undecided branch) = only (codes "undecided") (only (codes "branch") (branch_data branch))

@@ -2,10 +2,10 @@ ghost use Rattle.std.specs.Prelude.{◌≡◌, IfOk, true};
 ghost use Rattle.serde_json.specs.View.{view};
 ghost use Rattle.hc_addr.specs.declared.addr.Addr.TheVariants.{V4};
 ghost use Rattle.hc_base.specs.Paths.{begins_with_slash};
-ghost use Rattle.hc_json.specs.Asked.{asked_in, headers_in, host_in, method_in, port_in, port_of, scheme_in};
-ghost use Rattle.hc_json.specs.Asked.{target_in, trail_in};
+ghost use Rattle.hc_json.specs.Asked.{asked_in, headers_in, host_in, method_in, port_in, port_of, request_in};
+ghost use Rattle.hc_json.specs.Asked.{scheme_in, target_in, trail_in};
 ghost use Rattle.hc_json.specs.CommandView.{asked_view, field_view, headers_view, members_field_view};
-ghost use Rattle.hc_json.specs.CommandView.{request_view, value_view};
+ghost use Rattle.hc_json.specs.CommandView.{request_field_view, request_view, value_view};
 ghost use Rattle.hc_json.specs.Fields.{optional};
 ghost use Rattle.hc_json.specs.Forms.{addr_from, port_from, scheme_from};
 
@@ -30,9 +30,9 @@ pub(crate) const SERVER: u32 = 0xC000_0201;
 /// 192.0.2.9.
 const CLIENT: u32 = 0xC000_0209;
 
-/// A request that is asked about. It borrows from the JSON value that it is read from.
+/// A request, as it is written. It borrows from the JSON value that it is read from.
 #[derive(Clone, Copy)]
-pub struct Asked<'v> {
+pub struct RequestForm<'v> {
     pub target: &'v str,
     pub method: &'v str,
     pub scheme: Scheme,
@@ -42,6 +42,12 @@ pub struct Asked<'v> {
     pub client: Addr,
     /// Members that are headers, where the field is there.
     pub headers: Option<&'v Map<String, Value>>,
+}
+
+/// A request that is asked about.
+#[derive(Clone, Copy)]
+pub struct Asked<'v> {
+    pub request: RequestForm<'v>,
     /// Whether how the outcome came is asked too.
     pub trail: bool,
 }
@@ -52,20 +58,48 @@ pub(crate) fn read_asked(
     value: &Value,
 ) -> Result<Result<Asked<'_>, BadField<'_>>, NoMemory>
     ensures asked { IfOk result (λ read. asked_view read ≡ asked_in (view value.now)) }
-    ensures slash { IfOk result (λ read. IfOk read (λ asked. begins_with_slash asked.target.now ≡ true)) }
+    ensures slash { IfOk result (λ read. IfOk read (λ asked.
+        begins_with_slash (asked.request).target.now ≡ true)) }
+{
+    let request = request_in(alloc, value)?;
+    Ok(asked_with(value, request))
+}
+
+// The same with what its request is read as.
+fn asked_with<'v>(
+    value: &'v Value,
+    request: Result<RequestForm<'v>, BadField<'v>>,
+) -> Result<Asked<'v>, BadField<'v>>
+    requires request { request_field_view request ≡ request_in (view value.now) }
+    requires slash { IfOk request (λ request. begins_with_slash request.target.now ≡ true) }
+    ensures asked { asked_view result ≡ asked_in (view value.now) }
+    ensures slash { IfOk result (λ asked. begins_with_slash (asked.request).target.now ≡ true) }
+{
+    let request = request?;
+    let trail = trail_in(value)?;
+    Ok(Asked { request, trail })
+}
+
+/// The request of a value, or its first wrong field.
+pub(crate) fn request_in(
+    alloc: Global,
+    value: &Value,
+) -> Result<Result<RequestForm<'_>, BadField<'_>>, NoMemory>
+    ensures request { IfOk result (λ read. request_field_view read ≡ request_in (view value.now)) }
+    ensures slash { IfOk result (λ read. IfOk read (λ request. begins_with_slash request.target.now ≡ true)) }
 {
     let headers = headers_in(alloc, value)?;
-    Ok(asked_with(value, headers))
+    Ok(request_with(value, headers))
 }
 
 // The same with what its headers are read as.
-fn asked_with<'v>(
+fn request_with<'v>(
     value: &'v Value,
     headers: Result<Option<&'v Map<String, Value>>, BadField<'v>>,
-) -> Result<Asked<'v>, BadField<'v>>
+) -> Result<RequestForm<'v>, BadField<'v>>
     requires headers { members_field_view headers ≡ headers_in (view value.now) }
-    ensures asked { asked_view result ≡ asked_in (view value.now) }
-    ensures slash { IfOk result (λ asked. begins_with_slash asked.target.now ≡ true) }
+    ensures request { request_field_view result ≡ request_in (view value.now) }
+    ensures slash { IfOk result (λ request. begins_with_slash request.target.now ≡ true) }
 {
     let target = target_in(value)?;
     let method = method_in(value)?;
@@ -75,8 +109,7 @@ fn asked_with<'v>(
     let host = host_in(value)?;
     let client = addr_in(value, "client", CLIENT)?;
     let headers = headers?;
-    let trail = trail_in(value)?;
-    Ok(Asked {
+    Ok(RequestForm {
         target,
         method,
         scheme,
@@ -85,7 +118,6 @@ fn asked_with<'v>(
         host,
         client,
         headers,
-        trail,
     })
 }
 
@@ -120,7 +152,7 @@ pub(crate) fn scheme_in(value: &Value) -> Result<Scheme, BadField<'_>>
     }
 }
 
-fn scheme_from(value: &Value) -> Option<Scheme>
+pub(crate) fn scheme_from(value: &Value) -> Option<Scheme>
     ensures { result ≡ scheme_from (view value.now) }
 {
     match value.as_str()? {
@@ -167,7 +199,7 @@ fn port_of(scheme: Scheme) -> u16
     }
 }
 
-fn port_from(value: &Value) -> Option<u16>
+pub(crate) fn port_from(value: &Value) -> Option<u16>
     ensures { result ≡ port_from (view value.now) }
 {
     let port = value.as_u64()?;
@@ -218,7 +250,7 @@ fn trail_in(value: &Value) -> Result<bool, BadField<'_>>
     }
 }
 
-impl Asked<'_> {
+impl RequestForm<'_> {
     /// The request as a value of its own.
     pub fn to_request(&self, alloc: Global) -> Result<Request, NoMemory>
         ensures { IfOk result (λ request. request ≡ request_view self.now) }

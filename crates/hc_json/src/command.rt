@@ -1,19 +1,24 @@
-ghost use Rattle.std.specs.Prelude.{◌≡◌, IfOk};
+ghost use Rattle.std.specs.Prelude.{◌≡◌, IfOk, true};
 ghost use Rattle.std.specs.Option.{option_map};
 ghost use Rattle.serde_json.specs.View.{view};
 ghost use Rattle.hc_json.specs.Command.{ask_fields, ask_in, bad_line, command_in, command_named, command_of_json};
 ghost use Rattle.hc_json.specs.Command.{decide_fields, decide_in, drop_in, edit_fields, edit_in, json_of, list_fields};
-ghost use Rattle.hc_json.specs.Command.{list_in, list_kind, main_in, path_fields, put_fields, put_in};
+ghost use Rattle.hc_json.specs.Command.{follow_fields, follow_in, list_in, list_kind, main_in, path_fields};
+ghost use Rattle.hc_json.specs.Command.{put_fields, put_in};
 ghost use Rattle.hc_json.specs.Command.{verify_fields, verify_in, with_fields, without_fields};
+ghost use Rattle.hc_json.specs.Asked.{request_in};
 ghost use Rattle.hc_json.specs.Cells.{cells_in};
-ghost use Rattle.hc_json.specs.CommandView.{IsAskable, cells_field_view, command_view, line_view, read_view};
-ghost use Rattle.hc_json.specs.CommandView.{value_view};
+ghost use Rattle.hc_json.specs.CommandView.{IsAskable, cells_field_view, command_view, hosts_field_view, line_view};
+ghost use Rattle.hc_json.specs.CommandView.{read_view, request_field_view, value_view};
 ghost use Rattle.hc_json.specs.Fields.{unknown_field};
+ghost use Rattle.hc_json.specs.Hosts.{hosts_in};
+ghost use Rattle.hc_base.specs.Paths.{begins_with_slash};
 
-use crate::asked::{Asked, read_asked};
+use crate::asked::{Asked, RequestForm, read_asked, request_in};
 use crate::cells::cells_in;
 use crate::claim::{ClaimForm, claim_in};
 use crate::fields::{BadField, line_in, required, unknown_field};
+use crate::hosts::hosts_in;
 use crate::scope::{ScopeForm, scope_in};
 use hc_base::{NoMemory, Place, Refusal, Text};
 use hc_world::ListKind;
@@ -52,6 +57,12 @@ pub enum Command<'v> {
     Check,
     /// Asks what a request receives.
     Ask(Asked<'v>),
+    /// Asks where a request ends, if its redirects to own servers are followed.
+    Follow {
+        request: RequestForm<'v>,
+        /// Values, each an own server: `hosts_of` reads them.
+        hosts: &'v Vec<Value>,
+    },
     /// Asks whether a claim holds of all requests of a scope.
     Decide {
         claim: ClaimForm<'v>,
@@ -158,6 +169,7 @@ fn command_named<'v>(
         "main" => Ok(read_main(value)),
         "check" => Ok(without_fields(Command::Check, value)),
         "ask" => read_ask(alloc, value),
+        "follow" => read_follow(alloc, value),
         "decide" => Ok(read_decide(value)),
         "verify" => read_verify(alloc, value),
         "stats" => Ok(without_fields(Command::Stats, value)),
@@ -265,6 +277,35 @@ fn read_ask(alloc: Global, value: &Value) -> Result<Result<Command<'_>, BadField
     }
 }
 
+fn read_follow(alloc: Global, value: &Value) -> Result<Result<Command<'_>, BadField<'_>>, NoMemory>
+    ensures command { IfOk result (λ read. read_view read ≡ with_fields follow_fields follow_in (view value.now)) }
+    ensures askable { IfOk result (λ read. IfOk read IsAskable) }
+{
+    if let Some(field) = unknown_follow_field(value) {
+        return Ok(Err(BadField(field)));
+    }
+    let request = request_in(alloc, value)?;
+    let hosts = hosts_in(alloc, value)?;
+    Ok(follow_with(value, request, hosts))
+}
+
+// The same with what its request and its own servers are read as.
+fn follow_with<'v>(
+    value: &'v Value,
+    request: Result<RequestForm<'v>, BadField<'v>>,
+    hosts: Result<&'v Vec<Value>, BadField<'v>>,
+) -> Result<Command<'v>, BadField<'v>>
+    requires request { request_field_view request ≡ request_in (view value.now) }
+    requires slash { IfOk request (λ request. begins_with_slash request.target.now ≡ true) }
+    requires hosts { hosts_field_view hosts ≡ hosts_in (view value.now) }
+    ensures command { read_view result ≡ follow_in (view value.now) }
+    ensures askable { IfOk result IsAskable }
+{
+    let request = request?;
+    let hosts = hosts?;
+    Ok(Command::Follow { request, hosts })
+}
+
 fn read_decide(value: &Value) -> Result<Command<'_>, BadField<'_>>
     ensures command { read_view result ≡ with_fields decide_fields decide_in (view value.now) }
     ensures askable { IfOk result IsAskable }
@@ -315,6 +356,18 @@ fn unknown_ask_field(value: &Value) -> Option<&str>
         &[
             "do", "target", "method", "scheme", "server", "port", "host", "client", "headers",
             "trail",
+        ],
+    )
+}
+
+fn unknown_follow_field(value: &Value) -> Option<&str>
+    ensures { option_map (λ field. field.now) result ≡ unknown_field follow_fields (view value.now) }
+{
+    unknown_field(
+        value,
+        &[
+            "do", "target", "method", "scheme", "server", "port", "host", "client", "headers",
+            "hosts",
         ],
     )
 }

@@ -24,9 +24,9 @@ pub enum Done {
     End,
 }
 
-/// The answer to a line. An outcome is printed by `print_outcome`, one with its trail by `print_trailed`, what comes of
-/// a claim that isn't proved by `print_refuted` and `print_undecided`, and of cells that don't show it by
-/// `print_rejected`.
+/// The answer to a line. An outcome is printed by `print_outcome`, one with its trail by `print_trailed`, that of a chain
+/// by `print_followed`, what comes of a claim that isn't proved by `print_refuted` and `print_undecided`, and of cells
+/// that don't show it by `print_rejected`.
 #[derive(Drop)]
 pub enum Reply {
     /// A command was done.
