@@ -1,5 +1,5 @@
 -- What was answered, line after line.
-use Rattle.hc_session.proofs.Common.{◌≡◌, ℕ, ◌+◌, ◌≤◌, List, [], ◌∷◌, ◌++◌, Option, true}
+use Rattle.hc_session.proofs.Common.{◌≡◌, ℕ, ◌+◌, List, [], ◌∷◌, ◌++◌, Option, true}
 use Rattle.hc_session.proofs.Common.{false, arith, refl, sym, ap, ◌∙◌, subst, inl, inr, take, length}
 use Rattle.hc_session.proofs.Common.{append_assoc, length-append, true≢false, Appends, State, AnswersTaking}
 use Rattle.hc_session.proofs.Common.{AppendsFront, SendsInPart, AnswersLine, AnswersInPart, AnswersLines}
@@ -12,7 +12,8 @@ use Rattle.std.specs.declared.alloc.AllocError.{AllocError as NoMemory}
 use Rattle.serde_json.proofs.OnLiterals.{serde_json_on_literals}
 use Rattle.hc_json.specs.Reply.{Reply, no_memory, reply_line}
 use Rattle.hc_base.specs.declared.place.Refusal.{Refusal}
-use Rattle.hc_json.specs.Command.{Command, command_of, decide, verify}
+use Rattle.hc_follow.specs.declared.chain.TheConstants.{MOST_STEPS}
+use Rattle.hc_json.specs.Command.{Command, command_of, decide, follow, verify}
 use Rattle.hc_session.specs.Session.{CountsCommand, LineTurn, MayEvaluate, MayRead, ReadsCommand, Says}
 use Rattle.hc_session.specs.Session.{command_bytes, command_evals, is_no_memory}
 use Rattle.hc_session.specs.declared.stepped.Stepped.{Stepped}
@@ -91,6 +92,16 @@ module _ (old new : State) (k n : Work) where
       bytes = λ none. absurd (omega (arith, none));
     };
   }
+  took_refused (Ok (follow request hosts)) fault same counts = record {
+    own = work (MOST_STEPS + 1) n.bytes;
+    evals = refl;
+    bytes = tt;
+    spent = record {
+      rises = counts.0;
+      evals = omega (arith, counts.1, ap (λ s. s.evaluations) same);
+      bytes = λ none. absurd (omega (arith, none));
+    };
+  }
   took_refused (Ok (verify claim scope cells)) fault same counts = record {
     own = work 0 n.bytes;
     evals = refl;
@@ -125,6 +136,12 @@ module _ (old new : State) (k n : Work) where
       evals = omega (arith, counts.2, counts.0);
       bytes = λ none. omega arith;
     };
+  }
+  took_answered (Ok (follow request hosts)) said stepped counts reads = record {
+    own = work (if is_no_memory said then MOST_STEPS + 1 else 0) n.bytes;
+    evals = refl;
+    bytes = tt;
+    spent = record { rises = counts.0; evals = omega (arith, counts.2); bytes = λ none. omega arith };
   }
   took_answered (Ok (verify claim scope cells)) said stepped counts reads = record {
     own = work (if is_no_memory said then 0 else 0) n.bytes;

@@ -2,6 +2,7 @@ pub mod Common
 pub mod Answering
 pub mod AnsweringLoop
 pub mod Asks
+pub mod Chained
 pub mod Completing
 pub mod Claiming
 pub mod Known

@@ -1,6 +1,8 @@
+pub mod Asking
 pub mod Changes
 pub mod Conversation
 pub mod Deciding
+pub mod Following
 pub mod Inside
 pub mod Laws
 pub mod Sending

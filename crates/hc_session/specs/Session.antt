@@ -1,18 +1,16 @@
 -- The session: what each line of a script is answered, and what it leaves. Our own choice.
 use Rattle.std.specs.Prelude.{◌≡◌, ◌⊎◌, ◌+◌, ◌≤◌, ◌==◌, ℕ, List, [], ◌∷◌, length}
-use Rattle.std.specs.Prelude.{take, Bool, true, false, if◌then◌else◌, is_some, Option, Some, None, Result, Ok}
+use Rattle.std.specs.Prelude.{take, Bool, true, false, if◌then◌else◌, Option, Some, None, Result, Ok}
 use Rattle.std.specs.Prelude.{Err, ⊤}
 use Rattle.std.specs.Str.{bytes_eq}
 use Rattle.hc_base.specs.declared.codes.TheConstants.{PATH_FORM}
 use Rattle.hc_base.specs.declared.place.Refusal.{Refusal}
-use Rattle.hc_cache.specs.Entries.{stored, value_of}
-use Rattle.hc_json.specs.Asked.{Question}
 use Rattle.hc_json.specs.Claims.{ClaimForm, ScopeForm}
-use Rattle.hc_json.specs.Command.{Command, put, list, drop, edit, main, check, ask, decide, verify, stats, end}
+use Rattle.hc_follow.specs.declared.chain.TheConstants.{MOST_STEPS}
+use Rattle.hc_json.specs.Command.{Command, put, list, drop, edit, main, check, ask, follow, decide, verify, stats, end}
 use Rattle.hc_json.specs.Command.{bad_line, command_of}
 use Rattle.hc_json.specs.Reply as reply
 use Rattle.hc_json.specs.Reply.{Reply, reply_line}
-use Rattle.hc_json.specs.Trail.{trailed_of}
 use Rattle.hc_json.specs.declared.reply.Done.{Done}
 use Rattle.hc_json.specs.declared.reply.Done.TheVariants as what
 use Rattle.hc_include.specs.Flat.{bytes_of}
@@ -21,17 +19,18 @@ use Rattle.hc_model.specs.declared.config.Config.{Config}
 use Rattle.hc_model.specs.declared.outcome.Outcome.{Outcome}
 use Rattle.hc_model.specs.declared.outcome.Outcome.TheVariants as outcome
 use Rattle.hc_model.specs.declared.request.Request.{Request}
-use Rattle.hc_model.specs.contracts.request.RequestPartialEq.TheImpl.{ghosts as requests}
 use Rattle.hc_serve.specs.Costs.{looked}
-use Rattle.hc_serve.specs.Request.{received, reads_of, way, whole_run}
+use Rattle.hc_serve.specs.Request.{way}
 use Rattle.hc_serve.specs.declared.answer.Answer.{Answer}
-use Rattle.hc_serve.specs.declared.answer.TheConstants.{LONGEST_TRAIL}
 use Rattle.hc_steps.specs.Step.{Path}
-use Rattle.hc_world.specs.Edits.{Edited, IsAccepted, dropped, lines_edited, listed}
+use Rattle.hc_world.specs.Edits.{IsAccepted, dropped, lines_edited, listed}
+pub use Rattle.hc_session.specs.Asking.{answer_of, answer_reply, ask_turn, asked, evaluated, is_kept, kept_answer}
+pub use Rattle.hc_session.specs.Asking.{same_request, served}
 use Rattle.hc_session.specs.Deciding.{DecideTurn, MayTry}
+use Rattle.hc_session.specs.Following.{FollowTurn}
 use Rattle.hc_session.specs.Verifying.{VerifyTurn}
 pub use Rattle.hc_session.specs.State.{IsTurn, Kept, State, Turn, present, refusing, saying, start}
-use Rattle.hc_session.specs.declared.limits.TheConstants.{FORBIDDEN, KEPT_ANSWERS}
+use Rattle.hc_session.specs.declared.limits.TheConstants.{FORBIDDEN}
 use Rattle.hc_session.specs.declared.stepped.Said.{Said}
 use Rattle.hc_session.specs.declared.stepped.Said.TheVariants as is
 use Rattle.hc_session.specs.declared.stepped.Stepped.{Stepped}
@@ -61,57 +60,6 @@ main_turn state path =
     if is_path path then saying (with_main state path) (reply.done what.Main)
     else refusing state (bad_line PATH_FORM [])
 
--- ---- an ask
-
--- What a request receives of the present files, and how that came.
-abbrev pub answer_of : World → Config → Request → Answer
-answer_of world config request = record {
-  outcome = received world config request;
-  events = length (whole_run world config request).events;
-  trail = take LONGEST_TRAIL (whole_run world config request).events;
-  reads = reads_of world config request;
-}
-
--- The outcome alone, or with its trail.
-abbrev pub answer_reply : Bool → World → Answer → Reply
-answer_reply false world answer = reply.outcome answer.outcome
-answer_reply true world answer = reply.trailed (trailed_of world answer.outcome answer.events answer.reads answer.trail)
-
-abbrev pub same_request : Request → Request → Bool
-same_request = requests.eq
-
--- An answer to the same request is kept, and no later edit changed what it rests on.
-abbrev pub is_kept : State → Request → Bool
-is_kept state request = is_some (value_of same_request state.world request state.kept)
-
--- An answer, as it is kept: its edits are all so far.
-abbrev pub kept_answer : Edited → Request → Answer → Kept
-kept_answer world request answer = record { key = request; reads = answer.reads; at = world.edits; value = answer }
-
-abbrev pub served : State → State
-served state = record state { asks = state.asks + 1 }
-
-abbrev pub evaluated : State → Request → Answer → State
-evaluated state request answer = record state {
-  kept = stored same_request KEPT_ANSWERS (kept_answer state.world request answer) state.kept;
-  asks = state.asks + 1;
-  evaluations = state.evaluations + 1;
-}
-
-abbrev pub asked : State → Request → Answer → State
-asked state request answer = if is_kept state request then served state else evaluated state request answer
-
--- The answer is that of the present files, whether it is kept or evaluated.
-abbrev pub answer_turn : State → Question → Answer → Turn
-answer_turn state question answer = record {
-  reply = answer_reply question.trail state.world.files answer;
-  state = asked state question.request answer;
-}
-
-abbrev pub ask_turn : State → Question → Result Config Refusal → Turn
-ask_turn state question (Ok config) = answer_turn state question (answer_of state.world.files config question.request)
-ask_turn state question (Err refusal) = refusing state refusal
-
 -- ---- an edit
 
 -- One that is accepted leaves the files that it gives, and marks what it changed; a refused one leaves all.
@@ -133,6 +81,7 @@ CommandTurn old (Ok (edit path from to text)) said new =
 CommandTurn old (Ok (main path)) said new = IsTurn (main_turn old path) said new
 CommandTurn old (Ok check) said new = IsTurn (check_turn old) said new
 CommandTurn old (Ok (ask question)) said new = IsTurn (ask_turn old question (present old)) said new
+CommandTurn old (Ok (follow request hosts)) said new = FollowTurn old request hosts said new
 CommandTurn old (Ok (decide claim scope)) said new = DecideTurn old claim scope said new
 CommandTurn old (Ok (verify claim scope cells)) said new = VerifyTurn old claim scope cells said new
 CommandTurn old (Ok stats) said new = IsTurn (stats_turn old) said new
@@ -165,7 +114,7 @@ new_bytes state request = site_bytes state + request_bytes state.world.files (pr
 abbrev pub ask_bytes : State → Request → ℕ
 ask_bytes state request = if is_kept state request then 0 else new_bytes state request
 
--- All but a `check`, an ask, a `decide` and a `verify` read nothing.
+-- All but a `check`, an ask, a `follow`, a `decide` and a `verify` read nothing.
 unfoldable pub command_bytes : State → Result Command Refusal → ℕ
 command_bytes state (Ok check) = site_bytes state
 command_bytes state (Ok (ask question)) = ask_bytes state question.request
@@ -187,9 +136,10 @@ work evals bytes = record { evals = evals; bytes = bytes }
 abbrev pub both : Work → Work → Work
 both one other = work (one.evals + other.evals) (one.bytes + other.bytes)
 
--- An ask is evaluated at most once.
+-- An ask is evaluated at most once, and so is each request of a `follow`.
 abbrev pub command_evals : Result Command Refusal → ℕ
 command_evals (Ok (ask question)) = 1
+command_evals (Ok (follow request hosts)) = MOST_STEPS + 1
 command_evals other = 0
 
 abbrev pub is_no_memory : Reply → Bool
@@ -197,13 +147,15 @@ is_no_memory reply.no_memory = true
 is_no_memory other = false
 
 -- What a command may evaluate beside the evaluations that the session counts: an ask that is answered `no_memory` once,
--- and a `decide` the candidates of branches that may break its claim.
+-- a `follow` that is answered so each request of its chain, and a `decide` the candidates of branches that may break its
+-- claim.
 abbrev pub MayEvaluate : State → Result Command Refusal → Reply → ℕ → Type 0
 MayEvaluate old (Ok (decide claim scope)) said count = MayTry old claim scope count
 MayEvaluate old command said count = count ≡ (if is_no_memory said then command_evals command else 0)
 
--- The bytes of the texts that it may read; of a `decide` and a `verify` nothing is said.
+-- The bytes of the texts that it may read; of a `follow`, a `decide` and a `verify` nothing is said.
 abbrev pub MayRead : State → Result Command Refusal → ℕ → Type 0
+MayRead old (Ok (follow request hosts)) count = ⊤
 MayRead old (Ok (decide claim scope)) count = ⊤
 MayRead old (Ok (verify claim scope cells)) count = ⊤
 MayRead old command count = count ≡ command_bytes old command
@@ -254,9 +206,10 @@ Gave (Err _) turn old new = new ≡ old
 abbrev pub StepTurn : Result Stepped NoMemory → State → List ℕ → State → Type 0
 StepTurn result old line new = Gave result (LineTurn old line) old new
 
--- Which lines read no file: all but a `check`, an `ask` that has to be evaluated, a `decide` and a `verify`.
+-- Which lines read no file: all but a `check`, an `ask` that has to be evaluated, a `follow`, a `decide` and a `verify`.
 abbrev pub reads_nothing : State → Result Command Refusal → Bool
 reads_nothing state (Ok check) = false
+reads_nothing state (Ok (follow request hosts)) = false
 reads_nothing state (Ok (decide claim scope)) = false
 reads_nothing state (Ok (verify claim scope cells)) = false
 reads_nothing state (Ok (ask question)) = is_kept state question.request
@@ -297,8 +250,10 @@ abbrev pub CountsCommand : {A : Type 0} → Result A NoMemory → State → Resu
 CountsCommand result old (Ok (decide claim scope)) new before after = CountsRuns old claim scope new before after
 CountsCommand result old command new before after = Counts result (command_evals command) old new before after
 
--- The counter of bytes rises by no more than the command may read; of a `decide` and a `verify` nothing is said.
+-- The counter of bytes rises by no more than the command may read; of a `follow`, a `decide` and a `verify` nothing is
+-- said.
 abbrev pub ReadsCommand : State → Result Command Refusal → ℕ → ℕ → Type 0
+ReadsCommand old (Ok (follow request hosts)) before after = ⊤
 ReadsCommand old (Ok (decide claim scope)) before after = ⊤
 ReadsCommand old (Ok (verify claim scope cells)) before after = ⊤
 ReadsCommand old command before after = after ≤ before + command_bytes old command

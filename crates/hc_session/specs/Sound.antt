@@ -1,5 +1,5 @@
 -- What holds of the parts of a session.
-use Rattle.std.specs.Prelude.{◌≡◌, ◌≤◌, ◌+◌, ℕ, List, true, Option, IfSome, Result, Ok, Err}
+use Rattle.std.specs.Prelude.{◌≡◌, ◌≤◌, ◌+◌, ℕ, List, true, false, Option, Some, None, IfSome, Result, Ok, Err}
 use Rattle.std.specs.List.{AllByRecursion}
 use Rattle.std.specs.declared.alloc.AllocError.{AllocError as NoMemory}
 use Rattle.hc_base.specs.declared.place.Refusal.{Refusal}
@@ -12,7 +12,8 @@ use Rattle.hc_model.specs.declared.request.Request.{Request}
 use Rattle.hc_serve.specs.declared.answer.Answer.{Answer}
 use Rattle.hc_steps.specs.Step.{Path}
 use Rattle.hc_world.specs.Edits.{Edited}
-use Rattle.hc_session.specs.Session.{Kept, answer_of}
+use Rattle.hc_session.specs.Asking.{answer_of, is_kept}
+use Rattle.hc_session.specs.State.{Kept, State}
 use Rattle.hc_session.specs.declared.limits.TheConstants.{KEPT_ANSWERS}
 
 -- What a request receives of the present files.
@@ -26,6 +27,17 @@ pub record IsPresent (world : Edited) (main : Path) (kept : Kept) : Type 0 where
   pub age : kept.at ≤ world.edits
   pub reads : kept.reads ≡ kept.value.reads
   pub answer : is_valid world kept ≡ true → IsAnswerOf world main kept.key kept.value
+
+-- The answer to a request that is kept and still valid; there is a configuration then.
+abbrev pub IsKeptAnswer : State → Request → Option Answer → Type 0
+IsKeptAnswer state request None = is_kept state request ≡ false
+IsKeptAnswer state request (Some answer) =
+    (is_kept state request ≡ true) × IsAnswerOf (state.world) (state.main) request answer
+
+-- All but what is kept and counted is as before.
+abbrev pub IsAskedIn : State → State → Type 0
+IsAskedIn old new =
+    new ≡ record old { kept = new.kept; asks = new.asks; evaluations = new.evaluations }
 
 -- What was read of the main file stands for it.
 pub record IsSite (world : Edited) (main : Path) (site : Site) : Type 0 where

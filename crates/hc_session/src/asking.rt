@@ -42,8 +42,8 @@ pub(crate) fn find_answer<E: Ledger, L: Ledger>(
     }
 }
 
-// Evaluates a request. The `.htaccess` files of its walk are read where they are not kept, and kept.
-fn answer<E: Ledger, L: Ledger>(
+/// Evaluates a request. The `.htaccess` files of its walk are read where they are not kept, and kept.
+pub(crate) fn answer<E: Ledger, L: Ledger>(
     alloc: Global,
     config: &Config,
     world: &World,

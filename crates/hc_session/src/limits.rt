@@ -12,3 +12,6 @@ pub const KEPT_ANSWERS: usize = 4096;
 
 /// The status of a request that is forbidden.
 pub const FORBIDDEN: u16 = 403;
+
+/// A `follow` is answered up to so many asks, so that no count of them overflows.
+pub const MOST_ASKS: u64 = 18_446_744_073_709_551_594;

@@ -7,6 +7,7 @@ ghost use Rattle.hc_json.specs.Reply as reply;
 ghost use Rattle.hc_json.specs.ReplyView.{reply_view};
 ghost use Rattle.hc_stated.specs.Stated.{field_name};
 ghost use Rattle.hc_session.specs.Deciding.{bad_pattern_line, decided_reply};
+ghost use Rattle.hc_session.specs.Following.{chain_reply, stop_told};
 ghost use Rattle.hc_session.specs.Session.{Says, answer_reply, check_reply, said_of_outcome};
 ghost use Rattle.hc_session.specs.Verifying.{told_as, verdict_reply};
 
@@ -14,10 +15,11 @@ use crate::limits::FORBIDDEN;
 use crate::stepped::{Said, Stepped};
 use hc_base::codes::{BAD_COMMAND, BAD_JSON, SET_SYNTAX};
 use hc_base::{NoMemory, Refusal};
+use hc_follow::Chain;
 use hc_held::{Decided, Verdict};
 use hc_json::{
-    Condition, NoCommand, Rejection, Reply, Trail, bad_line, print_outcome, print_refuted,
-    print_rejected, print_reply, print_trailed, print_undecided,
+    Condition, NoCommand, Rejection, Reply, Stop, Trail, bad_line, print_followed, print_outcome,
+    print_refuted, print_rejected, print_reply, print_trailed, print_undecided,
 };
 use hc_model::{Config, Outcome};
 use hc_serve::Answer;
@@ -89,6 +91,32 @@ pub(crate) fn no_pattern(alloc: Global, bad: BadPattern) -> Result<Stepped, NoMe
         ..bad_line(alloc, bad.why.code, bad.field.name())?
     };
     replied(alloc, &Reply::Refused(refusal))
+}
+
+/// Where a chain of redirects ends.
+pub(crate) fn followed(alloc: Global, chain: &Chain) -> Result<Stepped, NoMemory>
+    ensures { IfOk result (Says (chain_reply chain.now)) }
+{
+    Ok(Stepped {
+        line: print_followed(
+            alloc,
+            &chain.last.outcome,
+            chain.steps,
+            stop_told(chain.stop),
+        )?,
+        said: Said::Other,
+    })
+}
+
+fn stop_told(stop: hc_follow::Stop) -> Stop
+    ensures { result ≡ stop_told stop }
+{
+    match stop {
+        hc_follow::Stop::Ended => Stop::Ended,
+        hc_follow::Stop::Away => Stop::Away,
+        hc_follow::Stop::BadTarget => Stop::BadTarget,
+        hc_follow::Stop::TooMany => Stop::TooMany,
+    }
 }
 
 /// The answer to a claim.

@@ -1,35 +1,43 @@
-ghost use Rattle.std.specs.Prelude.{◌≡◌, ◌+◌, ◌<◌, ◌≤◌, ◌-◌, ◌^◌, None, Some, true, IfOk};
-ghost use Rattle.std.specs.Prelude.{IfSome, OnOk};
+ghost use Rattle.std.specs.Prelude.{◌≡◌, ◌+◌, ◌<◌, ◌≤◌, ◌-◌, ◌^◌, None, Some, Ok, true, IfOk};
+ghost use Rattle.std.specs.Prelude.{IfSome, OnErr, OnOk};
 ghost use Rattle.serde_json.specs.View.{items_view};
 ghost use Rattle.hc_base.specs.Paths.{begins_with_slash};
 ghost use Rattle.hc_json.specs.Cells.{cells_of};
 ghost use Rattle.hc_json.specs.Command.{command_of};
 ghost use Rattle.hc_json.specs.CommandView.{claim_view, question_view, request_view, scope_view};
+ghost use Rattle.hc_json.specs.Hosts.{hosts_of};
+ghost use Rattle.hc_kept.specs.Files.{AreFilesOf};
 ghost use Rattle.hc_kept.specs.Site.{is_current_site};
+ghost use Rattle.hc_session.specs.Asking.{answer_of, asked, evaluated};
 ghost use Rattle.hc_session.specs.Changes.{changed_by, done_of};
 ghost use Rattle.hc_session.specs.Deciding.{DecideTurn, present_lines};
+ghost use Rattle.hc_session.specs.Following.{FollowTurn, FollowUnder, IsFollowed};
 ghost use Rattle.hc_session.specs.Session.{Counts, CountsCommand, CountsRuns, EditTurn, Gave, IsTurn, ReadsCommand};
 ghost use Rattle.hc_session.specs.Session.{StepTurn, ask_bytes, ask_turn, check_turn, end_turn};
 ghost use Rattle.hc_session.specs.Session.{evaluated_turn, is_kept, kept_turn, main_turn, new_bytes, new_turn, present};
 ghost use Rattle.hc_session.specs.Session.{reads_nothing};
 ghost use Rattle.hc_session.specs.Session.{site_bytes, start, stats_turn};
-ghost use Rattle.hc_session.specs.Sound.{IsAnswerOf, IsSite};
-ghost use Rattle.hc_session.specs.Stating.{IsRead, VerifiesWith, claim_in, scope_in};
+ghost use Rattle.hc_session.specs.Sound.{IsAnswerOf, IsAskedIn, IsKeptAnswer, IsSite};
+ghost use Rattle.hc_session.specs.Stating.{IsRead, Replies, VerifiesWith, claim_in, scope_in};
 ghost use Rattle.hc_session.specs.Verifying.{VerifyTurn};
 
-use crate::asking::find_answer;
+use crate::asking::{answer, find_answer};
 use crate::changes::{Change, done_of, make};
 use crate::deciding::{Stating, decide_at};
-use crate::limits::KEPT_ANSWERS;
-use crate::replies::{answered, checked, no_command, no_set, refused, refusing, replied};
+use crate::following::origins_in;
+use crate::limits::{KEPT_ANSWERS, MOST_ASKS};
+use crate::replies::{answered, checked, followed, no_command, no_set, refused, refusing, replied};
 use crate::stepped::Stepped;
 use crate::verifying::{Verifying, verify_at};
 use hc_base::codes::PATH_FORM;
 use hc_base::{Counter, Fault, NoMemory, Text};
 use hc_cache::Cache;
-use hc_json::{Asked, ClaimForm, Command, Done, Reply, ScopeForm, cells_of, command_in, parse};
-use hc_kept::Site;
-use hc_model::Request;
+use hc_follow::{Chain, MOST_STEPS, Next, Origin, Stop, next_request};
+use hc_json::{
+    Asked, ClaimForm, Command, Done, Reply, RequestForm, ScopeForm, cells_of, command_in, parse,
+};
+use hc_kept::{KeptFiles, Site};
+use hc_model::{Config, Request};
 use hc_serve::Answer;
 use hc_stated::{cells_in, sets_in};
 use hc_world::{World, is_path};
@@ -151,6 +159,7 @@ impl Session {
             Ok(Command::Main { path }) => self.name_main(path),
             Ok(Command::Check) => self.check(bytes),
             Ok(Command::Ask(asked)) => self.ask(&asked, evals, bytes),
+            Ok(Command::Follow { request, hosts }) => self.follow(request, hosts, evals, bytes),
             Ok(Command::Decide { claim, scope }) => self.decide(claim, scope, evals, bytes),
             Ok(
                 Command::Verify {
@@ -236,17 +245,18 @@ impl Session {
         evals: &mut Counter<E>,
         bytes: &mut Counter<L>,
     ) -> Result<Stepped, NoMemory>
-        requires { begins_with_slash asked.now.target.now ≡ true }
+        requires { begins_with_slash (asked.now.request).target.now ≡ true }
         ensures turned { Gave result (IsTurn (ask_turn self.old (question_view asked.now) (present self.old)))
             self.old self.new }
         ensures evals { Counts result 1 self.old self.new evals.old evals.new }
-        ensures idle { is_kept self.old (request_view asked.now) ≡ true → bytes.new ≡ bytes.old }
-        ensures bytes { OnOk result (bytes.new ≤ bytes.old + ask_bytes self.old (request_view asked.now)) }
+        ensures idle { is_kept self.old (request_view asked.now.request) ≡ true → bytes.new ≡ bytes.old }
+        ensures bytes { OnOk result
+            (bytes.new ≤ bytes.old + ask_bytes self.old (request_view asked.now.request)) }
     {
         if self.asks == u64::MAX || self.evaluations == u64::MAX {
             return Err(NoMemory);
         }
-        let request = asked.to_request(self.alloc)?;
+        let request = asked.request.to_request(self.alloc)?;
         match self.kept(&request, asked.trail)? {
             Some(stepped) => {
                 self.asks += 1;
@@ -285,8 +295,190 @@ impl Session {
         let found = find_answer(self.alloc, &self.world, &mut site, &request, evals, bytes);
         put_back(&mut self.site, site);
         match found? {
-            Ok(answer) => self.keep(request, trail, answer),
+            Ok(answer) => self.reply_and_keep(request, trail, answer),
             Err(refusal) => refusing(self.alloc, &refusal),
+        }
+    }
+
+    // Asks a request and those to which its redirects lead. Where memory is refused, what was kept and counted before
+    // is put back.
+    fn follow<E: Ledger, L: Ledger>(
+        &mut self,
+        form: RequestForm<'_>,
+        hosts: &[Value],
+        evals: &mut Counter<E>,
+        bytes: &mut Counter<L>,
+    ) -> Result<Stepped, NoMemory>
+        requires { begins_with_slash form.target.now ≡ true }
+        ensures turned { Gave result (FollowTurn self.old (request_view form.entry)
+            (hosts_of (items_view hosts.now))) self.old self.new }
+        ensures evals { Counts result (MOST_STEPS + 1) self.old self.new evals.old evals.new }
+    {
+        if self.asks > MOST_ASKS || self.evaluations > MOST_ASKS {
+            return Err(NoMemory);
+        }
+        let request = form.to_request(self.alloc)?;
+        let origins = origins_in(self.alloc, hosts)?;
+        let answers = self.answers.copy()?;
+        let (asks, evaluations) = (self.asks, self.evaluations);
+        let stepped = self.follow_chain(origins.as_slice(), request, evals, bytes);
+        if stepped.is_err() {
+            self.answers = answers;
+            self.asks = asks;
+            self.evaluations = evaluations;
+        }
+        stepped
+    }
+
+    // The same, where what is kept and counted stays as it comes.
+    fn follow_chain<E: Ledger, L: Ledger>(
+        &mut self,
+        hosts: &[Origin],
+        request: Request,
+        evals: &mut Counter<E>,
+        bytes: &mut Counter<L>,
+    ) -> Result<Stepped, NoMemory>
+        requires slash { begins_with_slash request.target ≡ true }
+        requires asks { self.old.asks ≤ MOST_ASKS }
+        requires evaluations { self.old.evaluations ≤ MOST_ASKS }
+        ensures turned { IfOk result (Replies (λ said.
+            FollowUnder self.old hosts.now request (present self.old) said self.new)) }
+        ensures evals { Counts result (MOST_STEPS + 1) self.old self.new evals.old evals.new }
+        ensures stays { IsAskedIn self.old self.new }
+    {
+        let mut site = self.take_site(bytes)?;
+        let stepped = self.follow_at(&mut site, hosts, request, evals, bytes);
+        put_back(&mut self.site, site);
+        stepped
+    }
+
+    // Under what the main file was read as.
+    fn follow_at<E: Ledger, L: Ledger>(
+        &mut self,
+        site: &mut Site,
+        hosts: &[Origin],
+        request: Request,
+        evals: &mut Counter<E>,
+        bytes: &mut Counter<L>,
+    ) -> Result<Stepped, NoMemory>
+        requires slash { begins_with_slash request.target ≡ true }
+        requires asks { self.old.asks ≤ MOST_ASKS }
+        requires evaluations { self.old.evaluations ≤ MOST_ASKS }
+        requires site { IsSite self.old.world self.old.main site.old }
+        requires built { site.old.built ≡ present self.old }
+        ensures turned { IfOk result (Replies (λ said.
+            FollowUnder self.old hosts.now request (present self.old) said self.new)) }
+        ensures evals { Counts result (MOST_STEPS + 1) self.old self.new evals.old evals.new }
+        ensures stays { IsAskedIn self.old self.new }
+        ensures site { IsSite self.old.world self.old.main site.new }
+    {
+        match &site.built {
+            Ok(config) => {
+                let chain = self.follow_under(
+                    config,
+                    &mut site.files,
+                    hosts,
+                    request,
+                    evals,
+                    bytes,
+                )?;
+                followed(self.alloc, &chain)
+            }
+            Err(refusal) => refusing(self.alloc, refusal),
+        }
+    }
+
+    // Under a configuration: each request is asked behind those that lead to it.
+    fn follow_under<E: Ledger, L: Ledger>(
+        &mut self,
+        config: &Config,
+        files: &mut KeptFiles,
+        hosts: &[Origin],
+        request: Request,
+        evals: &mut Counter<E>,
+        bytes: &mut Counter<L>,
+    ) -> Result<Chain, NoMemory>
+        requires slash { begins_with_slash request.target ≡ true }
+        requires asks { self.old.asks ≤ MOST_ASKS }
+        requires evaluations { self.old.evaluations ≤ MOST_ASKS }
+        requires config { present self.old ≡ Ok config.now }
+        requires files { AreFilesOf self.old.world config.now files.old }
+        ensures chain { IfOk result (λ chain. IsFollowed self.old config.now hosts.now request chain self.new) }
+        ensures evals { Counts result (MOST_STEPS + 1) self.old self.new evals.old evals.new }
+        ensures stays { IsAskedIn self.old self.new }
+        ensures files { AreFilesOf self.old.world config.now files.new }
+    {
+        let mut asked = request;
+        let mut steps = 0;
+        loop {
+            let last = self.serve(config, files, &asked, evals, bytes)?;
+            match next_request(self.alloc, hosts, &asked, &last.outcome)? {
+                Next::Halt(stop) => return Ok(Chain { steps, last, stop }),
+                Next::Go(_) if steps == MOST_STEPS => {
+                    return Ok(Chain {
+                        steps,
+                        last,
+                        stop: Stop::TooMany,
+                    });
+                }
+                Next::Go(next) => {
+                    asked = next;
+                    steps += 1;
+                }
+            }
+        }
+    }
+
+    // The answer to a request, which is kept or evaluated and then kept.
+    fn serve<E: Ledger, L: Ledger>(
+        &mut self,
+        config: &Config,
+        files: &mut KeptFiles,
+        request: &Request,
+        evals: &mut Counter<E>,
+        bytes: &mut Counter<L>,
+    ) -> Result<Answer, NoMemory>
+        requires slash { begins_with_slash request.now.target ≡ true }
+        requires asks { self.old.asks < 2 ^ 64 - 1 }
+        requires evaluations { self.old.evaluations < 2 ^ 64 - 1 }
+        requires config { present self.old ≡ Ok config.now }
+        requires files { AreFilesOf self.old.world config.now files.old }
+        ensures answer { IfOk result (λ answer. answer ≡ answer_of self.old.world.files config.now request.now) }
+        ensures asked { OnOk result (self.new ≡ asked self.old request.now
+            (answer_of self.old.world.files config.now request.now)) }
+        ensures err { OnErr result (self.new ≡ self.old) }
+        ensures evals { Counts result 1 self.old self.new evals.old evals.new }
+        ensures files { AreFilesOf self.old.world config.now files.new }
+    {
+        match self.kept_answer(request)? {
+            Some(answer) => {
+                self.asks += 1;
+                Ok(answer)
+            }
+            None => {
+                let answer = answer(
+                    self.alloc,
+                    config,
+                    &self.world,
+                    files,
+                    request,
+                    evals,
+                    bytes,
+                )?;
+                let copy = answer.clone()?;
+                self.keep(request.clone()?, copy)?;
+                Ok(answer)
+            }
+        }
+    }
+
+    // A copy of the answer to a request that is kept, and rests on nothing that has changed.
+    fn kept_answer(&self, request: &Request) -> Result<Option<Answer>, NoMemory>
+        ensures { IfOk result (IsKeptAnswer self.now request.now) }
+    {
+        match self.answers.find_valid(request, &self.world) {
+            Some(answer) => Ok(Some(answer.clone()?)),
+            None => Ok(None),
         }
     }
 
@@ -411,20 +603,37 @@ impl Session {
         }
     }
 
-    // Replies with the answer to a request, keeps it, and counts the ask and the evaluation.
-    fn keep(&mut self, request: Request, trail: bool, answer: Answer) -> Result<Stepped, NoMemory>
+    // Replies with the answer to a request, and keeps it.
+    fn reply_and_keep(
+        &mut self,
+        request: Request,
+        trail: bool,
+        answer: Answer,
+    ) -> Result<Stepped, NoMemory>
         requires asks { self.old.asks < 2 ^ 64 - 1 }
         requires evaluations { self.old.evaluations < 2 ^ 64 - 1 }
         requires present { IsAnswerOf self.old.world self.old.main request answer }
         ensures { Gave result (IsTurn (evaluated_turn self.old request trail answer)) self.old self.new }
     {
         let stepped = answered(self.alloc, &self.world, trail, &answer)?;
+        self.keep(request, answer)?;
+        Ok(stepped)
+    }
+
+    // Keeps the answer to a request, and counts the ask and the evaluation.
+    fn keep(&mut self, request: Request, answer: Answer) -> Result<(), NoMemory>
+        requires asks { self.old.asks < 2 ^ 64 - 1 }
+        requires evaluations { self.old.evaluations < 2 ^ 64 - 1 }
+        requires present { IsAnswerOf self.old.world self.old.main request answer }
+        ensures ok { OnOk result (self.new ≡ evaluated self.old request answer) }
+        ensures err { OnErr result (self.new ≡ self.old) }
+    {
         let reads = answer.reads.copy()?;
         self.answers
             .store(request, reads, self.world.edits(), answer)?;
         self.asks += 1;
         self.evaluations += 1;
-        Ok(stepped)
+        Ok(())
     }
 }
 

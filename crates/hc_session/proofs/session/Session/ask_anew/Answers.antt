@@ -4,8 +4,8 @@ use Rattle.hc_session.specs.Session.{Gave, IsTurn, State, answer_of, evaluated_t
 use Rattle.hc_session.specs.Sound.{Evaluates, IsFound}
 use Rattle.hc_session.proofs.session.Session.ask_anew.Goals as goal
 
-pub keep-requires-clause-present : goal.keep-requires-clause-present
-keep-requires-clause-present g c =
+pub reply_and_keep-requires-clause-present : goal.reply_and_keep-requires-clause-present
+reply_and_keep-requires-clause-present g c =
     let found = subst (IsFound c.self.inside.world.files c.in_ok-site.site.built c.args.request) c.in-Ok.is
     c.in_ok-answer.ensures.found in
     let built = sym c.in_ok-site.ensures.built ∙ found.1 in (
@@ -24,25 +24,25 @@ returns-in-Ok-clause-turned g c =
     let answered = subst (λ (state : State). c.in-Ok.answer ≡ answer_of state.world.files found.0 c.args.request)
     here found.2 in
     let turned =
-    subst (λ state. Gave c.keep.result
-    (IsTurn (evaluated_turn state c.args.request c.args.trail c.in-Ok.answer)) state c.keep.new.self) here
-    c.keep.ensures in
-    subst (λ turn. Gave c.keep.result (IsTurn turn) c.args.self.now c.keep.new.self)
+    subst (λ state. Gave c.reply_and_keep.result
+    (IsTurn (evaluated_turn state c.args.request c.args.trail c.in-Ok.answer)) state c.reply_and_keep.new.self) here
+    c.reply_and_keep.ensures in
+    subst (λ turn. Gave c.reply_and_keep.result (IsTurn turn) c.args.self.now c.reply_and_keep.new.self)
     (turn_found c.args.self.now c.args.request c.args.trail found.0 c.in-Ok.answer built answered) turned
 
 pub returns-in-Ok-clause-evals : goal.returns-in-Ok-clause-evals
 returns-in-Ok-clause-evals g c =
     let turned =
-    subst (λ state. Gave c.keep.result
-    (IsTurn (evaluated_turn state c.args.request c.args.trail c.in-Ok.answer)) state c.keep.new.self)
-    (c.self.view_is ∙ c.take_site.ensures.same) c.keep.ensures in
-    counted c.keep.result c.args.self.now c.keep.new.self c.args.request c.args.trail c.in-Ok.answer _ _ turned
+    subst (λ state. Gave c.reply_and_keep.result
+    (IsTurn (evaluated_turn state c.args.request c.args.trail c.in-Ok.answer)) state c.reply_and_keep.new.self)
+    (c.self.view_is ∙ c.take_site.ensures.same) c.reply_and_keep.ensures in
+    counted c.reply_and_keep.result c.args.self.now c.reply_and_keep.new.self c.args.request c.args.trail c.in-Ok.answer _ _ turned
     (subst (λ found. Evaluates (Ok found) c.args.evals.now c.find_answer-found.new.evals) c.in-Ok.is
     c.in_ok-answer.ensures.evals)
 
 pub returns-in-Ok-clause-bytes : goal.returns-in-Ok-clause-bytes
 returns-in-Ok-clause-bytes g c =
-    read_anew c.keep.result c.args.self.now _ _ c.args.request _ _ _
+    read_anew c.reply_and_keep.result c.args.self.now _ _ c.args.request _ _ _
     (ap (λ (state : State). state.world.files) (c.self.view_is ∙ c.take_site.ensures.same))
     c.in_ok-site.ensures.built c.in_ok-site.ensures.bytes
     c.in_ok-answer.ensures.bytes

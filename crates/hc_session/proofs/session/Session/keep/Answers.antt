@@ -1,10 +1,10 @@
-use Rattle.std.proofs.Common.{◌≡◌, ◌+◌, ap, sym, subst, refl, rules, ◌∙◌}
+use Rattle.std.proofs.Common.{◌≡◌, ◌+◌, ap, sym, subst, rules, ◌∙◌}
 use Rattle.hc_cache.specs.Entries.{Cached, stored}
 use Rattle.hc_model.specs.declared.request.Request.{Request}
 use Rattle.hc_serve.specs.declared.answer.Answer.{Answer}
 use Rattle.hc_session.proofs.Asks.{kept_as}
 use Rattle.hc_session.proofs.Standing.{all_stored}
-use Rattle.hc_session.specs.Session.{Says, State, answer_reply, evaluated, kept_answer, same_request}
+use Rattle.hc_session.specs.Session.{State, evaluated, kept_answer, same_request}
 use Rattle.hc_session.specs.Sound.{IsAnswerOf, IsSound}
 use Rattle.hc_session.proofs.session.Session.keep.Goals as goal
 
@@ -24,29 +24,22 @@ invariant_of-self-2 c =
       site = c.self.invariant.site;
     })
 
-pub returns : goal.returns
-returns c =
+pub returns-clause-ok : goal.returns-clause-ok
+returns-clause-ok c =
     let inside = c.self.inside in
     let at : c.edits.result ≡ inside.world.edits = search rules in
     let kept = kept_as c.store.new.self inside.answers.limit inside.world c.args.request c.args.answer _ _
     inside.answers.entries c.in_ok-store.ensures.ok c.in_ok-reads.ensures at in
     let limited =
     ap (λ limit. stored same_request limit (kept_answer inside.world c.args.request c.args.answer)
-    inside.answers.entries) c.self.invariant.limit in (
-      answer_reply c.args.trail c.args.self.now.world.files c.args.answer,
-      subst (λ (state : State). Says (answer_reply c.args.trail state.world.files c.args.answer)
-          c.in_ok-stepped.stepped) c.self.view_is c.in_ok-stepped.ensures,
-      (
-        refl,
-        (λ i. record {
-          limit = inside.limit;
-          world = inside.world;
-          main = inside.main;
-          kept = ((ap (λ (cached : Cached Request Answer). cached.entries) kept ∙ limited) i);
-          asks = inside.asks + 1;
-          evaluations = inside.evaluations + 1;
-          ended = inside.ended;
-        })
-            ∙ ap (λ (state : State). evaluated state c.args.request c.args.answer) c.self.view_is,
-      ),
-    )
+    inside.answers.entries) c.self.invariant.limit in
+    (λ i. record {
+      limit = inside.limit;
+      world = inside.world;
+      main = inside.main;
+      kept = ((ap (λ (cached : Cached Request Answer). cached.entries) kept ∙ limited) i);
+      asks = inside.asks + 1;
+      evaluations = inside.evaluations + 1;
+      ended = inside.ended;
+    })
+    ∙ ap (λ (state : State). evaluated state c.args.request c.args.answer) c.self.view_is
