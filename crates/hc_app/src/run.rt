@@ -37,9 +37,9 @@ pub fn run<S: Source, K: Sink, E: Ledger, B: Ledger>(
     // In every case what was written are the replies to the whole lines taken, unless the sink
     // failed: then those to some of them, of the last one's a front. `evals` has risen by no more
     // than the evaluations that these lines count, by one for each ask among them that was
-    // answered `no_memory`, and by the candidates that each `decide` may try; and `bytes`, where no
-    // line was answered so and none is a `decide` or a `verify`, by no more than the texts that they may
-    // read.
+    // answered `no_memory`, by 21 for each such `follow`, and by the candidates that each `decide` may try; and
+    // `bytes`, where no line was answered so and none is a `follow`, a `decide` or a `verify`, by no more than the
+    // texts that they may read.
     ensures served { (limit : ℕ) → AsksToServe limit (words_of (map string_bytes words.now))
         → result ≢ Status.NoMemory
         → Served (start limit) (S.left source.old) (S.left source.new)
