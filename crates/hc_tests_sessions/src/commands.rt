@@ -15,7 +15,7 @@ static WRONG: &[&str] = &[
     r#"{"do":"decide"} -> bad claim"#,
     r#"{"do":"verify","x":1} -> bad x"#,
     r#"{"do":"verify"} -> bad claim"#,
-    r#"{"do":"follow"} -> bad do"#,
+    r#"{"do":"unfollow"} -> bad do"#,
     r#"{"do":"stats","x":1} -> bad x"#,
     r#"{"do":"end","path":"/a"} -> bad path"#,
     r#"{"do":"drop"} -> bad path"#,

@@ -7,6 +7,7 @@
 //! - `ask TARGET FIELD=VALUE ..` asks, `check` checks
 //! - `stats ASKS EVALUATIONS` asks for these stats
 //! - `decide ..`: see `claims`; `cells COUNT` says how many branches are too many in the whole dialogue
+//! - `follow ..`: see `follows`
 //! - any other line is a command as it stands
 //!
 //! Behind a command stand ` -> ` and its reply in short, or a line with the JSON of the reply. In short it is one of:
@@ -17,8 +18,10 @@
 //! - `bad FIELD`: a command of which this field is wrong
 //! - `hosts COUNT`, `done COMMAND`
 //! - `proved`, `too_many COUNT`, `refuted ..`, `undecided ..`: see `claims`
+//! - `followed ..`: see `follows`
 
 use crate::claims::{decide, refuted, undecided};
+use crate::follows::{follow, followed};
 use crate::session::{LONGEST_REPLIES, check, session_within};
 use hc_base::NoMemory;
 use hc_session::{MAIN_FILE, Status};
@@ -61,8 +64,8 @@ fn list(alloc: Global, said: &mut Said, kind: &str, paths: &str) -> Result<(), N
     Ok(())
 }
 
-// A port, headers and a trail stand as in JSON, and what else there is without its quotes.
-fn field(alloc: Global, text: &str) -> Result<String, NoMemory> {
+/// A field of an ask. A port, headers and a trail stand as in JSON, and what else there is without its quotes.
+pub fn field(alloc: Global, text: &str) -> Result<String, NoMemory> {
     match parts(text, "=") {
         (name @ ("port" | "headers" | "trail"), value) => format!(in alloc; r#","{name}":{value}"#),
         (name, value) => format!(in alloc; r#","{name}":"{value}""#),
@@ -97,6 +100,7 @@ fn take_command(alloc: Global, said: &mut Said, command: &str) -> Result<(), NoM
             said.cells = count.parse().unwrap_or(DEFAULT_CELLS);
             Ok(())
         },
+        ("follow", asked) => push_line(&mut said.input, &follow(alloc, asked)?),
         ("decide", claimed) => push_line(&mut said.input, &decide(alloc, claimed)?),
         ("check", _) => push_line(&mut said.input, r#"{"do":"check"}"#),
         _ => push_line(&mut said.input, command),
@@ -145,6 +149,10 @@ fn reply_in_full(alloc: Global, reply: &str) -> Result<String, NoMemory> {
         ("refuted", rest) => {
             let (asked, reply) = parts(rest, ": ");
             refuted(alloc, asked, &outcome(alloc, reply)?)
+        },
+        ("followed", rest) => {
+            let (head, reply) = parts(rest, ": ");
+            followed(alloc, head, &outcome(alloc, reply)?)
         },
         ("hosts", count) => format!(in alloc; r#"{{"config":{{"hosts":{count}}}}}"#),
         ("bad", field) => format!(in alloc;

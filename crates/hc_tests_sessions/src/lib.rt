@@ -26,6 +26,10 @@ mod extremes;
 #[cfg(test)]
 mod folder_files;
 #[cfg(test)]
+mod following;
+#[cfg(test)]
+mod follows;
+#[cfg(test)]
 mod generated;
 #[cfg(test)]
 mod guarded;

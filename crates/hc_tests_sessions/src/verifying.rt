@@ -5,8 +5,12 @@ use hc_base::NoMemory;
 
 // Restarts of a `.htaccess`.
 static WORDPRESS: &str =
-    r##"main DocumentRoot \"/var/www/html\"\n<Directory \"/\">\nRequire all denied\n</Directory>\n<Directory \"/var/www/html\">\nOptions FollowSymLinks\nAllowOverride All\nRequire all granted\n</Directory>\n
-/var/www/html/.htaccess # BEGIN WordPress\n<IfModule mod_rewrite.c>\nRewriteEngine On\nRewriteRule .* - [E=HTTP_AUTHORIZATION:%{HTTP:Authorization}]\nRewriteBase /\nRewriteRule ^index\\.php$ - [L]\nRewriteCond %{REQUEST_FILENAME} !-f\nRewriteCond %{REQUEST_FILENAME} !-d\nRewriteRule . /index.php [L]\n</IfModule>\n# END WordPress\n
+    r##"main DocumentRoot \"/var/www/html\"\n<Directory \"/\">\nRequire all denied\n</Directory>\n
+  <Directory \"/var/www/html\">\nOptions FollowSymLinks\nAllowOverride All\nRequire all granted\n</Directory>\n
+/var/www/html/.htaccess # BEGIN WordPress\n<IfModule mod_rewrite.c>\nRewriteEngine On\n
+  RewriteRule .* - [E=HTTP_AUTHORIZATION:%{HTTP:Authorization}]\nRewriteBase /\n
+  RewriteRule ^index\\.php$ - [L]\nRewriteCond %{REQUEST_FILENAME} !-f\nRewriteCond %{REQUEST_FILENAME} !-d\n
+  RewriteRule . /index.php [L]\n</IfModule>\n# END WordPress\n
 file /var/www/html/index.php
 file /var/www/html/a.css
 file /var/www/html/wp-admin/admin.php
