@@ -5,7 +5,7 @@
 #
 # A run in which one allocation is refused either ends with status 5 and nothing written, or answers
 # each line; and a line that was answered `no_memory` has changed nothing: without it, the other lines
-# have the same replies. The script has all commands, a `.htaccess`, rules, a map and a trail, and `stats` behind each line. Nothing is built here but a small library that refuses the allocation.
+# have the same replies. The script has all commands but `decide` and `verify`, a `.htaccess`, rules, a map and a trail, and `stats` behind each line. Nothing is built here but a small library that refuses the allocation.
 source "$(dirname -- "$(readlink -f -- "$0")")/program.sh"
 
 cat > "$room/refuse.c" << 'C'
@@ -89,6 +89,9 @@ nonsense
 {"do":"list","path":"/srv/x/q","kind":"dir"}
 {"do":"drop","path":"/srv/x/y"}
 {"do":"ask","target":"/x/y/z/f"}
+{"do":"put","path":"/i/b.conf","text":"Redirect /t http://localhost/u\nRedirect permanent /u http://localhost/x/q\n"}
+{"do":"follow","target":"/t","hosts":[{"host":"localhost","port":80,"scheme":"http"}]}
+{"do":"follow","target":"/t","hosts":[{"host":"a","port":80,"scheme":"https"},{"host":"localhost","port":80,"scheme":"http"}]}
 {"do":"main","path":"/i/a.conf"}
 {"do":"ask","target":"/x"}
 {"do":"main","path":"/etc/httpd/conf/httpd.conf"}
