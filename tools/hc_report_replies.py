@@ -21,13 +21,14 @@ from hc_report_requests import (
     scope_words,
     subject,
 )
-from hc_report_texts import Code, capital, counted, listed, say
+from hc_report_texts import Code, capital, counted, listed, plain, say
 from hc_report_trails import branch_part, reads_sentence, trail_steps
 from hc_report_words import (
     BREAKS,
     CONDITIONS,
     OUTSIDE_BREAKS,
     REJECTED_MEANING,
+    STOPS,
     TOO_MANY_ADVICE,
     UNDECIDED_ADVICE,
     UNDECIDED_MEANING,
@@ -42,17 +43,17 @@ class Asked:
         self.files = files
         self.fields = command.fields if command and command.fields else {}
         self.name = command.name if command else ""
-        self.request = request_of(self.fields) if self.name == "ask" else None
+        self.request = request_of(self.fields) if self.name in ("ask", "follow") else None
         self.claim = claim_words(self.fields.get("claim"))
 
     def subject(self):
-        """What a sentence on the answer to an `ask` begins with."""
+        """What a sentence on the answer to an `ask` or a `follow` begins with."""
         return subject(self.request) if self.request else say(f"The request of line {self.number}")
 
     def words(self):
         """The command in words."""
         if self.request:
-            return say("`ask` for ") + subject(self.request)
+            return say("{} for ", Code(self.name)) + subject(self.request)
         if self.claim:
             return say("{} whether ", self.name) + self.claim
         path = self.fields.get("path")
@@ -122,6 +123,21 @@ def _trailed(asked, reply):
     return _outcome(asked, outcome, [steps, *reads_sentence(reads)])
 
 
+def _followed(asked, value):
+    outcome, steps, stop = fields_of(value, outcome=dict, steps=int, stop=str)
+    if stop not in STOPS:
+        raise Unknown
+    kind, words, parts = outcome_words(asked, outcome)
+    own_kind, meaning = STOPS[stop]
+    times = "once" if steps == 1 else f"{steps} times"
+    way = (f" is redirected {times} among the named servers, and then",) if steps else ()
+    entry = Entry(asked.number, own_kind or kind, asked.subject() + way + (" ",) + words + (".",))
+    entry.parts += came(asked.request, asked.fields) if asked.request else []
+    entry.parts += [means(meaning)] if meaning else []
+    entry.parts += parts
+    return entry
+
+
 def curl_parts(request):
     """The shell line that sends a request, and what it doesn't say."""
     line = curl_line(request)
@@ -171,7 +187,9 @@ def _why_parts(request):
 
 def _undecided(asked, value):
     (branch,) = fields_of(value, branch=list)
-    title = say("It isn't known whether ") + (asked.claim or say("the claim holds")) + (".",)
+    claim = asked.claim or say("the claim holds")
+    this = "this holds: " if plain(claim).startswith("whenever") else ""
+    title = (f"It isn't known whether {this}", *claim, ".")
     decided = branch_part(asked, branch, say("The branch decides"))
     parts = [*asked.scope_parts(), means(UNDECIDED_MEANING), decided, do(UNDECIDED_ADVICE)]
     return Entry(asked.number, "undecided", title, parts)
@@ -240,6 +258,7 @@ REPLIES = {
     "stats": _stats,
     "summary": _summary,
     "outcome": _outcome,
+    "followed": _followed,
     "proved": _proved,
     "accepted": _accepted,
     "refuted": _refuted,
@@ -257,6 +276,7 @@ COMMANDS = {
     "config": "check",
     "stats": "stats",
     "outcome": "ask",
+    "followed": "follow",
     "proved": "decide",
     "refuted": "decide",
     "undecided": "decide",

@@ -8,7 +8,7 @@ from hc_report_parts import Quote, Sentence, Step, Steps
 from hc_report_texts import counted, listed, say, source_shown, undo
 from hc_report_words import AUTHORIZED, WALKED
 
-MANY_READS = 40
+MANY_READS = 8
 
 
 # ---- trails

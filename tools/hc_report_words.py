@@ -22,6 +22,7 @@ KINDS = {
     "refuted": (GRAVE, "Refuted", "refuted", "a request breaks the claim"),
     "served": (GRAVE, "Served", "served", "a name that begins with .ht is served"),
     "refused": (GRAVE, "Refused", "refused", "not answered, for a reason that is named"),
+    "chain": (BROKEN, "Broken chain", "with redirects that don't end", "a chain of redirects that ends nowhere"),
     "limit": (BROKEN, "Limit", "at a limit", "the server gives up with 500"),
     "ht_refused": (BROKEN, "Broken .htaccess", "at a broken .htaccess", "a file on the way isn't read"),
     "undecided": (OPEN, "Undecided", "undecided", "it isn't known whether the claim holds"),
@@ -47,6 +48,16 @@ KINDS = {
 
 # The kinds that answer no question.
 EDITS = ("done", "ended")
+
+# ---- chains of redirects
+
+# Why a chain stops: the kind of its entry where that isn't its outcome's, and what it means.
+STOPS = {
+    "ended": ("", ""),
+    "away": ("", "The location is of no server that is named, so it wasn't followed."),
+    "bad target": ("chain", "The location is of a named server, but no request can have the target that it gives."),
+    "too many": ("chain", "The redirects go on behind the 20th; browsers give up after about as many."),
+}
 
 # ---- outcomes
 

@@ -419,6 +419,23 @@ class Configuration(Server):
         self.assert_told(told, "TOP/conf/main:3: /usr/share/icons/ is in no --root")
         self.assertNotIn("TOP/www", told)
 
+    def test_modules_that_are_taken_for_present(self):
+        """Where modules are loaded, each that isn't is told once, by the first section that asks for it."""
+        asked = ("<IfModule mod_dir.c>\n</IfModule>\n<IfModule ssl_module>\n</IfModule>\n"
+                 "<ifmodule !mod_ssl.c>\n</ifmodule>\n<IfModule core.c>\n</IfModule>\n"
+                 "<IfModule mod_so.c>\n</IfModule>\n<IfModule none_module>\n</IfModule>\n")
+        self.put("www/a/.htaccess", "# <IfModule mod_env.c>\n<IfModule mod_dir.c>\n</IfModule>\n"
+                                    '<IfModule "!mod_rewrite.c">\n</IfModule>\n')
+        self.put("www/b/.htaccess", "<IfModule mod_rewrite.c>\n</IfModule>\n")
+        _, _, told = self.main(asked)
+        self.assertNotIn("LoadModule", told)
+        status, _, told = self.main(asked + "LoadModule dir_module m.so\n" + asked)
+        self.assertEqual(re.findall("pack: (.*): no LoadModule names (.*), and hc takes it for present", told),
+                         [("TOP/conf/main:18", "ssl_module"), ("TOP/www/a/.htaccess:4", "rewrite_module")])
+        self.assertEqual(status, 0, told)
+        _, _, told = self.main("LoadModule dir_module m.so\nLoadModule rewrite_module m.so\n")
+        self.assertNotIn("takes it for present", told)
+
     def test_the_modules_are_those_of_the_definition(self):
         with open(os.path.join(TOP, "crates/hc_says/specs/Says.antt"), encoding="utf-8") as file:
             part = file.read().split("standard_modules =")[1].split("abbrev")[0]
@@ -681,7 +698,7 @@ RewriteMap g txt:TOP/maps/latin.txt
         status, lines, told = self.run_pack()
         self.assertEqual(len(lines), 20002)
         self.assertEqual([line["path"].rpartition("/")[2] for line in lines[2:]], sorted(map(str, range(20000))))
-        self.assert_told(told, "1 texts and 20000 names handed in")
+        self.assert_told(told, "1 text and 20000 names handed in, 0 links followed")
         self.assertEqual(status, 0)
         self.assert_hc([{"config": {"hosts": 0}}])
 
@@ -691,8 +708,8 @@ RewriteMap g txt:TOP/maps/latin.txt
             self.link("../x", "www/links/%04d" % n)
         status, lines, told = self.run_pack()
         self.assertEqual((status, len(lines)), (0, 3003))
-        self.assertEqual(told.count("link followed: "), 20)
-        self.assert_told(told, "links below the roots: 2980 more like these", "3000 links followed")
+        self.assertEqual(told.count("link followed: "), 3)
+        self.assert_told(told, "links below the roots: 2997 more like these", "3000 links followed")
 
     def test_progress_is_shown_on_a_terminal_alone(self):
         for n in range(2500):
@@ -714,7 +731,7 @@ RewriteMap g txt:TOP/maps/latin.txt
         os.close(here)
         self.assertEqual(done.wait(), 0)
         blank = b"\r                \r"
-        self.assertIn(b"\rpack: 1000 names" + blank + b"\rpack: 2000 names" + blank + b"pack: 1 texts", shown)
+        self.assertIn(b"\rpack: 1000 names" + blank + b"\rpack: 2000 names" + blank + b"pack: 1 text and", shown)
 
 
 class Hostile(Server):
@@ -755,7 +772,7 @@ class Hostile(Server):
         self.assertEqual(self.short(lines)[2:], ["file TOP/www/b/.htaccess", "file TOP/www/e/main"])
         self.assertEqual(status, 1)
         self.assertNotIn(b"secret", self.bytes)
-        self.assert_told(told, "TOP/www/a: it is outside the given folders, at TOP/out/secret",
+        self.assert_told(told, "TOP/www/a: it is outside the given folders, at TOP/out/secret (--also names more)\n",
                          "TOP/www/b/.htaccess: it is outside",
                          "TOP/www/c: it is outside the given folders, at /etc/passwd", "TOP/www/f: it is outside",
                          "TOP/www/d: its link leads to nothing", "6 not handed in")

@@ -155,6 +155,14 @@ EXAMPLES = {
         "/var/www/html/2024 isn't there, and /post is left as path information",
         "7. /var/www/html/.htaccess applies",
     ],
+    "redirects": [
+        "GET http://www.example.org/old/f is sent to https://www.example.org/old/f with the status 301",
+        "http://www.example.org/old/f is redirected 3 times among the named servers, and then is served /org/new/f.",
+        "is redirected once among the named servers, and then is sent to https://example.org/old/f",
+        "The location is of no server that is named, so it wasn't followed.",
+        "Broken chain: GET http://example.org/round is redirected 20 times among the named servers, and then is sent",
+        "The redirects go on behind the 20th",
+    ],
     "claims": [
         "[4] Proved: No request of the scope runs into a limit of rounds or of restarts.",
         "[7] Refuted: GET http://localhost/open/ breaks the claim: it comes to the directory /srv/secret/.",
@@ -272,6 +280,23 @@ class Outcomes(Case):
         text = text_of([{"outcome": {"not_found": True}}], [{"do": "ask", "target": "/x", "host": "", "server": "::1"}])
         self.assertIn("GET http://[::1]/x without a Host header is not found.", text)
 
+    def test_chains(self):
+        follow = {"do": "follow", "target": "/x", "hosts": [{"host": "a", "port": 80, "scheme": "http"}]}
+        rows = [
+            (0, "ended", "GET http://localhost/x is not found.\n"),
+            (1, "ended", "GET http://localhost/x is redirected once among the named servers, and then is not found."),
+            (2, "away", "is redirected 2 times among the named servers, and then is not found."),
+            (0, "bad target", "Broken chain: GET http://localhost/x is not found."),
+            (20, "too many", "browsers give up"),
+        ]
+        for steps, stop, sentence in rows:
+            with self.subTest(stop, steps=steps):
+                reply = {"followed": {"outcome": {"not_found": True}, "steps": steps, "stop": stop}}
+                self.assertIn(sentence, text_of([reply], [follow]))
+        self.assertIn("nknown", text_of([{"followed": {"outcome": {"not_found": True}, "steps": 0, "stop": "x"}}]))
+        text = text_of([{"no_memory": True}], [follow])
+        self.assertIn("follow for GET http://localhost/x; nothing was answered", text)
+
     def test_counts(self):
         self.assertIn("with 1 virtual host.", text_of([{"config": {"hosts": 1}}]))
         self.assertIn("with 12 virtual hosts.", text_of([{"config": {"hosts": 12}}]))
@@ -340,7 +365,7 @@ class Trails(Case):
         text = text_of([trail_of([], reads=reads)])
         self.assertIn("It rests on the text of /a, what stands at /b and /d and the names in /c.", text)
         text = text_of([trail_of([], reads=[["kind", f"/{n}"] for n in range(100)])])
-        self.assertIn("/38, /39 and 60 others.", text)
+        self.assertIn("/6, /7 and 92 others.", text)
 
     def test_unknown_events_are_shown(self):
         for event in (["new", 1], ["rule", 1], [], 7, ["walk", "/a", "", "socket"], ["auth", "x"], None, [["host"]]):
@@ -568,6 +593,9 @@ class Claims(Case):
         self.assertIn("[1] Undecided: It isn't known whether no request of the scope runs into a limit", text)
         self.assert_in_each([f"1. {MAIN}:1 held\n", f"2. {MAIN}:2 didn't hold\n", f"3. {MAIN}:3 matched\n",
                              f"4. {MAIN}:4 didn't match\n", "Narrow the scope", "INVARIANTS.md"], text)
+        claim = {"kind": "guarded", "target": {"pattern": "^/a"}, "file": MAIN, "line": 1}
+        text = text_of([{"undecided": {"branch": branch}}], [{"do": "decide", "claim": claim, "scope": {}}])
+        self.assertIn("It isn't known whether this holds: whenever a request of the scope is served a file", text)
         text = text_of([{"undecided": {"branch": []}}])
         self.assertIn("The branch decides nothing: no rule and no condition stood on its way.", text)
 
