@@ -19,6 +19,8 @@ WILD = re.compile(rb"[*?\[\\]")
 CONTAINERS = (b"requireall", b"requireany", b"requirenone", b"ifmodule", b"ifdefine")
 ADDRESS = re.compile(rb"[0-9]{1,3}(?:\.[0-9]{1,3}){3}")
 REWRITING = (b"rewriterule", b"rewritecond")
+# A flag of a rule that sends to another URL.
+SENDS = re.compile(rb"[\[,][ \t]*(?:r|redirect)[ \t]*[=,\]]", re.IGNORECASE)
 STANDARD = (
     b"so alias rewrite authz_core authz_host dir mime log_config headers expires setenvif env deflate filter"
     b" autoindex negotiation status ssl unixd"
@@ -107,6 +109,7 @@ class Found:
     rules: List[Rule] = field(default_factory=list)
     ports: List[Tuple[bytes, int, bool]] = field(default_factory=list)
     files: List[bytes] = field(default_factory=list)
+    redirects: bool = False
     is_cut: bool = False
 
 
@@ -345,7 +348,11 @@ class Reader:
         is_open = [word.lower() for word in given[:2]] == [b"all", b"granted"]
         self.found.guards.append(Guard(place, folder, self._host(stack), is_open, reason))
 
-    def _rule(self, place, _given, stack, _chain):
+    def _redirect(self, _place, _given, _stack, _chain):
+        self.found.redirects = True
+
+    def _rule(self, place, given, stack, _chain):
+        self.found.redirects |= len(given) > 1 and b"://" in given[1] or len(given) > 2 and bool(SENDS.search(given[2]))
         inner = _folders_of(stack)
         folder = _folder(place[0].rpartition(b"/")[0]) if inner and inner[0].name == b".htaccess" else None
         self.found.rules.append(Rule(place, self._host(stack), folder, not inner))
@@ -357,6 +364,8 @@ DIRECTIVES = {
     b"serveralias": Reader._aliases, b"documentroot": Reader._document_root, b"alias": Reader._map,
     b"scriptalias": Reader._map, b"sslengine": Reader._secure, b"rewriteoptions": Reader._options,
     b"listen": Reader._listen, b"require": Reader._require, b"rewriterule": Reader._rule,
+    b"redirect": Reader._redirect, b"redirectmatch": Reader._redirect, b"redirectpermanent": Reader._redirect,
+    b"redirecttemp": Reader._redirect,
 }
 
 

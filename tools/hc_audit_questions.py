@@ -18,7 +18,8 @@ PLAIN_PATH = re.compile(rb"[!-$&->@-~\x80-\xff]*")
 SAFE = "/$-_.+!*'(),:;@&=~"
 MOST_HOLES = 200
 MOST_LOOKED_AT = 200
-KINDS = ("hidden", "guard", "stops", "htaccess", "rule")
+KINDS = ("hidden", "guard", "stops", "chain", "htaccess", "rule")
+MOST_ORIGINS = 16
 
 
 def text_of(path):
@@ -42,6 +43,10 @@ class Scope:
     def fields(self):
         """The fields that a scope and an `ask` share."""
         return {"scheme": self.scheme, "server": text_of(self.server), "port": self.port, "host": text_of(self.name)}
+
+    def origin(self):
+        """How its URLs begin, as a `follow` names it."""
+        return {"host": text_of(self.name), "port": self.port, "scheme": self.scheme}
 
     def url(self):
         """The front of its URLs."""
@@ -265,6 +270,8 @@ class Case:
     def fields(self, at):
         """The fields of the question of a scope; None where there is none."""
         scope = self.scopes[at]
+        if self.kind == "chain":
+            return {"do": "follow", **scope.fields(), "target": "/", "hosts": self.of}
         if self.kind in ("hidden", "htaccess"):
             target = quote(self.targets[at], safe=SAFE)
             return {"do": "ask", **scope.fields(), "target": target, "trail": True}
@@ -307,7 +314,7 @@ class Planner:
     def plan(self, most, first_number):
         """The questions, at most so many; the first one has that number in the script."""
         cases = {
-            "hidden": self._hidden(), "guard": self._guards(), "stops": self._stops(),
+            "hidden": self._hidden(), "guard": self._guards(), "stops": self._stops(), "chain": self._chains(),
             "htaccess": self._htaccess(), "rule": self._rules(),
         }
         totals = {kind: sum(len(case.scopes) for case in cases[kind]) for kind in KINDS}
@@ -335,6 +342,17 @@ class Planner:
 
     def _stops(self):
         return [Case("stops", scope.host, [scope]) for scope in self.scopes]
+
+    def _chains(self):
+        """Where the front page of each name leads, among its own name and the first others."""
+        if not self.found.redirects:
+            return []
+        others = firsts([scope.origin() for scope in self.scopes], lambda origin: tuple(origin.values()))
+        cases = []
+        for scope in self.scopes:
+            own = scope.origin()
+            cases.append(Case("chain", [own, *(other for other in others if other != own)][:MOST_ORIGINS], [scope]))
+        return cases
 
     def _guards(self):
         cases, seen = [], set()

@@ -33,6 +33,7 @@ KIND_WORDS = {
     "hidden": "on names that begin with `.ht`",
     "guard": "on `Require` lines",
     "stops": "on whether requests end",
+    "chain": "on where redirects lead",
     "htaccess": "on `.htaccess` files",
     "rule": "on rules that never apply",
 }
@@ -145,8 +146,8 @@ class Report:
         if answers and all(answer.code == NO_SUCH_PLACE for answer in answers):
             self.unasked(case.of.place, "the line isn't part of the configuration")
         elif answers:
-            {"hidden": self._hidden, "guard": self._guard, "stops": self._stops, "htaccess": self._htaccess,
-             "rule": self._rule}[case.kind](case, answers)
+            {"hidden": self._hidden, "guard": self._guard, "stops": self._stops, "chain": self._chain,
+             "htaccess": self._htaccess, "rule": self._rule}[case.kind](case, answers)
 
     def add(self, number, kind, title, parts=()):
         """Adds an entry."""
@@ -185,6 +186,11 @@ class Report:
         if proved:
             title = say("each request to ") + places_of(proved) + (" ends, whatever its path, query and headers.",)
             self.add(proved[0].question.number, "proved", title)
+
+    def _chain(self, _case, answers):
+        for answer in answers:
+            entry = answer.entry
+            self.entries.append(entry if entry.grade != IN_ORDER else Entry(entry.number, entry.kind, entry.title))
 
     def _guard(self, case, answers):
         proved = self._each_kind(answers, ("proved",), GUARD_ADVICE).get("proved")

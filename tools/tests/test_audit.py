@@ -255,7 +255,7 @@ class Questions(Case):
     def test_order_and_targets(self):
         plan = questions_of(self.WORLD)
         self.assertEqual([q.kind for q in plan.questions], sorted(
-            (q.kind for q in plan.questions), key=["hidden", "guard", "stops", "htaccess", "rule"].index))
+            (q.kind for q in plan.questions), key=["hidden", "guard", "stops", "chain", "htaccess", "rule"].index))
         asks = [(q.kind, q.fields["port"], q.fields["target"]) for q in plan.questions if q.fields["do"] == "ask"]
         self.assertEqual(asks, [
             ("hidden", 81, "/i/.htaccess"), ("hidden", 81, "/j/.htaccess"),
@@ -273,6 +273,23 @@ class Questions(Case):
         plan = questions_of([put(MAIN, "DocumentRoot /srv/www\n"), put("/srv/.htaccess", ""), listed("/srv/a"),
                              listed("/srv/www/f")])
         self.assertEqual([q.fields["target"] for q in plan.questions if q.kind == "htaccess"], ["/f"])
+
+    def test_chains(self):
+        hosts = "".join(f"<VirtualHost *:80>\nServerName h{at}\n</VirtualHost>\n" for at in range(18))
+        for line, is_asked in (
+            ("Redirect /a /b", True), ("redirectMATCH a /b", True), ("RewriteRule ^/a https://b/ [L]", True),
+            ("RewriteRule a b [L,R=301]", True), ("RewriteRule a b [redirect]", True),
+            ("RewriteRule a b [NE,r,L]", True),
+            ("RewriteRule a b [PT]", False), ("RewriteRule a b", False), ("RewriteRule r=x /r [E=R:1,QSA]", False),
+        ):
+            with self.subTest(line):
+                asked = [q for q in questions_of([put(MAIN, f"{hosts}{line}\n")]).questions if q.kind == "chain"]
+                self.assertEqual(len(asked), 18 if is_asked else 0)
+                for question in asked:
+                    hosts_of = question.fields["hosts"]
+                    origins = [(origin["scheme"], origin["host"], origin["port"]) for origin in hosts_of]
+                    self.assertEqual(origins[0], ("http", question.fields["host"], 80))
+                    self.assertEqual((len(origins), len(set(origins)), question.fields["target"]), (16, 16, "/"))
 
     def test_their_number(self):
         many = len(questions_of(self.WORLD).questions)
@@ -488,8 +505,18 @@ class Leaving(Folder):
                 time.sleep(0.05)
             ran.terminate()
             self.assertEqual(ran.wait(30), 143)
-        with self.assertRaises(ProcessLookupError):
-            os.kill(int(pid.read_text()), 0)
+        self.assertTrue(self.is_gone(int(pid.read_text())))
+
+    def is_gone(self, pid):
+        """No such process is there, once its status has been taken."""
+        deadline = time.monotonic() + 30
+        while time.monotonic() < deadline:
+            try:
+                os.kill(pid, 0)
+            except ProcessLookupError:
+                return True
+            time.sleep(0.05)
+        return False
 
     def test_a_world_from_a_pipe(self):
         shell = f'{sys.executable} {AUDIT} --hc {self.fake(CHECKED, PROVED)} <(cat {self.world(CALM)})'
@@ -527,6 +554,19 @@ class Findings(Folder):
         status, out, _ = self.audit(program, [*CALM, listed("/srv/f")])
         self.assertEqual(status, 1)
         self.assert_in_each(["[4] Refuted: ", "paths matching /f$", "Over all paths a request that ends outside"], out)
+
+    def test_chains(self):
+        commands = [put(MAIN, "DocumentRoot /srv\nRedirect /a /b\nListen 80\nListen 81\n")]
+        sent = {"redirect": {"location": "http://localhost/", "status": 302}}
+        ended = json.dumps({"followed": {"outcome": {"directory": "/srv/"}, "steps": 1, "stop": "ended"}})
+        too_many = json.dumps({"followed": {"outcome": sent, "steps": 20, "stop": "too many"}})
+        program = self.fake(CHECKED, PROVED, ['"port": 81, "host"', too_many], ["follow", ended])
+        status, out, _ = self.audit(program, commands)
+        self.assertEqual(status, 1, out)
+        self.assert_in_each(["Broken chain: GET http://localhost:81/ is redirected 20 times among the named servers",
+                             "GET http://localhost/ is redirected once among the named servers, and then comes to the",
+                             "Findings: 1 with redirects that don't end.\n"], out)
+        self.assertLess(out.index("Broken chain"), out.index("In order"))
 
     def test_a_rule_that_is_in_use_for_one_name(self):
         commands = [put(MAIN, "DocumentRoot /srv\nListen 80\nListen 81\nRewriteRule a b\n")]
