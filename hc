@@ -137,7 +137,7 @@ build() {
         return 1
     fi
     most=$(processes)
-    say "proving and building the program, $most processes at a time; in a fresh checkout this takes some 25 minutes"
+    say "proving and building the program, $most processes at a time; in a fresh checkout this takes two hours and more on four processors"
     rm -f -- "$program"
     touch -- "$start"
     make_copies "$most" && prove_libraries "$most" || return 1
