@@ -1,11 +1,16 @@
 #!/usr/bin/env bash
-# Refuses each allocation of the program in turn, and checks what it then answers:
+# Refuses each allocation of the program in turn, alone and with one of the next behind it, and checks what it then
+# answers:
 #
-#     bench/refused_memory.sh [PROGRAM]
+#     bench/refused_memory.sh [PROGRAM [PAIRS]]
+#
+# With PAIRS each allocation is refused once more with the next one, with the one behind that, and so on up to so many
+# (0 without it).
 #
 # A run in which one allocation is refused either ends with status 5 and nothing written, or answers
 # each line; and a line that was answered `no_memory` has changed nothing: without it, the other lines
-# have the same replies. The script has all commands but `decide` and `verify`, a `.htaccess`, rules, a map and a trail, and `stats` behind each line. Nothing is built here but a small library that refuses the allocation.
+# have the same replies. The script has all commands, a `.htaccess`, rules, a map and a trail, and `stats` behind each line. Nothing is
+# built here but a small library that refuses the allocations.
 source "$(dirname -- "$(readlink -f -- "$0")")/program.sh"
 
 cat > "$room/refuse.c" << 'C'
@@ -15,16 +20,22 @@ cat > "$room/refuse.c" << 'C'
 extern void *__libc_malloc(size_t), *__libc_realloc(void *, size_t);
 extern void *__libc_calloc(size_t, size_t), *__libc_memalign(size_t, size_t);
 
-static long calls, refused = -1;
+static long calls, refused = -1, also;
+
+static long number(const char *name)
+{
+    const char *at = getenv(name);
+    return at ? atol(at) : 0;
+}
 
 static int refuse(void)
 {
     if (refused < 0) {
-        const char *at = getenv("REFUSE_AT");
-        refused = at ? atol(at) : 0;
+        refused = number("REFUSE_AT");
+        also = number("REFUSE_ALSO");
     }
     calls++;
-    if (calls == refused) {
+    if (calls == refused || calls == also) {
         errno = ENOMEM;
         return 1;
     }
@@ -45,13 +56,14 @@ int posix_memalign(void **p, size_t a, size_t n)
 C
 gcc -O1 -shared -fPIC -o "$room/refuse.so" "$room/refuse.c"
 
-python3 - "$program" "$room/refuse.so" << 'PYTHON'
+python3 - "$program" "$room/refuse.so" "${2:-0}" << 'PYTHON'
 import collections
 import os
 import subprocess
 import sys
 
-PROGRAM, LIBRARY = sys.argv[1:]
+PROGRAM, LIBRARY = sys.argv[1:3]
+PAIRS = int(sys.argv[3])
 NO_MEMORY = '{"no_memory":true}'
 # So many runs in a row that lose nothing are taken for the end.
 QUIET = 5
@@ -92,6 +104,9 @@ nonsense
 {"do":"put","path":"/i/b.conf","text":"Redirect /t http://localhost/u\nRedirect permanent /u http://localhost/x/q\n"}
 {"do":"follow","target":"/t","hosts":[{"host":"localhost","port":80,"scheme":"http"}]}
 {"do":"follow","target":"/t","hosts":[{"host":"a","port":80,"scheme":"https"},{"host":"localhost","port":80,"scheme":"http"}]}
+{"do":"decide","claim":{"kind":"stops"},"scope":{"path":{"pattern":"^/x/q"}}}
+{"do":"decide","claim":{"kind":"guarded","target":{"pattern":"^/srv/x"},"file":"/srv/x/.htaccess","line":3},"scope":{"path":{"pattern":"^/x/q"}}}
+{"do":"verify","claim":{"kind":"stops"},"scope":{"path":{"pattern":"^/t"}},"cells":[]}
 {"do":"main","path":"/i/a.conf"}
 {"do":"ask","target":"/x"}
 {"do":"main","path":"/etc/httpd/conf/httpd.conf"}
@@ -101,9 +116,9 @@ nonsense
 SCRIPT = [line for command in SCRIPT for line in (command, '{"do":"stats"}')] + ['{"do":"end"}']
 
 
-def answers(lines, refused=0):
-    """The status and the replies of a run in which this allocation is refused."""
-    env = {"REFUSE_AT": str(refused), "LD_PRELOAD": LIBRARY} if refused else {}
+def answers(lines, refused=0, also=0):
+    """The status and the replies of a run in which these allocations are refused."""
+    env = {"REFUSE_AT": str(refused), "REFUSE_ALSO": str(also), "LD_PRELOAD": LIBRARY} if refused else {}
     text = "".join(line + "\n" for line in lines)
     done = subprocess.run([PROGRAM], input=text.encode(), capture_output=True, env={**os.environ, **env})
     return done.returncode, done.stdout.decode().splitlines()
@@ -122,15 +137,24 @@ def fault_of(status, replies):
     return (None if same else "a line without memory changed something"), f"{lost} lines lost"
 
 
-counts, at, quiet = collections.Counter(), 0, 0
+def tried(at, also=0):
+    """What came of a run in which these are refused; ends where something is wrong."""
+    fault, kind = fault_of(*answers(SCRIPT, at, also))
+    if fault:
+        sys.exit(f"FAIL  allocations {at} and {also}: {fault}" if also else f"FAIL  allocation {at}: {fault}")
+    return kind
+
+
+counts, pairs, at, quiet = collections.Counter(), 0, 0, 0
 while quiet < QUIET:
     at += 1
-    fault, kind = fault_of(*answers(SCRIPT, at))
-    if fault:
-        sys.exit(f"FAIL  allocation {at}: {fault}")
+    kind = tried(at)
     counts[kind] += 1
     quiet = quiet + 1 if kind == "0 lines lost" else 0
+    for behind in range(1, PAIRS + 1):
+        tried(at, at + behind)
+        pairs += 1
 for kind, count in sorted(counts.items()):
     print(f"{count:>5} runs: {kind}")
-print(f"PASS  {at} allocations refused, one a run")
+print(f"PASS  {at} allocations refused, one a run" + (f"; {pairs} pairs" if PAIRS else ""))
 PYTHON
