@@ -2,6 +2,9 @@
 
 hc itself decides what a line does; this finds out which questions to ask. Included files, `Define`, `IfDefine` and
 `IfModule` are followed; sections other than those of folders are only told apart.
+
+hc takes some modules for present that nothing loads. Ports are another matter: one that a module alone opens is asked
+for only where httpd would open it, so a section has both views.
 """
 
 import fnmatch
@@ -25,6 +28,10 @@ STANDARD = (
     b"so alias rewrite authz_core authz_host dir mime log_config headers expires setenvif env deflate filter"
     b" autoindex negotiation status ssl unixd"
 ).split()
+MODULE_FILE = re.compile(rb"(?:mod_)?([A-Za-z0-9_]+)\.c")
+MODULE = re.compile(rb"[A-Za-z0-9_]+_module")
+# The modules that are there wherever one is loaded.
+BUILT_IN = (b"core_module", b"so_module")
 
 Place = Tuple[bytes, int]
 
@@ -34,7 +41,7 @@ Place = Tuple[bytes, int]
 
 @dataclass(eq=False)
 class Host:
-    """The main server, which has no place, or a virtual host."""
+    """The main server, which has no place, or a virtual host; `closed` is why httpd passes over its section."""
 
     place: Optional[Place]
     addresses: List[Tuple[bytes, int]] = field(default_factory=list)
@@ -44,6 +51,7 @@ class Host:
     maps: List[Tuple[bytes, bytes]] = field(default_factory=list)
     is_secure: bool = False
     inherits: bool = False
+    closed: str = ""
 
     def names(self):
         """Its names without wildcards, each once."""
@@ -100,14 +108,26 @@ class Rule:
 
 
 @dataclass
+class Port:
+    """What a `Listen` opens, and why httpd passes over it where a section does."""
+
+    place: Place
+    address: bytes
+    port: int
+    is_secure: bool = False
+    closed: str = ""
+
+
+@dataclass
 class Found:
-    """What the texts of a world name."""
+    """What the texts of a world name. Ports that are closed are those that hc's view of modules would open."""
 
     main: Host = field(default_factory=lambda: Host(None))
     hosts: List[Host] = field(default_factory=list)
     guards: List[Guard] = field(default_factory=list)
     rules: List[Rule] = field(default_factory=list)
     ports: List[Tuple[bytes, int, bool]] = field(default_factory=list)
+    closed_ports: List[Port] = field(default_factory=list)
     files: List[bytes] = field(default_factory=list)
     redirects: bool = False
     is_cut: bool = False
@@ -165,11 +185,16 @@ def logical_lines(text):
 
 @dataclass
 class Section:
-    """An opening: its name in lower case, its words and its place."""
+    """An opening: its name in lower case, its words and its place.
+
+    `is_kept` is whether hc looks at what stands in it; `closed` is why httpd doesn't, or empty.
+    """
 
     name: bytes
     words: List[bytes]
     place: Place
+    is_kept: bool = True
+    closed: str = ""
 
 
 def _opening(line, place):
@@ -184,7 +209,10 @@ class Reader:
     def __init__(self, world):
         self.world = world
         self.found = Found()
-        self._defines, self._modules, self._root = {}, set(), None
+        self._defines, self._root = {}, None
+        # What is loaded in hc's view and in httpd's, whether anything is, and what `Listen` lines say in either.
+        self._modules, self._loaded, self._loads = set(), set(), False
+        self._listens = []
         self._folders = None
         self._host_of = {}
         self._left = MOST_LINES
@@ -195,9 +223,20 @@ class Reader:
         for path in self.world.files.paths():
             if path.endswith(b"/.htaccess"):
                 self._text(path, (Section(b".htaccess", [], (path, 0)),), ())
-        if not self.found.ports:
-            self.found.ports = [(b"*", 80, False)]
+        self._tell_ports()
         return self.found
+
+    def _tell_ports(self):
+        """Tells the ports that are open from those that aren't. Where nothing is loaded, modules are built in."""
+        for host in self.found.hosts:
+            host.closed = host.closed if self._loads else ""
+        for port, is_kept in self._listens:
+            is_open = not port.closed if self._loads else is_kept
+            if is_open:
+                self.found.ports.append((port.address, port.port, port.is_secure))
+            elif is_kept:
+                self.found.closed_ports.append(port)
+        self.found.ports = self.found.ports or [(b"*", 80, False)]
 
     # ---- files
 
@@ -208,7 +247,7 @@ class Reader:
         self._text(path, sections, (*chain, path))
 
     def _text(self, path, sections, chain):
-        stack, dropped = list(sections), 0
+        stack = list(sections)
         for number, line in logical_lines(self.world.files.text(path) or b""):
             self._left -= 1
             if self._left < 0:
@@ -216,18 +255,11 @@ class Reader:
                 return
             line = self._with_values(line)
             if line.startswith(b"</"):
-                if dropped:
-                    dropped -= 1
-                elif len(stack) > len(sections):
+                if len(stack) > len(sections):
                     stack.pop()
             elif line.startswith(b"<"):
-                opening = None if dropped else _opening(line, (path, number))
-                if dropped or not self._keeps(opening):
-                    dropped += 1
-                else:
-                    self._opens(opening)
-                    stack.append(opening)
-            elif not dropped:
+                stack.append(self._entered(stack, _opening(line, (path, number))))
+            else:
                 self._directive((path, number), line, stack, chain)
 
     def _with_values(self, line):
@@ -236,18 +268,39 @@ class Reader:
 
         return VARIABLE.sub(value, line) if b"${" in line else line
 
+    def _entered(self, stack, opening):
+        """An opening within others, in both views."""
+        is_kept = self._keeps(opening)
+        opening.is_kept = _is_kept(stack) and is_kept
+        opening.closed = _closed_in(stack) or self._why_closed(opening, is_kept)
+        if opening.is_kept:
+            self._opens(opening)
+        return opening
+
     def _keeps(self, opening):
         if opening.name not in (b"ifdefine", b"ifmodule"):
             return True
-        word = opening.words[0] if opening.words else b""
-        name = word[1:] if word.startswith(b"!") else word
+        name, is_reversed = _tested(opening)
         there = name in (self._defines if opening.name == b"ifdefine" else self._modules)
-        return (there or opening.name == b"ifmodule" and _is_standard(name)) != word.startswith(b"!")
+        return (there or opening.name == b"ifmodule" and _is_standard(name)) != is_reversed
+
+    def _why_closed(self, opening, is_kept):
+        """Why httpd passes over a section; empty where it doesn't, as far as LoadModule lines tell."""
+        word, is_reversed = _tested(opening)
+        file = MODULE_FILE.fullmatch(word)
+        name = file[1] + b"_module" if file else word
+        if opening.name != b"ifmodule" or not MODULE.fullmatch(name):
+            return "" if is_kept else "its section doesn't count"
+        is_loaded = name in self._loaded or name in BUILT_IN
+        if is_loaded != is_reversed:
+            return ""
+        named = name.decode("ascii")
+        return f"`{named}` is loaded" if is_loaded else f"nothing loads `{named}` before it"
 
     def _opens(self, opening):
         if opening.name != b"virtualhost":
             return
-        host = self._host_of[opening.place] = Host(opening.place)
+        host = self._host_of[opening.place] = Host(opening.place, closed=opening.closed)
         for word in opening.words:
             address, _, port = word.rpartition(b":")
             if _is_port(port):
@@ -260,7 +313,7 @@ class Reader:
     def _directive(self, place, line, stack, chain):
         name = re.split(rb"[ \t]", line, maxsplit=1)[0].lower()
         act = DIRECTIVES.get(name)
-        if act:
+        if act and (_is_kept(stack) or name in IN_BOTH_VIEWS):
             given = [word for word, _ in words(line, name in REWRITING)][1:]
             act(self, place, given, stack, chain)
 
@@ -272,8 +325,10 @@ class Reader:
         if given:
             self._defines[given[0]] = given[1] if len(given) > 1 else b""
 
-    def _load(self, _place, given, _stack, _chain):
-        self._modules.update(given[:1])
+    def _load(self, _place, given, stack, _chain):
+        self._loads = True
+        self._modules.update(given[:1] if _is_kept(stack) else ())
+        self._loaded.update(given[:1] if not _closed_in(stack) else ())
 
     def _server_root(self, _place, given, _stack, _chain):
         self._root = given[0] if given else self._root
@@ -337,11 +392,13 @@ class Reader:
         if given and not _folders_of(stack):
             self._of_server(stack).inherits = True
 
-    def _listen(self, _place, given, _stack, _chain):
+    def _listen(self, place, given, stack, _chain):
         address, _, port = given[0].rpartition(b":") if given else (b"", b"", b"")
         if _is_port(port) and (not address or _is_address(address)):
             address = b"*" if address in (b"", b"0.0.0.0") else address
-            self.found.ports.append((address, int(port), given[1:2] == [b"https"] or port == b"443"))
+            is_secure = given[1:2] == [b"https"] or port == b"443"
+            opened = Port(place, address, int(port), is_secure, _closed_in(stack))
+            self._listens.append((opened, _is_kept(stack)))
 
     def _require(self, place, given, stack, _chain):
         folder, reason = _folder_of(stack)
@@ -367,6 +424,21 @@ DIRECTIVES = {
     b"redirect": Reader._redirect, b"redirectmatch": Reader._redirect, b"redirectpermanent": Reader._redirect,
     b"redirecttemp": Reader._redirect,
 }
+IN_BOTH_VIEWS = (b"listen", b"loadmodule")
+
+
+def _is_kept(stack):
+    return not stack or stack[-1].is_kept
+
+
+def _closed_in(stack):
+    return stack[-1].closed if stack else ""
+
+
+def _tested(opening):
+    """What an `IfDefine` or an `IfModule` asks for, and whether it asks for its absence."""
+    word = opening.words[0] if opening.words else b""
+    return (word[1:], True) if word.startswith(b"!") else (word, False)
 
 
 def _is_port(word):

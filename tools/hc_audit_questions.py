@@ -71,9 +71,17 @@ class Servers:
         named = self._at.get((server, port)) or self._at.get((b"*", port))
         return named.host_of(name) if named else self.found.main
 
+    def listens(self, address, port):
+        """Whether the server listens at a port of an address, which may be any."""
+        return any(port == number and (b"*" in (address, at) or address == at) for at, number, _ in self.found.ports)
+
+    def addresses(self, host):
+        """The addresses of a host: where httpd passes over its section, those at which the server listens."""
+        return [pair for pair in host.addresses if not host.closed or self.listens(*pair)]
+
     def pairs(self):
         """Each address and port, those of the hosts first."""
-        given = [pair for host in self.found.hosts for pair in host.addresses]
+        given = [pair for host in self.found.hosts for pair in self.addresses(host)]
         given += [(address, port) for address, port, _ in self.found.ports]
         return list(dict.fromkeys((SERVER if address == b"*" else address, port) for address, port in given))
 
@@ -118,7 +126,7 @@ def scopes_of(found, only=()):
 def _own_scopes(servers):
     main = servers.found.main
     wanted = [(main, [(address, port) for address, port, _ in servers.found.ports])]
-    wanted += [(host, host.addresses) for host in servers.found.hosts]
+    wanted += [(host, servers.addresses(host)) for host in servers.found.hosts]
     made = []
     for host, pairs in wanted:
         names = [name for name in host.names() if HOST_FORM.fullmatch(name)] or [b"localhost"]
@@ -310,6 +318,17 @@ class Planner:
         self._order = {scope: at for at, scope in enumerate(self.scopes)}
         for scope in self.scopes:
             self._of_host.setdefault(scope.host, []).append(scope)
+        self._skip_ports()
+
+    def _skip_ports(self):
+        """Says which ports aren't asked for, since httpd passes over the lines that name them."""
+        asked = {(scope.server, scope.port) for scope in self.scopes}
+        closed = [(port.place, port.address, port.port, port.closed) for port in self.found.closed_ports]
+        closed += [(host.place, *pair, host.closed) for host in self.found.hosts if host.closed
+                   for pair in host.addresses]
+        for place, address, port, reason in closed:
+            if (SERVER if address == b"*" else address, port) not in asked:
+                self._skip(place, f"its port {port} isn't asked for, since {reason}")
 
     def plan(self, most, first_number):
         """The questions, at most so many; the first one has that number in the script."""

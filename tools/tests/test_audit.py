@@ -147,6 +147,78 @@ class Hosts(Case):
         self.assertIsNotNone(questions_of([put(MAIN, odd), put("/.htaccess", odd), listed("/.htx")]))
 
 
+PORTS = """\
+Listen 80
+<IfModule ssl_module>
+Listen 443
+</IfModule>
+<IfModule mod_gnutls.c>
+Listen 443
+</IfModule>
+"""
+UNLOADED = "its port 443 isn't asked for, since nothing loads `ssl_module` before it"
+
+
+class Ports(Case):
+    """Ports that are opened for a module alone."""
+
+    def asked(self, text, *others, only=()):
+        """The URLs that are asked for, and the lines of the main file of which nothing is, with the reasons."""
+        plan = questions_of([put(MAIN, text), *others], only=only)
+        return [scope.url() for scope in plan.scopes], [(place[1], reason) for place, reason in plan.skipped]
+
+    def test_each(self):
+        both, plain_one = ["http://localhost", "https://localhost"], ["http://localhost"]
+        for front, urls, line in (
+            ("", both, None),
+            ("LoadModule dir_module m.so\n", plain_one, 4),
+            ("LoadModule ssl_module m.so\n", both, None),
+            ("loadmodule gnutls_module m.so\n", both, None),
+            ("LoadModule dir_module m.so\n<IfModule !mod_ssl.c>\nLoadModule ssl_module m.so\n</IfModule>\n", both,
+             None),
+            ("<IfModule !mod_so.c>\nLoadModule ssl_module m.so\n</IfModule>\n", plain_one, 6),
+            ("<IfDefine S>\nLoadModule ssl_module m.so\n</IfDefine>\n", plain_one, 6),
+        ):
+            with self.subTest(front):
+                self.assertEqual(self.asked(front + PORTS), (urls, [(line, UNLOADED)] if line else []))
+        self.assertEqual(self.asked(PORTS + "LoadModule ssl_module m.so\n"), (plain_one, [(3, UNLOADED)]))
+
+    def test_names_of_modules(self):
+        for loaded, word, is_open in (
+            ("ssl", "mod_ssl.c", True), ("ssl", "ssl_module", True), ("ssl", "!mod_ssl.c", False),
+            ("ssl", "!ssl_module", False), ("dir", "mod_ssl.c", False), ("dir", "!mod_ssl.c", True),
+            ("dir", "core.c", True), ("dir", "core_module", True), ("dir", "mod_so.c", True),
+            ("dir", "so_module", True), ("dir", "!core.c", False), ("dir", "xmod_dir.c", False),
+            ("php5", "!mod_php5.c", False), ("dir", "!mod_php5.c", True),
+            ("mpm_event", "event.c", False), ("mpm_event", "!event.c", True), ("dir", "", False),
+        ):
+            with self.subTest(word, loaded=loaded):
+                text = f"LoadModule {loaded}_module m.so\nListen 80\n<IfModule {word}>\nListen 81\n</IfModule>\n"
+                self.assertEqual("http://localhost:81" in self.asked(text)[0], is_open)
+        text = "LoadModule php5_module m.so\nListen 80\n<IfModule !mod_php5.c>\nListen 81\n</IfModule>\n"
+        told = "its port 81 isn't asked for, since `php5_module` is loaded"
+        self.assertEqual(self.asked(text), (["http://localhost"], [(4, told)]))
+
+    def test_sections_within_and_included_files(self):
+        text = ("LoadModule dir_module m.so\nListen 80\n<IfModule mod_ssl.c>\n<IfModule mod_dir.c>\nInclude /p\n"
+                "</IfModule>\n</IfModule>\n<IfModule mod_dir.c>\nListen 81\n</IfModule>\n")
+        urls, told = self.asked(text, put("/p", "Listen 443\n"))
+        self.assertEqual((urls, told), (["http://localhost", "http://localhost:81"], [(1, UNLOADED)]))
+
+    def test_hosts(self):
+        front = "LoadModule dir_module m.so\n"
+        host = "<IfModule mod_ssl.c>\n%s<VirtualHost *:443>\nServerName s\n</VirtualHost>\n</IfModule>\nListen 80\n"
+        self.assertEqual(self.asked(host % "Listen 443\n"), (["http://localhost", "https://s"], []))
+        self.assertEqual(self.asked(front + host % "Listen 443\n"),
+                         (["http://localhost"], [(3, UNLOADED), (4, UNLOADED)]))
+        self.assertEqual(self.asked(front + host % "Listen 443\n", only=[b"s"]),
+                         (["http://s"], [(3, UNLOADED), (4, UNLOADED)]))
+        # Where the port is open without the module, or a host without it has the port, nothing is left out.
+        self.assertEqual(self.asked(front + host % "" + "Listen 443\n"), (["http://localhost", "https://s"], []))
+        self.assertEqual(self.asked(front + PORTS + "<VirtualHost *:443>\nServerName v\n</VirtualHost>\n"),
+                         (["http://localhost", "https://v"], []))
+
+
 GUARDS = """\
 DocumentRoot /srv
 <Directory "/srv/a/">
@@ -576,6 +648,16 @@ class Findings(Folder):
         self.assertEqual(status, 0, out)
         self.assertIn("1 RewriteRule in use", out)
 
+    def test_a_port_that_is_left_out(self):
+        text = "LoadModule dir_module m.so\nDocumentRoot /srv\n" + PORTS
+        for more in ((), ("--html",)):
+            status, out, _ = self.audit(self.fake(CHECKED, PROVED), [put(MAIN, text)], *more)
+            self.assertEqual(status, 0)
+            out = self.assert_page(out).text if more else out
+            told = [":5: " + UNLOADED.replace("`", ""), "of 1 line nothing is said."]
+            self.assert_in_each(["each request to http://localhost ends", *told], out)
+            self.assertNotIn("https://", out)
+
     def test_a_place_that_is_not_there(self):
         gone = json.dumps({"refused": refusal(48, "NoSuchPlace")})
         status, out, _ = self.audit(self.fake(CHECKED, ["shadowed", gone], ["guarded", gone], PROVED), CALM)
@@ -721,6 +803,18 @@ class Real(Folder):
         status, out, _ = self.real([put(MAIN, text)], "--host", "a.org")
         self.assertEqual(status, 1)
         self.assertIn("matches for no request to http://a.org.", out)
+
+    def test_a_port_of_a_module_that_is_not_loaded(self):
+        text = ("LoadModule dir_module m.so\n%s" + PORTS + "<Directory />\nRequire all denied\n</Directory>\n"
+                "<Directory /var/www>\nRequire all granted\n</Directory>\n<VirtualHost *:80>\n"
+                "DocumentRoot /var/www/html\n</VirtualHost>\n")
+        files = [listed("/var/www/html/index.html")]
+        status, out, _ = self.real([put(MAIN, text % ""), *files])
+        self.assertEqual(status, 0, out)
+        self.assert_in_each(["each request to http://localhost ends", "conf:4: its port 443 isn't asked for"], out)
+        status, out, _ = self.real([put(MAIN, text % "LoadModule ssl_module m.so\n"), *files])
+        self.assertEqual(status, 1)
+        self.assert_in_each(["Outside: GET https://localhost/", "(no root)", "Findings: 2 outside.\n"], out)
 
     def test_escapes(self):
         names = ["a.b", "c+[d]", "e$^(f)", "g{1}|h", "i*?", "j\\\\k", "é", "l m"]
