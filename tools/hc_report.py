@@ -13,15 +13,15 @@ adds entries of its own builds them with `say`, through which every text from ou
 
 from hc_report_files import Files, commands
 from hc_report_html import html_page as _html_page
-from hc_report_parts import Entry, Quote, Sentence, Shell, Step, Steps
+from hc_report_parts import Entry, Quote, ScriptLine, Sentence, Shell, Step, Steps
 from hc_report_print import TextPrinter
 from hc_report_replies import curl_parts, entry_of, unanswered, unasked
 from hc_report_texts import Code, counted, plain, printed, say, shown
 from hc_report_words import EDITS, IN_ORDER, KINDS
 
 __all__ = [
-    "Code", "Entry", "Files", "KINDS", "Quote", "Sentence", "Shell", "Step", "Steps", "Tally", "TextPrinter",
-    "curl_parts", "entries", "entry_of", "html_page", "plain", "print_text", "printed", "say", "shown",
+    "Code", "Entry", "Files", "KINDS", "Quote", "ScriptLine", "Sentence", "Shell", "Step", "Steps", "Tally",
+    "TextPrinter", "curl_parts", "entries", "entry_of", "html_page", "plain", "print_text", "printed", "say", "shown",
 ]
 
 

@@ -16,6 +16,13 @@ SEARCH = re.compile(rb"[=!]~\s*/")
 GLOB = re.compile(rb"[*?\[]")
 OPENING = re.compile(rb"<\s*([^\s>]*)")
 
+LONGEST_EDIT = 65536
+# Without these a request passes, or a rule applies, that wouldn't.
+NEVER_LEFT_OUT = (
+    b"require", b"order", b"allow", b"deny", b"satisfy", b"sslrequire", b"sslrequiressl", b"sslverifyclient",
+    b"rewritecond",
+)
+
 
 # ---- commands
 
@@ -120,16 +127,34 @@ class Files:
         text = self._texts.get(path)
         return b"".join(text) if isinstance(text, list) else text
 
-    def line(self, path, number):
-        """The logical line that begins at a line, without its joins and the blanks around it; None if there is none."""
+    def physical(self, path, number):
+        """The physical lines of the logical line that begins at a line; none if there is none."""
         pieces = self._pieces_of(path)
         if pieces is None or not 1 <= number <= len(pieces):
-            return None
+            return []
         end = number
         while end < len(pieces) and pieces[end - 1].endswith(b"\\\n"):
             end += 1
-        joined = [piece[:-2] for piece in pieces[number - 1 : end - 1]] + [pieces[end - 1]]
-        return b"".join(joined).rstrip(b"\r\n").strip(b" \t")
+        return pieces[number - 1 : end]
+
+    def line(self, path, number):
+        """The logical line that begins at a line, without its joins and the blanks around it; None if there is none."""
+        *joined, last = self.physical(path, number) or [None]
+        if last is None:
+            return None
+        return b"".join([piece[:-2] for piece in joined] + [last]).rstrip(b"\r\n").strip(b" \t")
+
+    def line_before(self, path, number):
+        """The last logical line before a line that is neither empty nor a comment; empty if there is none."""
+        pieces = self._pieces_of(path) or []
+        while number > 1:
+            number -= 1
+            while number > 1 and pieces[number - 2].endswith(b"\\\n"):
+                number -= 1
+            line = self.line(path, number)
+            if line and not line.startswith(b"#"):
+                return line
+        return b""
 
 
 # ---- quotes
@@ -162,6 +187,36 @@ def quote_of_refusal(files, path, line, code, at):
     found = files.line(path, line) if files and line else None
     byte = byte_of_pattern(found, at) if found is not None and code in PATTERN_CODES else None
     return quote(files, path, line) if byte is None else marked(place_shown(path, line), found, byte)
+
+
+# ---- a line that is left out
+
+
+def edit_without(files, path, number):
+    """The command that makes a comment of a directive, as a line of JSON; None where it can't go alone."""
+    pieces, line = files.physical(path, number), files.line(path, number)
+    if not line or not _may_go(files, path, number, line):
+        return None
+    try:
+        name, text = path.decode("utf-8"), b"".join([b"# ", *pieces]).decode("utf-8")
+    except UnicodeDecodeError:
+        return None
+    fields = {"do": "edit", "path": name, "from": number, "to": number + len(pieces) - 1, "text": text}
+    written = json.dumps(fields, separators=(",", ":")).replace("\x7f", "\\u007f")
+    return written if len(written) <= LONGEST_EDIT else None
+
+
+def _may_go(files, path, number, line):
+    """Whether a line is a directive without which no section loses an end and no other rule gets its conditions."""
+    name = _name_of(line)
+    if name[:1] in b"<#" or b"${" in name or name in NEVER_LEFT_OUT:
+        return False
+    return name != b"rewriterule" or _name_of(files.line_before(path, number)) != b"rewritecond"
+
+
+def _name_of(line):
+    """The name of a directive in lower case; empty where there is none."""
+    return line.split(None, 1)[0].lower() if line.split() else b""
 
 
 # ---- the byte of a pattern
@@ -227,7 +282,7 @@ def _pattern_word(line):
         found = words(line[first : end if end >= first else len(line)])
         found = [(text, [place + first for place in places]) for text, places in found]
         return _of_section(opening[1].lower(), found)
-    name = line.split(None, 1)[0].lower() if line.split() else b""
+    name = _name_of(line)
     return _of_directive(name, words(line, name.startswith(b"rewrite"))[1:])
 
 

@@ -2,7 +2,7 @@
 
 from html import escape
 
-from hc_report_parts import Quote, Sentence, Shell, Steps
+from hc_report_parts import Quote, ScriptLine, Sentence, Shell, Steps
 from hc_report_texts import Code, counted, printed
 from hc_report_words import EDITS, GRADE_NAMES, IN_ORDER, KINDS
 
@@ -124,11 +124,11 @@ def _steps(part):
     return f'<p class="title">{_words(part.title)}</p>\n<ol>\n{items}\n</ol>{more}'
 
 
-def _shell(part):
+def _to_copy(part):
     return f'<p class="title">{_words(part.title)}</p>\n<pre>{escape(part.line)}</pre>'
 
 
-PARTS = {Sentence: _sentence, Quote: _quote, Steps: _steps, Shell: _shell}
+PARTS = {Sentence: _sentence, Quote: _quote, Steps: _steps, Shell: _to_copy, ScriptLine: _to_copy}
 
 
 # ---- entries

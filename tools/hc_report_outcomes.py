@@ -2,11 +2,11 @@
 
 import http
 
-from hc_report_files import marked, place_shown, quote_of_refusal
+from hc_report_files import edit_without, marked, place_shown, quote_of_refusal
 from hc_report_forms import Unknown, fields_of, read_words, true_of
-from hc_report_parts import Sentence
+from hc_report_parts import ScriptLine, Sentence
 from hc_report_texts import Code, data_of, printed, say, undo
-from hc_report_words import LIMITS, MEANING, OUTSIDE, REFUSALS, STATUSES
+from hc_report_words import LEAVE_OUT, LEFT_OUT, LIMITS, MEANING, OUTSIDE, REFUSALS, STATUSES
 
 DEEPEST = 64
 
@@ -25,7 +25,7 @@ def do(template, *values):
 
 
 def refusal_parts(asked, refusal):
-    """A refusal in words, and its parts: the line, what is refused there, and what to do."""
+    """A refusal in words, and its parts: the line, what is refused there, what to do, and an edit that does it."""
     at, code, field, file, line, name = fields_of(refusal, at=int, code=int, field=str, file=str, line=int, name=str)
     path, field = undo(file), undo(field)
     words = say("{} ({})", Code(printed(name)), Code(str(code)))
@@ -37,7 +37,9 @@ def refusal_parts(asked, refusal):
     if known != name:
         return words, [*parts, means("This report knows no refusal of this code and name.")]
     byte = say(", at byte {} of it (counted from 0)", at) if code in (13, 14, 16) else ()
-    return words, [*parts, Sentence(say(what) + byte + (".",), "means"), do(advice)]
+    edit = edit_without(asked.files, path, line) if file and asked.files and code in LEFT_OUT else None
+    parts += [Sentence(say(what) + byte + (".",), "means"), do(advice)]
+    return words, parts + ([ScriptLine(say(LEAVE_OUT), edit)] if edit else [])
 
 
 def _patterns(value, found, depth=0):

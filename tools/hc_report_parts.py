@@ -53,7 +53,15 @@ class Shell:
     line: str
 
 
-Part = Union[Sentence, Quote, Steps, Shell]
+@dataclass
+class ScriptLine:
+    """A line to copy into a script, under a title."""
+
+    title: Words
+    line: str
+
+
+Part = Union[Sentence, Quote, Steps, Shell, ScriptLine]
 
 
 @dataclass

@@ -1,6 +1,6 @@
 """Entries as text for a terminal or a file."""
 
-from hc_report_parts import Quote, Sentence, Shell, Steps
+from hc_report_parts import Quote, ScriptLine, Sentence, Shell, Steps
 from hc_report_texts import Code, columns
 from hc_report_words import BROKEN, GRAVE, IN_ORDER, NOTE, OPEN, UNKNOWN
 
@@ -39,7 +39,7 @@ class TextPrinter:
             return [front + self.words(part.words)]
         if isinstance(part, Quote):
             return self._quote(part)
-        if isinstance(part, Shell):
+        if isinstance(part, (Shell, ScriptLine)):
             return [self.words(part.title), INDENT + part.line]
         return self._steps(part) if isinstance(part, Steps) else []
 

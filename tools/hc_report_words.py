@@ -392,6 +392,10 @@ REFUSALS = {
     ),
 }
 
+# Those of a directive that hc doesn't know or doesn't follow, without which a configuration may be read.
+LEFT_OUT = (1, 13, 18, 19)
+LEAVE_OUT = "To go on without it, where it changes no answer that you ask for, put this line before the question:"
+
 # ---- audits
 
 SERVED_MEANING = "Files whose names begin with `.ht` hold passwords and rules; the client gets this one as it is."

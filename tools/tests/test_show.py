@@ -23,6 +23,7 @@ sys.dont_write_bytecode = True
 TOOLS = pathlib.Path(__file__).resolve().parent.parent
 TOP = TOOLS.parent
 SHOW = str(TOOLS / "show")
+HC = os.environ.get("HC")
 sys.path.insert(0, str(TOOLS))
 
 import hc_report  # noqa: E402
@@ -425,6 +426,119 @@ class Refusals(Case):
         self.assertIn(f"{MAIN}:1  A\n", text)
         self.assertIn(f"{MAIN}:1  B\n", text)
         self.assertIn("3 questions: 3 refused.", text)
+
+
+# ---- refused directives that may be left out
+
+LEAVE_OUT = "To go on without it, where it changes no answer that you ask for, put this line before the question:"
+
+
+def edit_in(text):
+    """The edit that is printed for a refused line, or None."""
+    lines = [line.strip() for line in text.split("\n")]
+    return json.loads(lines[lines.index(LEAVE_OUT) + 1]) if LEAVE_OUT in lines else None
+
+
+class LeftOut(Case):
+    """A directive that hc doesn't know is refused with the edit that comments it out."""
+
+    def hint(self, text, line=1, code=1, path="/c", more=()):
+        """The edit that is printed where a line of a text is refused."""
+        reply = {"refused": refusal(code, REFUSALS[code][0], file=shown_bytes(path.encode()), line=line)}
+        script = [put(path, text), *more, {"do": "check"}]
+        return edit_in(text_of([{"done": edit["do"]} for edit in script[:-1]] + [reply], script))
+
+    def test_the_edit(self):
+        for text, line, last, wanted in (
+            ("Foo on\nBar\n", 1, 1, "# Foo on\n"), ("Bar\n\tFoo \"a\\b\" é\r\n", 2, 2, "# \tFoo \"a\\b\" é\r\n"),
+            ("Foo", 1, 1, "# Foo"), ("a\nFoo \\\n  b \\\n\nBar\n", 2, 4, "# Foo \\\n  b \\\n\n"),
+            ("Foo \\\nb", 1, 2, "# Foo \\\nb"), ("Foo \\", 1, 1, "# Foo \\"), ("Foo \\\n", 1, 1, "# Foo \\\n"),
+        ):
+            with self.subTest(text):
+                edit = {"do": "edit", "path": "/é \"c", "from": line, "to": last, "text": wanted}
+                self.assertEqual(self.hint(text, line, path="/é \"c"), edit)
+                self.assertIsNone(self.hint("# one\n" + text, line + 9))
+
+    def test_edits_before_it_are_followed(self):
+        more = [{"do": "edit", "path": "/c", "from": 1, "to": 1, "text": "Bar\nFoo on\n"}]
+        self.assertEqual(self.hint("a\nb\n", 2, more=more)["text"], "# Foo on\n")
+        self.assertIsNone(self.hint("a\n", 1, more=[{"do": "drop", "path": "/c"}]))
+
+    def test_codes(self):
+        hinted = [code for code in REFUSALS if self.hint("Foo on\n", code=code)]
+        self.assertEqual(hinted, [1, 13, 18, 19])
+
+    def test_lines_that_may_not_go_alone(self):
+        for text, line in (
+            ("<Limit GET>\n</Limit>\n", 1), (" <Proxy *>\n", 1), ("</x>\n", 1), ("Require user a\n", 1),
+            ("deny from all\n", 1), ("Order allow,deny\n", 1), ("SSLRequireSSL\n", 1), ("RewriteCond a b [X]\n", 1),
+            ("${X} a\n", 1), ("RewriteCond a b\n# c\n\nRewriteRule a b [P]\n", 4), ("# a\n", 1), ("\n", 1),
+            ("RewriteCond a \\\n b\nREWRITERULE a b [P]\n", 3),
+        ):
+            with self.subTest(text):
+                self.assertIsNone(self.hint(text, line))
+        for text, line in (("RewriteRule a b [P]\n", 1), ("RewriteCond a b\nRewriteRule a b\nRewriteRule a b [P]\n", 3),
+                           ("# x \\\nRewriteCond a b\nRewriteRule a b [P]\n", 3)):
+            with self.subTest(text):
+                self.assertTrue(self.hint(text, line))
+
+    def test_where_it_stands(self):
+        reply = {"refused": refusal(1, "UnsupportedDirective", file="/c", line=1)}
+        script = [put("/c", "Foo </pre>\x7f&\n"), {"do": "check"}, {"do": "check"}]
+        text = text_of([{"done": "put"}, reply, reply], script)
+        self.assert_safe(text)
+        self.assertEqual(text.count(LEAVE_OUT), 1)
+        self.assertEqual(edit_in(text)["text"], "# Foo </pre>\x7f&\n")
+        self.assertLess(text.index("To do: "), text.index(LEAVE_OUT))
+        found = self.assert_page(page_of([{"done": "put"}, reply], script))
+        self.assertIn('{"do":"edit","path":"/c","from":1,"to":1,"text":"# Foo </pre>\\u007f&\\n"}', found.text)
+        self.assertNotIn(LEAVE_OUT, text_of([{"done": "put"}, reply]))
+        reply = {"outcome": {"ht_refused": refusal(1, "UnsupportedDirective", file="/c", line=1)}}
+        self.assertIn(LEAVE_OUT, text_of([{"done": "put"}, reply], [script[0], {"do": "ask", "target": "/"}]))
+
+    def test_texts_that_no_line_can_have(self):
+        self.assertIsNone(self.hint("Foo " + "x" * 100000 + "\n"))
+        for path, text in (("/c", "Foo \ud800\n"), ("/\ud800", "Foo\n")):
+            reply = {"refused": refusal(1, "UnsupportedDirective", file=path, line=1)}
+            self.assertIsNone(edit_in(text_of([{"done": "put"}, reply], [put(path, text), {"do": "check"}])))
+
+
+@unittest.skipUnless(HC, "HC names no program")
+class LeftOutOfHc(Case):
+    """With hc: the refusal is gone behind the edit, and the line behind it is looked at."""
+
+    def replies(self, script):
+        ran = subprocess.run([HC], input=lines_of(script), capture_output=True, timeout=120, check=True)
+        return [json.loads(line) for line in ran.stdout.splitlines()]
+
+    def test_the_refusal_is_gone(self):
+        check = {"do": "check"}
+        for text, place in (
+            ("DocumentRoot /srv\n%s", MAIN), ("DocumentRoot /srv\n<IfModule mod_ssl.c>\n%s</IfModule>\n", MAIN),
+            ("DocumentRoot /srv\n<Directory /srv>\nAllowOverride All\n</Directory>\n", "/srv/.htaccess"),
+        ):
+            for line in ("\tFoo \"é\\x\" on\r\n", "Foo \\\n  # b \\\n\tc\n", "Foo a\\\n\n", "RewriteRule a b [P]\n",
+                         "RedirectMatch ^/(?=a) /b\n", "RewriteRule a %{NO_SUCH}\n"):
+                with self.subTest(text + line):
+                    self.left_out(text, place, line, check)
+
+    def left_out(self, text, place, line, check):
+        """Two refused lines, one behind the other: each is left out by the edit that is printed for it."""
+        asked = {"do": "ask", "target": "/f"} if place != MAIN else check
+        main = [put(MAIN, text % (line * 2) if place == MAIN else text)]
+        script = main + ([put(place, line * 2)] if place != MAIN else [])
+        script.append({"do": "list", "path": "/srv/f", "kind": "file"})
+        numbers = []
+        for _ in range(2):
+            replies = self.replies([*script, asked])
+            edit = edit_in(text_of(replies, [*script, asked]))
+            self.assertIsNotNone(edit, replies[-1])
+            numbers.append(edit["from"])
+            script.append(edit)
+        self.assertEqual(numbers[1] - numbers[0], line.count("\n"))
+        replies = self.replies([*script, asked])
+        self.assertEqual(replies[-2], {"done": "edit"})
+        self.assertTrue({"config", "outcome"} & set(replies[-1]) and "refused" not in str(replies[-1]), replies[-1])
 
 
 # ---- places
