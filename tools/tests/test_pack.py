@@ -12,6 +12,7 @@ import json
 import os
 import pty
 import re
+import resource
 import shutil
 import socket
 import subprocess
@@ -23,6 +24,12 @@ import unittest
 TOP = os.path.dirname(os.path.dirname(os.path.dirname(os.path.abspath(__file__))))
 PACK = os.path.join(TOP, "tools", "pack")
 HC = os.environ.get("HC")
+MILLION = 1000000
+LITTLE_MEMORY = 512 << 20
+
+
+def in_little_memory():
+    resource.setrlimit(resource.RLIMIT_AS, (LITTLE_MEMORY, LITTLE_MEMORY))
 
 
 def load():
@@ -701,6 +708,20 @@ RewriteMap g txt:TOP/maps/latin.txt
         self.assert_told(told, "1 text and 20000 names handed in, 0 links followed")
         self.assertEqual(status, 0)
         self.assert_hc([{"config": {"hosts": 0}}])
+
+    def test_a_million_files(self):
+        """In one folder, in bounded time and memory."""
+        self.folder("www/many")
+        folder = os.open(self.at("www/many"), os.O_RDONLY)
+        for n in range(MILLION):
+            os.mknod("%d" % n, 0o600, dir_fd=folder)
+        os.close(folder)
+        with open(self.at("lines"), "wb") as lines:
+            done = subprocess.run([sys.executable, PACK, *self.words()], stdout=lines, stderr=subprocess.PIPE,
+                                  timeout=120, preexec_fn=in_little_memory)
+        self.assertEqual(done.returncode, 0, done.stderr)
+        with open(self.at("lines"), "rb") as lines:
+            self.assertEqual(sum(1 for _ in lines), MILLION + 2)
 
     def test_many_links(self):
         self.put("www/x")
