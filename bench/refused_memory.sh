@@ -9,8 +9,9 @@
 #
 # A run in which one allocation is refused either ends with status 5 and nothing written, or answers
 # each line; and a line that was answered `no_memory` has changed nothing: without it, the other lines
-# have the same replies. The script has all commands, a `.htaccess`, rules, a map and a trail, and `stats` behind each line. Nothing is
-# built here but a small library that refuses the allocations.
+# have the same replies. One script has claims (one in 211 of its allocations is refused), the other all other commands,
+# a `.htaccess`, rules, a map and a trail; `stats` stands behind each line. Nothing is built here but a small library
+# that refuses the allocations.
 source "$(dirname -- "$(readlink -f -- "$0")")/program.sh"
 
 cat > "$room/refuse.c" << 'C'
@@ -104,16 +105,27 @@ nonsense
 {"do":"put","path":"/i/b.conf","text":"Redirect /t http://localhost/u\nRedirect permanent /u http://localhost/x/q\n"}
 {"do":"follow","target":"/t","hosts":[{"host":"localhost","port":80,"scheme":"http"}]}
 {"do":"follow","target":"/t","hosts":[{"host":"a","port":80,"scheme":"https"},{"host":"localhost","port":80,"scheme":"http"}]}
-{"do":"decide","claim":{"kind":"stops"},"scope":{"path":{"pattern":"^/x/q"}}}
-{"do":"decide","claim":{"kind":"guarded","target":{"pattern":"^/srv/x"},"file":"/srv/x/.htaccess","line":3},"scope":{"path":{"pattern":"^/x/q"}}}
-{"do":"verify","claim":{"kind":"stops"},"scope":{"path":{"pattern":"^/t"}},"cells":[]}
 {"do":"main","path":"/i/a.conf"}
 {"do":"ask","target":"/x"}
 {"do":"main","path":"/etc/httpd/conf/httpd.conf"}
 {"do":"ask","target":"/x/q/z/f"}
 """.strip().splitlines()
-# what is counted shows behind each line
-SCRIPT = [line for command in SCRIPT for line in (command, '{"do":"stats"}')] + ['{"do":"end"}']
+# Claims allocate far more: of theirs, one in STEP is refused.
+STEP = 211
+CLAIMS = r"""
+{"do":"put","path":"/etc/httpd/conf/httpd.conf","text":"DocumentRoot /srv\nRewriteEngine On\nRewriteRule ^/o$ /x/k [L]\n<Location /x>\nRequire ip 10.0.0.0/8\n</Location>\n"}
+{"do":"put","path":"/srv/x/k","text":""}
+{"do":"decide","claim":{"kind":"stops"},"scope":{"path":{"pattern":"^/o$"}}}
+{"do":"decide","claim":{"kind":"guarded","target":{"pattern":"^/srv/x"},"file":"/etc/httpd/conf/httpd.conf","line":5},"scope":{"path":{"pattern":"^/(o|y)$"}}}
+{"do":"decide","claim":{"kind":"shadowed","file":"/etc/httpd/conf/httpd.conf","line":3},"scope":{"path":{"pattern":"^/x/k$"}}}
+{"do":"verify","claim":{"kind":"stops"},"scope":{"path":{"pattern":"^/a$"}},"cells":[{"at":"pass","rank":0,"slots":{"path":{"pattern":"^/a$"}}},{"at":"server","rank":0,"slots":{"text":{"pattern":"^/a$"}}}]}
+{"do":"ask","target":"/o"}
+""".strip().splitlines()
+
+
+def with_stats(commands):
+    """What is counted shows behind each line."""
+    return [line for command in commands for line in (command, '{"do":"stats"}')] + ['{"do":"end"}']
 
 
 def answers(lines, refused=0, also=0):
@@ -124,37 +136,44 @@ def answers(lines, refused=0, also=0):
     return done.returncode, done.stdout.decode().splitlines()
 
 
-def fault_of(status, replies):
-    """What is wrong with a run, and how many lines found no memory."""
+def fault_of(script, status, replies):
+    """What is wrong with a run of a script, and how many lines found no memory."""
     if status == 5:
         return (None if not replies else "status 5, and something was written"), "status 5"
-    if status != 0 or len(replies) != len(SCRIPT):
+    if status != 0 or len(replies) != len(script):
         return f"status {status}, {len(replies)} replies", "broken"
-    kept = [line for line, reply in zip(SCRIPT, replies) if reply != NO_MEMORY]
+    kept = [line for line, reply in zip(script, replies) if reply != NO_MEMORY]
     others = [reply for reply in replies if reply != NO_MEMORY]
-    lost = len(SCRIPT) - len(kept)
+    lost = len(script) - len(kept)
     same = answers(kept)[1] == others
     return (None if same else "a line without memory changed something"), f"{lost} lines lost"
 
 
-def tried(at, also=0):
+def tried(script, at, also=0):
     """What came of a run in which these are refused; ends where something is wrong."""
-    fault, kind = fault_of(*answers(SCRIPT, at, also))
+    fault, kind = fault_of(script, *answers(script, at, also))
     if fault:
         sys.exit(f"FAIL  allocations {at} and {also}: {fault}" if also else f"FAIL  allocation {at}: {fault}")
     return kind
 
 
-counts, pairs, at, quiet = collections.Counter(), 0, 0, 0
-while quiet < QUIET:
-    at += 1
-    kind = tried(at)
-    counts[kind] += 1
-    quiet = quiet + 1 if kind == "0 lines lost" else 0
-    for behind in range(1, PAIRS + 1):
-        tried(at, at + behind)
-        pairs += 1
-for kind, count in sorted(counts.items()):
-    print(f"{count:>5} runs: {kind}")
-print(f"PASS  {at} allocations refused, one a run" + (f"; {pairs} pairs" if PAIRS else ""))
+def refused_in_turn(name, commands, step):
+    """Refuses one in `step` of the allocations of a script, each in a run of its own, and tells what came of it."""
+    script = with_stats(commands)
+    counts, pairs, at, quiet = collections.Counter(), 0, 1, 0
+    while quiet < QUIET:
+        kind = tried(script, at)
+        counts[kind] += 1
+        quiet = quiet + 1 if kind == "0 lines lost" else 0
+        for behind in range(1, PAIRS + 1):
+            tried(script, at, at + behind)
+            pairs += 1
+        at += step
+    for kind, count in sorted(counts.items()):
+        print(f"{count:>5} runs: {kind}")
+    print(f"PASS  {name}: {counts.total()} allocations refused, one a run" + (f"; {pairs} pairs" if PAIRS else ""), flush=True)
+
+
+refused_in_turn("claims", CLAIMS, STEP)
+refused_in_turn("the other commands", SCRIPT, 1)
 PYTHON
