@@ -1,0 +1,10 @@
+mod Editing
+mod Ending
+mod Cutting
+mod Joins
+mod Keeping
+mod Pieces
+mod Spanning
+mod Touching
+mod Trimming
+mod Walking

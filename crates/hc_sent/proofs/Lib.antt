@@ -1,0 +1,16 @@
+pub mod Behind
+pub mod Chaining
+pub mod Doing
+pub mod Joining
+pub mod Leaving
+pub mod MadeSets
+pub mod Meeting
+pub mod Places
+pub mod ReadFronts
+pub mod ReadMarks
+pub mod ReadParts
+pub mod Reading
+pub mod SentParts
+pub mod Slashing
+pub mod Spots
+pub mod Texts

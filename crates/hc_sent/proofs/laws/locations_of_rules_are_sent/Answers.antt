@@ -1,0 +1,6 @@
+use Rattle.hc_sent.proofs.SentParts.{each_ruled_is_sent}
+use Rattle.hc_sent.proofs.laws.locations_of_rules_are_sent.Goals as goal
+
+-- src/laws.rt
+pub returns : goal.returns
+returns c = each_ruled_is_sent

@@ -1,0 +1,10 @@
+pub mod Deeds
+pub mod Joints
+pub mod Making
+pub mod Origins
+pub mod Parts
+pub mod Reading
+pub mod Sets
+pub mod Sites
+pub mod Targets
+pub mod Ways
