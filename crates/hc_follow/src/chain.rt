@@ -41,6 +41,7 @@ pub fn follow<O: Overrides, L: Ledger>(
     requires over { Lends O.reading O.size (O.fixed over.old) world.now.files config.now }
     ensures chain { IfOk result (IsChain world.now.files config.now hosts.now request.now) }
     ensures evals { IfOk result (λ chain. evals.new ≡ evals.old + chain.steps + 1) }
+    ensures grows { evals.old ≤ evals.new }
     ensures most { evals.new ≤ evals.old + 21 }
     ensures over { Returns O.fixed O.loaded over }
 {

@@ -8,5 +8,5 @@ mod next;
 mod origin;
 
 pub use chain::{Chain, MOST_STEPS, follow};
-pub use next::{Next, Stop, next_request};
+pub use next::{Next, SEE_OTHER, Stop, next_request};
 pub use origin::Origin;
