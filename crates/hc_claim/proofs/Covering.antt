@@ -155,7 +155,7 @@ sites_same config one other same =
 
 -- ---- the run of a request
 
-target_read : (scope : Scope) (to : TargetRead) → reads_within scope to ≡ true
+pub target_read : (scope : Scope) (to : TargetRead) → reads_within scope to ≡ true
     → (path : List ℕ) × (query : List ℕ) × (to ≡ Path path query)
 target_read scope (Path path query) is = (path, query, refl)
 target_read scope Bad400 is = absurd (false≢true is)
@@ -169,19 +169,19 @@ over_before first way next end is = ap (λ way. on_way first way next) is
 
 module _ (asked : Asked) (request : Request) (is : is_of_scope asked.scope request ≡ true) (path query : List ℕ)
     (is_read : read request.target ≡ Path path query) where
-  abbrev shown : Shown
+  abbrev pub shown : Shown
   shown = shown_by asked.world
 
   abbrev pub site : Site
   site = site_at asked.config (asked_of asked.config request) request
 
-  abbrev begun : Restarted
+  abbrev pub begun : Restarted
   begun = followed_by None (first_of path query)
 
-  abbrev passed : Run Ended Restarted
+  abbrev pub passed : Run Ended Restarted
   passed = run (passes (most_passes site.config site.host) site begun) shown
 
-  whole_is : whole_run asked.world asked.config request
+  pub whole_is : whole_run asked.world asked.config request
       ≡ saying (event.Host (server_at asked.config site.host).place) passed
   unfolding way opened host_of host_told passes_of passes_at first_pass run ◌>>=◌ ending
   whole_is = rw is_read refl
@@ -221,7 +221,7 @@ module _ (asked : Asked) (request : Request) (is : is_of_scope asked.scope reque
   abbrev pub way_of : ℕ → Run Ended Cut
   way_of count = way_from site shown count (begun_at (first_of path query) None)
 
-  in_segments : (ended : Ended) → passed.way ≡ is_over ended
+  pub in_segments : (ended : Ended) → passed.way ≡ is_over ended
       → (count : ℕ) × (way_of count ≡ record { events = passed.events; reads = passed.reads; way = is_over ended })
   in_segments ended over =
       let count = passes_are_segments site shown (most_passes site.config site.host) begun in (

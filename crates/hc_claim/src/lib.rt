@@ -23,3 +23,4 @@ pub use deciding::{MOST_STATES, decide, tests_of};
 pub use ending::{is_bound_left, is_left_outside, is_ruled_outside, serves};
 pub use judging::{has_match, may_name};
 pub use question::Question;
+pub use walking::tree_of;

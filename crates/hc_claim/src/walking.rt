@@ -52,7 +52,7 @@ fn keep(is: bool, leaf: Leaf, bad: &mut Vec<Leaf>) -> Result<(), NoMemory>
 }
 
 /// The tree; without leaves where a slot has no text.
-fn tree_of(alloc: Global, tied: Tied) -> Result<Tree, NoMemory>
+pub fn tree_of(alloc: Global, tied: Tied) -> Result<Tree, NoMemory>
     ensures { IfOk result (BeginsUnder tied) }
 {
     if is_empty(alloc, &tied.cell)? {
