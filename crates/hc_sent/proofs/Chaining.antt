@@ -4,6 +4,10 @@ use Rattle.std.proofs.Common.{append_assoc, sym, ◌∙◌, ap, subst}
 use Rattle.std.proofs.lemmas.List.{drop_all, drop_more, take_all, take_more}
 use Rattle.hc_pat_lang.specs.Fragments.{Exists}
 
+pub one_taken : {X : Type 0} (xs : List X) (i : ℕ) (x : X) → i < length xs → x ≡ get_or xs i x
+    → take (i + 1) xs ≡ take i xs ++ x ∷ []
+one_taken xs i x below at = take_more xs i x below ∙ ap (λ y. take i xs ++ y ∷ []) (sym at)
+
 module _ {X Y : Type 0} (R : List X → List X → List Y → Type 0) where
   -- What holds of the items that are left, and what is found for them, holds of all behind what was found.
   abbrev pub GoesOn : List X → ℕ → List Y → Type 0
@@ -16,12 +20,10 @@ module _ {X Y : Type 0} (R : List X → List X → List Y → Type 0) where
   further xs i x found own below at put goes more rest =
       let after : drop i xs ≡ x ∷ drop (i + 1) xs =
       drop_more xs i x below ∙ ap (λ y. y ∷ drop (i + 1) xs) (sym at) in
-      let before : take (i + 1) xs ≡ take i xs ++ x ∷ [] =
-      take_more xs i x below ∙ ap (λ y. take i xs ++ y ∷ []) (sym at) in
       subst (R [] xs) (sym (append_assoc found own more))
       (goes (own ++ more)
       (subst (λ after. R (take i xs) after (own ++ more)) (sym after)
-      (put more (subst (λ before. R before (drop (i + 1) xs) more) before rest))))
+      (put more (subst (λ before. R before (drop (i + 1) xs) more) (one_taken xs i x below at) rest))))
 
   pub all_gone : (xs : List X) (i : ℕ) (found last : List Y) → length xs ≤ i → R xs [] last → GoesOn xs i found
       → R [] xs (found ++ last)

@@ -1,9 +1,9 @@
 -- The sets that the parts of a location have.
-use Rattle.std.proofs.Common.{◌≡◌, ◌∙◌, ℕ, ◌+◌, ◌↔◌, ◌⊎◌, List, [], ◌∷◌, ◌++◌, map, Bool, true, false, not, ◌&&◌, refl, sym}
-use Rattle.std.proofs.Common.{ap, subst, inl, inr, IsTrue, take}
+use Rattle.std.proofs.Common.{◌≡◌, ◌∙◌, ℕ, ◌+◌, ◌↔◌, ◌⊎◌, List, [], ◌∷◌, ◌++◌, map, Bool, true, false, not}
+use Rattle.std.proofs.Common.{refl, sym, subst, inl, inr, IsTrue, take}
 use Rattle.std.proofs.lemmas.Bool.{and_from, and_parts, not-true, not_from_false}
 use Rattle.std.specs.Cmp.Lexicographic.{bytes_decides}
-use Rattle.std.specs.List.{AllZip, list_any}
+use Rattle.std.specs.List.{list_any}
 use Rattle.hc_alias.specs.Locations.{absolute}
 use Rattle.hc_base.specs.Bytes.{is_question}
 use Rattle.hc_base.specs.Paths.{begins_with_slash}
@@ -19,6 +19,7 @@ use Rattle.hc_model.specs.declared.template.Piece.{Piece}
 use Rattle.hc_pat_lang.specs.Sets.{AcceptsOnly, AreJoined}
 use Rattle.hc_rw_sets.proofs.Joins.{either_set, text_parts}
 use Rattle.hc_rw_sets.specs.Made.{MadeOf}
+use Rattle.hc_sent.proofs.Joining.{zip_push}
 use Rattle.hc_sent.specs.Making.{AreBytes, Asks, IsTarget, MayBe, MayFill, is_of_bytes}
 use Rattle.hc_sent.specs.Targets.{AreSetsOf, IsIfSome, MayAskBehind, fronted}
 
@@ -34,16 +35,9 @@ sole own made is text bytes = (
 -- A copy of a set.
 pub same_member : (set made : Automaton) → made ≡ set → AcceptsOnly (λ text. IsTrue (accepts set text)) made
 same_member set made same =
-    subst (λ own. AcceptsOnly (λ text. IsTrue (accepts set text)) own) (sym same) (λ text bytes. ((λ is. is), (λ is. is)))
+    subst (AcceptsOnly (λ text. IsTrue (accepts set text))) (sym same) (λ text bytes. ((λ is. is), (λ is. is)))
 
 -- ---- the pieces of a target
-
-zip_push : {A B : Type 0} (R : A → B → Type 0) (xs : List A) (ys : List B) (x : A) (y : B) → AllZip R xs ys → R x y
-    → AllZip R (xs ++ x ∷ []) (ys ++ y ∷ [])
-zip_push R [] [] x y are is = (is, tt)
-zip_push R [] (z ∷ ys) x y are is = absurd are
-zip_push R (z ∷ xs) [] x y are is = absurd are
-zip_push R (z ∷ xs) (w ∷ ys) x y are is = (are.0, zip_push R xs ys x y are.1 is)
 
 module _ (paths : TextSet) (from : PathTest) where
   pub sets_more : (pieces : List Piece) (at : ℕ) (piece : Piece) (sets : List Automaton) (set : Automaton)

@@ -1,5 +1,5 @@
 -- What comes of the locations that lead to one own server.
-use Rattle.std.proofs.Common.{◌≡◌, ℕ, ◌↔◌, inl, inr, List, [], ◌∷◌, ◌++◌, length, Bool, true, false, not, ◌==◌, ◌&&◌}
+use Rattle.std.proofs.Common.{◌≡◌, ℕ, ◌↔◌, inl, inr, List, [], ◌∷◌, ◌++◌, Bool, true, false, not, ◌==◌, ◌&&◌}
 use Rattle.std.proofs.Common.{Option, Some, None, if◌then◌else◌, arith, refl, sym, ◌∙◌, ap, subst}
 use Rattle.std.proofs.Common.{nat_lt, nat_le}
 use Rattle.std.proofs.lemmas.Bool.{and_parts, leb-true}
@@ -83,10 +83,6 @@ module _ (parts : List Part) (before : List Origin) (origin : Origin) where
       subst IsText (sym is.2) (slashed_text (before_first is_question is.0)
       (cut_text _ is.0 (rest_bytes parts before origin is.0 is.1)).0)
 
-  pub query_text : (query : List ℕ) → IsQuery parts before origin query → IsText query
-  query_text query is =
-      subst IsText (sym is.2) (cut_text _ is.0 (rest_bytes parts before origin is.0 is.1)).1
-
   -- Where bytes of the query may be escaped, and where not.
   pub asking_any : (targets : Automaton) → Accepts targets is_query → IsOpen parts before origin
       → AcceptsOnly (GoesAsking parts before origin) targets
@@ -142,10 +138,9 @@ module _ (parts : List Part) (before : List Origin) (origin : Origin) where
 
       no_fail : MayFail parts before origin → ⊥
       no_fail (inl path) = no_path path.0 path.1
-      no_fail (inr (inl query)) = none query.1.1.0 (query.1.1.1, (query.1.0, query.1.1.2))
-      no_fail (inr (inr (inl hides))) = no_part hides.0 hides.2.front hides.2.own hides.2.stands
-      no_fail (inr (inr (inr (inl stays)))) = no_part stays.0 stays.2.front stays.2.own stays.2.stands
-      no_fail (inr (inr (inr (inr high)))) = no_part high.0 high.1 high.2 high.3
+      no_fail (inr (inl hides)) = no_part hides.0 hides.2.front hides.2.own hides.2.stands
+      no_fail (inr (inr (inl stays))) = no_part stays.0 stays.2.front stays.2.own stays.2.stands
+      no_fail (inr (inr (inr high))) = no_part high.0 high.1 high.2 high.3
 
 -- ---- all servers
 
@@ -170,8 +165,7 @@ module _ (parts : List Part) (before : List Origin) where
 
   pub reached_by : (origin : Origin) (texts : Automaton) (found : Option Reach)
       → AcceptsOnly (LeadsTo parts before origin) texts
-      → IsWhere (HasText (accepts texts)) (reach.Own (length before)) found
-      → AreReachedBy parts before origin (option_to_list found)
+      → IsWhere (HasText (accepts texts)) reach.Own found → AreReachedBy parts before origin (option_to_list found)
   reached_by origin texts found of_texts = by found
     where
       some_rest : HasText (accepts texts) → (rest : List ℕ) × IsRest parts before origin rest
@@ -182,7 +176,7 @@ module _ (parts : List Part) (before : List Origin) where
       some_text rest is =
           let bytes = parts_text parts is.0 is.1 in (is.0, bytes, (of_texts is.0 bytes).1 (is.1, (rest, is.2)))
 
-      by : (found : Option Reach) → IsWhere (HasText (accepts texts)) (reach.Own (length before)) found
+      by : (found : Option Reach) → IsWhere (HasText (accepts texts)) reach.Own found
           → AreReachedBy parts before origin (option_to_list found)
       by None none = inr (λ rest is. none (some_text rest is), refl)
       by (Some own) is =

@@ -150,14 +150,19 @@ or_false : (v : Bool) → (v || false) ≡ v
 or_false true = refl
 or_false false = refl
 
-module _ (all : List Part) (before : List Origin) (origin : Origin) (host : list_all is_host_byte origin.host ≡ true)
-    (inside : HidesQuestion all before origin ⊎ (MayStay all before origin ⊎ IsHigh all before origin) → ⊥) where
+-- Nothing is outside, whatever the paths are.
+abbrev pub IsInside : List Part → List Origin → Origin → Type 0
+IsInside all before origin =
+    HidesQuestion all before origin ⊎ (MayStay all before origin ⊎ IsHigh all before origin) → ⊥
+
+module _ (all : List Part) (before : List Origin) (origin : Origin)
+    (host : list_all is_host_byte origin.host ≡ true) where
   abbrev Open : Type 0
   Open = IsOpen all before origin
 
   -- ---- one part
 
-  module _ (part : Part) (text : List ℕ) (of : IsOf part text) (front : List ℕ)
+  module _ (inside : IsInside all before origin) (part : Part) (text : List ℕ) (of : IsOf part text) (front : List ℕ)
       (stands : Stands all before origin part front (bare part.writing text)) where
     abbrev own : List ℕ
     own = bare part.writing text
@@ -282,8 +287,9 @@ module _ (all : List Part) (before : List Origin) (origin : Origin) (host : list
     pub marks : List Mark
     pub joined : Joined parts (bytes marks)
     pub written : writes marks ≡ location
-    pub fine : (earlier : List Part) (front rest : List ℕ) → all ≡ earlier ++ parts → Joined earlier front
-        → IsFirst before origin (front ++ bytes marks) rest → AreFine Open (has_question_byte front) marks
+    pub fine : IsInside all before origin → (earlier : List Part) (front rest : List ℕ) → all ≡ earlier ++ parts
+        → Joined earlier front → IsFirst before origin (front ++ bytes marks) rest
+        → AreFine Open (has_question_byte front) marks
 
   joined_more : (earlier : List Part) (front : List ℕ) (part : Part) (own : List ℕ) → IsOf part own
       → Joined earlier front → Joined (earlier ++ part ∷ []) (front ++ bare part.writing own)
@@ -300,7 +306,7 @@ module _ (all : List Part) (before : List Origin) (origin : Origin) (host : list
 
   pub marked : (parts : List Part) (location : List ℕ) → Sent parts location → IsMarked parts location
   marked [] location sent =
-      record { marks = []; joined = refl; written = sym sent; fine = λ earlier front rest split begins first. tt }
+      record { marks = []; joined = refl; written = sym sent; fine = λ inside earlier front rest split begins first. tt }
   marked (part ∷ parts) location sent =
       let text = bare part.writing sent.0 in
       let so = how part.writing sent.0 sent.1 sent.4 in
@@ -314,7 +320,7 @@ module _ (all : List Part) (before : List Origin) (origin : Origin) (host : list
         written = writes_append own more.marks
             ∙ ap₂ (λ one other. one ++ other) (marks_writes part.writing so.escapes sent.0 ∙ sym so.is) more.written
             ∙ sym sent.6;
-        fine = λ earlier front rest split begins first.
+        fine = λ inside earlier front rest split begins first.
             let same = ap (λ t. front ++ t) whole ∙ sym (append_assoc front text (bytes more.marks)) in
             let fits : IsFirst before origin ((front ++ text) ++ bytes more.marks) rest =
             subst (λ t. IsFirst before origin t rest) same first in
@@ -332,11 +338,11 @@ module _ (all : List Part) (before : List Origin) (origin : Origin) (host : list
               first = fits;
             } in
             fine_append Open (has_question_byte front) own more.marks
-            (part_fine part sent.0 sent.3 front stands so.escapes so.may)
+            (part_fine inside part sent.0 sent.3 front stands so.escapes so.may)
             (subst (λ v. AreFine Open v more.marks)
             (list_any-append is_question front text
             ∙ ap (λ t. has_question_byte front || has_question_byte t) (sym own_bytes))
-            (more.fine (earlier ++ part ∷ []) (front ++ text) rest
+            (more.fine inside (earlier ++ part ∷ []) (front ++ text) rest
             (split ∙ sym (append_assoc earlier (part ∷ []) parts))
             (joined_more earlier front part sent.0 sent.3 begins) fits));
       }

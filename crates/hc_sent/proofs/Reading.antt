@@ -1,4 +1,4 @@
--- What is sent is read as what is found of it.
+-- What is sent leads where it is found to lead, and is read there as what is found of it.
 use Rattle.std.proofs.Common.{◌≡◌, ℕ, ◌⊎◌, inl, inr, List, [], ◌∷◌, ◌++◌, length, Bool, true, false, refl, sym, ◌∙◌}
 use Rattle.std.proofs.Common.{ap, subst, arith, if◌then◌else◌, Option, Some, None, is_some, nat_le, ◌≤◌, take_all}
 use Rattle.std.proofs.lemmas.Bool.{and_parts, or_parts, true_from_ne_false}
@@ -13,14 +13,15 @@ use Rattle.hc_forms.specs.Forms.{is_host_byte, is_target_byte}
 use Rattle.hc_target.specs.Segments.{is_normal, is_plain}
 use Rattle.hc_target.specs.Targets.{found, read}
 use Rattle.hc_target.proofs.Normal.{normal_kept}
-use Rattle.hc_sent.specs.Reading.{AreReadBack, IsReadAs}
+use Rattle.hc_sent.specs.Parts.{Sent}
+use Rattle.hc_sent.specs.Reading.{AreLedOn, AreNamed, AreReadBack, IsReadAs}
 use Rattle.hc_sent.specs.Ways.{IsFirst, IsOpen, IsRest, MayAsk, fits_any, is_query}
 use Rattle.hc_sent.specs.declared.parts.Part.{Part}
 use Rattle.hc_sent.specs.declared.parts.TheConstants.{LONGEST_TARGET}
 use Rattle.hc_sent.proofs.ReadFronts.{begun, has_question_byte, none_in_front, one_front, weigh}
 use Rattle.hc_sent.proofs.ReadMarks.{AreFine, Mark, after, before as path_of, bytes, bytes_append, cut_slashed}
 use Rattle.hc_sent.proofs.ReadMarks.{encoded, fine_behind, first_ends, led, slashed_encoded, writes}
-use Rattle.hc_sent.proofs.ReadParts.{marked}
+use Rattle.hc_sent.proofs.ReadParts.{IsInside, marked}
 
 -- ---- the target
 
@@ -113,14 +114,23 @@ module _ (origin : Origin) (front rest bare : List ℕ) (weight_is : weigh front
       let parts = or_parts (is_some (behind other (front ++ rest))) _ none in
       rw (none_fits other names.0 parts.0, none_before before names.1 parts.1) refl
 
-pub read_back : AreReadBack
-read_back all before origin location rest named sent first inside short =
+-- What stands behind the origin in a location that is sent, as marks.
+record IsSentTo (all : List Part) (before : List Origin) (origin : Origin) (rest : List ℕ) : Type 0 where
+  marks : List Mark
+  written : writes marks ≡ rest
+  is_rest : IsRest all before origin (bytes marks)
+  fine : IsInside all before origin → AreFine (IsOpen all before origin) false marks
+
+sent_to : (all : List Part) (before : List Origin) (origin : Origin) (location rest : List ℕ)
+    → AreNamed (before ++ origin ∷ []) → Sent all location → IsFirst before origin location rest
+    → IsSentTo all before origin rest
+sent_to all before origin location rest named sent first =
     let names = and_parts (list_all (λ own. list_all is_host_byte own.host) before) _
     (sym (list_all-append (λ own. list_all is_host_byte own.host) before (origin ∷ [])) ∙ named) in
     let host = (and_parts (list_all is_host_byte origin.host) true names.1).0 in
     let h = begun origin location rest host first.1 in
     let light : weigh h.front ≤ 2 = omega (arith, h.weight_is) in
-    let sent_as = marked all before origin host (λ fails. inside (inr (inr fails))) all location sent in
+    let sent_as = marked all before origin host all location sent in
     let parts = led sent_as.marks h.front rest (sent_as.written ∙ h.is) light in
     let ends : ends_authority (writes parts.left) ≡ true = ap ends_authority parts.goes_on ∙ h.ends in
     let ended = first_ends parts.left ends in
@@ -132,15 +142,29 @@ read_back all before origin location rest named sent first inside short =
           (ap (fits_any before) (sym h.is) ∙ first.0),
       ap (behind origin) text ∙ h.again (bytes parts.left) ended,
     ) in
-    let is_rest : IsRest all before origin (bytes parts.left) = (bytes sent_as.marks, sent_as.joined, bare_first) in
     let Open = IsOpen all before origin in
-    let fine = fine_behind Open false parts.lead parts.left
-    (subst (AreFine Open false) parts.is (sent_as.fine [] [] (bytes parts.left) refl refl bare_first)) in
-    let path = slashed (path_of (bytes parts.left)) in
-    subst (IsReadAs all before origin) parts.goes_on
-    (read_as all before origin parts.left
-    (subst (λ v. AreFine Open v parts.left)
-    (ap has_question_byte parts.begins ∙ none_in_front h.front light) fine) is_rest
+    record {
+      marks = parts.left;
+      written = parts.goes_on;
+      is_rest = (bytes sent_as.marks, sent_as.joined, bare_first);
+      fine = λ inside.
+          subst (λ v. AreFine Open v parts.left)
+          (ap has_question_byte parts.begins ∙ none_in_front h.front light)
+          (fine_behind Open false parts.lead parts.left
+          (subst (AreFine Open false) parts.is
+          (sent_as.fine inside [] [] (bytes parts.left) refl refl bare_first)));
+    }
+
+pub led_on : AreLedOn
+led_on all before origin location rest named sent first =
+    let h = sent_to all before origin location rest named sent first in (bytes h.marks, h.is_rest)
+
+pub read_back : AreReadBack
+read_back all before origin location rest named sent first inside short =
+    let h = sent_to all before origin location rest named sent first in
+    let path = slashed (path_of (bytes h.marks)) in
+    subst (IsReadAs all before origin) h.written
+    (read_as all before origin h.marks (h.fine (λ fails. inside (inr fails))) h.is_rest
     (true_from_ne_false (is_normal path) (λ not_normal.
-    inside (inl (path, (bytes parts.left, is_rest, refl), not_normal))))
-    (subst (λ r. nat_le (length (target_in r)) LONGEST_TARGET ≡ true) (sym parts.goes_on) short))
+    inside (inl (path, (bytes h.marks, h.is_rest, refl), not_normal))))
+    (subst (λ r. nat_le (length (target_in r)) LONGEST_TARGET ≡ true) (sym h.written) short))

@@ -1,10 +1,10 @@
 -- What the parts of a location are sent as.
-use Rattle.std.proofs.Common.{◌≡◌, ◌∙◌, ℕ, ◌-◌, List, [], ◌∷◌, ◌++◌, length, Bool, true, false, Option, Some, None}
-use Rattle.std.proofs.Common.{refl, sym, ap, subst, inl, inr, append-nil, append_assoc}
+use Rattle.std.proofs.Common.{◌≡◌, ℕ, ◌-◌, List, [], ◌∷◌, ◌++◌, length, Bool, true, false, Option, Some, None}
+use Rattle.std.proofs.Common.{refl, sym, subst, inl, inr, append-nil, append_assoc}
 use Rattle.std.proofs.lemmas.List.{take-append-drop}
 use Rattle.std.proofs.Math.Dec.{eqb-suc-zero}
 use Rattle.std.specs.List.{list_any}
-use Rattle.std.specs.Prelude.{◌⊎◌, IsTrue, take, drop, option_map, if◌then◌else◌}
+use Rattle.std.specs.Prelude.{IsTrue, take, drop}
 use Rattle.std.specs.Str.{bytes_eq}
 use Rattle.hc_alias.specs.Filling.{filling_with}
 use Rattle.hc_alias.specs.Locations.{absolute}
@@ -27,12 +27,12 @@ use Rattle.hc_pat_lang.specs.Laws.{held_text}
 use Rattle.hc_pattern.specs.Pattern.{Pattern}
 use Rattle.hc_rw_eval.specs.Locations as rule
 use Rattle.hc_rw_sets.proofs.Joins.{joined_text, text_parts}
-use Rattle.hc_target.specs.Escapes.{escaped, escaped_byte, is_kept}
+use Rattle.hc_target.specs.Escapes.{escaped, is_kept}
 use Rattle.hc_template.specs.Filled.{filled, filled_piece}
 use Rattle.hc_template.specs.Variables.{origin}
 use Rattle.hc_ways.specs.Kept.{Held, first_match}
-use Rattle.hc_sent.specs.Making.{AreBytes, AreDirected, AreRuled, Asks, EachDirectedIsSent, EachRuledIsSent, Follows, IsPart}
-use Rattle.hc_sent.specs.Making.{IsTarget, MayBe, MayFill, MayHold, is_of_bytes, query_writing, text_writing}
+use Rattle.hc_sent.specs.Making.{AreBytes, Asks, EachDirectedIsSent, EachRuledIsSent, Follows}
+use Rattle.hc_sent.specs.Making.{IsPart, MayBe, MayFill, MayHold, is_of_bytes, query_writing, text_writing}
 use Rattle.hc_sent.specs.Parts.{IsOf, MayWrite, Sent, behind_question}
 use Rattle.hc_sent.specs.declared.parts.Part.{Part}
 use Rattle.hc_sent.specs.declared.parts.Writing.{Writing}
@@ -72,7 +72,8 @@ three_sent one two three a b c first second third = (
 
 -- ---- a rule
 
-text_written : (noescape : Bool) (text : List ℕ) → MayWrite (text_writing noescape) text (rule.unless_kept noescape text)
+text_written : (noescape : Bool) (text : List ℕ)
+    → MayWrite (text_writing noescape) text (rule.unless_kept noescape text)
 text_written true text = refl
 text_written false text = refl
 
@@ -205,7 +206,8 @@ absolute_text caller target front bytes = by_slash (begins_with_slash target) re
 -- The query as it is asked, and as it is written.
 asked_so : (paths : TextSet) (redirect : Redirect) (queries : TextSet) (target query : List ℕ) → IsText target
     → MayFill paths redirect.from redirect.to target → IsText query → IsTrue (queries query)
-    → (own : List ℕ) × IsText own × Asks paths redirect queries own × (alias.query_part target query ≡ behind_question own)
+    → (own : List ℕ) × IsText own × Asks paths redirect queries own
+    × (alias.query_part target query ≡ behind_question own)
 asked_so paths redirect queries target query target_bytes fill bytes asked =
     by_question (list_any is_question target) refl query bytes asked
   where

@@ -1,6 +1,6 @@
 -- The parts of the locations to which redirects lead, for all requests whose slots have texts of some sets.
 -- Apache manual, mod_alias, Redirect, RedirectMatch; mod_rewrite, "RewriteRule Flags": R, NE. Our own choice.
-use Rattle.std.specs.Prelude.{◌≡◌, ◌⊎◌, ℕ, List, [], ◌∷◌, ◌++◌, length, drop, Bool, true, false, IsTrue, Option, Some}
+use Rattle.std.specs.Prelude.{◌≡◌, ◌⊎◌, ℕ, List, [], ◌∷◌, ◌++◌, length, drop, Bool, true, false, IsTrue, Some}
 use Rattle.std.specs.List.{list_any}
 use Rattle.hc_alias.specs.Locations.{absolute}
 use Rattle.hc_alias.specs.Locations as alias
@@ -83,7 +83,8 @@ module _ (paths : TextSet) where
   -- The query is left out where the target has one.
   abbrev pub Asks : Redirect → TextSet → List ℕ → Type 0
   Asks redirect queries text = (own : List ℕ) × IsText own × MayFill redirect.from redirect.to own
-      × (((list_any is_question own ≡ false) × IsTrue (queries text)) ⊎ ((list_any is_question own ≡ true) × (text ≡ [])))
+      × (((list_any is_question own ≡ false) × IsTrue (queries text))
+      ⊎ ((list_any is_question own ≡ true) × (text ≡ [])))
 
 -- Bytes alone stand in a target.
 abbrev pub is_of_bytes : Piece → Type 0
@@ -97,7 +98,8 @@ AreBytes (piece ∷ pieces) = is_of_bytes piece × AreBytes pieces
 abbrev pub AreDirected : Caller → Redirect → TextSet → TextSet → List Part → Type 0
 AreDirected caller redirect paths queries parts = IsText (origin caller) × AreBytes redirect.to
     × AreThree (IsPart (IsTarget paths caller redirect) writing.AsIs)
-    (IsPart (Follows paths redirect.from) writing.Escaped) (IsPart (Asks paths redirect queries) writing.QueryAsIs) parts
+    (IsPart (Follows paths redirect.from) writing.Escaped) (IsPart (Asks paths redirect queries) writing.QueryAsIs)
+    parts
 
 -- ---- what is sent
 
@@ -112,5 +114,6 @@ EachRuledIsSent = (front : List ℕ) (noescape : Bool) (locations queries : Text
 abbrev pub EachDirectedIsSent : Type 0
 EachDirectedIsSent = (caller : Caller) (redirect : Redirect) (paths queries : TextSet) (parts : List Part)
     (path query : List ℕ) (found : Found) → AreDirected caller redirect paths queries parts
-    → IsText path → IsTrue (paths path) → IsText query → IsTrue (queries query) → found_by redirect.from path ≡ Some found
+    → IsText path → IsTrue (paths path) → IsText query → IsTrue (queries query)
+    → found_by redirect.from path ≡ Some found
     → Sent parts (alias.location caller redirect found query)

@@ -1,5 +1,5 @@
 -- What is known of the locations that lead to one own server.
-use Rattle.std.specs.Prelude.{◌≡◌, ℕ, IsTrue, List, [], ◌++◌, length, Bool, false, Option, None, Some}
+use Rattle.std.specs.Prelude.{◌≡◌, ℕ, IsTrue, List, [], ◌++◌, Bool, false, Option, None, Some}
 use Rattle.hc_dfa.specs.Built.{Accepts}
 use Rattle.hc_dfa.specs.Texts.{IsText, TextSet}
 use Rattle.hc_follow.specs.Next.{behind}
@@ -42,6 +42,7 @@ module _ (parts : List Part) (before : List Origin) (origin : Origin) where
   pub record IsSite (site : Site) : Type 0 where
     pub joints : AreJoints [] parts site.joints.now
     pub way : IsWay site.way.now
+    pub own : site.origin.now ≡ origin
 
   -- It goes on, with these paths and queries, or it doesn't.
   abbrev pub IsOnward : Option Led → Type 0
@@ -50,7 +51,7 @@ module _ (parts : List Part) (before : List Origin) (origin : Origin) where
 
   abbrev pub IsOutward : Option Led → Type 0
   IsOutward None = MayFail parts before origin → ⊥
-  IsOutward (Some found) = MayFail parts before origin × (found ≡ led.Outside (length before))
+  IsOutward (Some found) = MayFail parts before origin × (found ≡ led.Outside)
 
 abbrev pub OfServer : Type 1
 OfServer = List Part → List Origin → Origin → Type 0

@@ -1,11 +1,10 @@
 -- Which own servers a location leads to, and with which paths and queries. What is told of it is told before bytes are
 -- escaped. Our own choice.
-use Rattle.std.specs.Prelude.{◌≡◌, ◌≢◌, ◌⊎◌, ℕ, List, [], ◌∷◌, ◌++◌, length, Bool, true, false, not, IsTrue}
+use Rattle.std.specs.Prelude.{◌≡◌, ◌≢◌, ◌⊎◌, ℕ, List, [], ◌∷◌, ◌++◌, Bool, true, false, not}
 use Rattle.std.specs.Prelude.{nat_lt, Option, None, Some, is_some}
 use Rattle.std.specs.List.{after_first, before_first, list_all, list_any}
 use Rattle.hc_base.specs.Bytes.{is_question, tilde}
-use Rattle.hc_dfa.specs.Automata.{Automaton, accepts}
-use Rattle.hc_dfa.specs.Texts.{IsText}
+use Rattle.hc_dfa.specs.Automata.{Automaton}
 use Rattle.hc_follow.specs.Next.{behind, slashed}
 use Rattle.hc_follow.specs.declared.origin.Origin.{Origin}
 use Rattle.hc_forms.specs.Forms.{is_target_byte}
@@ -123,26 +122,24 @@ module _ (parts : List Part) (before : List Origin) (origin : Origin) where
   abbrev pub MayAsk : List ℕ → Type 0
   MayAsk query = (IsOpen × (is_query query ≡ true)) ⊎ IsQuery query
 
-  -- What may be outside: a path that isn't normal; a query that no target has; a `?` that is escaped; a byte of the
-  -- query that no target has, and that may stay as it is; such a byte of the path.
+  -- What may be outside: a path that isn't normal; a `?` that is escaped; a byte of the query that no target has, and
+  -- that may stay as it is, as all of them may where none may be escaped; such a byte of the path.
   abbrev pub HasPathByte : Type 0
   HasPathByte = (path : List ℕ) × IsPath path × (is_normal path ≡ false)
-
-  abbrev pub HasQueryByte : Type 0
-  HasQueryByte = (query : List ℕ) × IsQuery query × (IsOpen → ⊥) × (is_query query ≡ false)
 
   abbrev pub HidesQuestion : Type 0
   HidesQuestion = (part : Part) × (part.writing ≡ Escaped) × GivesQuestion part
 
   abbrev pub MayStay : Type 0
-  MayStay = (part : Part) × (may_stay part.writing ≡ true) × GivesQuery part × HasByte part (λ b. not (is_target_byte b))
+  MayStay = (part : Part) × (may_stay part.writing ≡ true) × GivesQuery part
+      × HasByte part (λ b. not (is_target_byte b))
 
   abbrev pub IsHigh : Type 0
   IsHigh = (part : Part) × (front : List ℕ) × (own : List ℕ) × Stands part front own × (part.writing ≡ AsIs)
       × HasByte part is_high
 
   abbrev pub MayFail : Type 0
-  MayFail = HasPathByte ⊎ (HasQueryByte ⊎ (HidesQuestion ⊎ (MayStay ⊎ IsHigh)))
+  MayFail = HasPathByte ⊎ (HidesQuestion ⊎ (MayStay ⊎ IsHigh))
 
   -- The path and the query of a next request, each by itself.
   abbrev pub GoesTo : List ℕ → Type 0
@@ -155,21 +152,21 @@ module _ (parts : List Part) (before : List Origin) (origin : Origin) where
   MayGo = ((path : List ℕ) × GoesTo path) × ((query : List ℕ) × GoesAsking query)
 
   abbrev pub IsOn : Led → Type 0
-  IsOn found = (paths : Automaton) × (queries : Automaton) × (found ≡ led.On (length before) paths queries)
+  IsOn found = (paths : Automaton) × (queries : Automaton) × (found ≡ led.On origin paths queries)
       × AcceptsOnly GoesTo paths × AcceptsOnly GoesAsking queries
 
   abbrev pub AreOn : List Led → Type 0
   AreOn found = ((one : Led) × MayGo × IsOn one × (found ≡ one ∷ [])) ⊎ ((MayGo → ⊥) × (found ≡ []))
 
   abbrev pub AreOutside : List Led → Type 0
-  AreOutside found = (MayFail × (found ≡ led.Outside (length before) ∷ [])) ⊎ ((MayFail → ⊥) × (found ≡ []))
+  AreOutside found = (MayFail × (found ≡ led.Outside ∷ [])) ⊎ ((MayFail → ⊥) × (found ≡ []))
 
   -- It goes on, and then it is outside.
   abbrev pub AreLedTo : List Led → Type 0
   AreLedTo found = (on : List Led) × (out : List Led) × (found ≡ on ++ out) × AreOn on × AreOutside out
 
   abbrev pub AreReachedBy : List Reach → Type 0
-  AreReachedBy found = ((rest : List ℕ) × IsRest rest × (found ≡ reach.Own (length before) ∷ []))
+  AreReachedBy found = ((rest : List ℕ) × IsRest rest × (found ≡ reach.Own ∷ []))
       ⊎ (((rest : List ℕ) → IsRest rest → ⊥) × (found ≡ []))
 
 -- ---- all servers

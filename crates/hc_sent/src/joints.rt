@@ -1,6 +1,5 @@
 //! The parts of a location, each among the others.
-ghost use Rattle.std.specs.Prelude.{◌≡◌, [], IfOk, not};
-ghost use Rattle.std.specs.List.{list_any};
+ghost use Rattle.std.specs.Prelude.{[], IfOk, not};
 ghost use Rattle.hc_dfa.specs.Automata.{accepts};
 ghost use Rattle.hc_dfa.specs.Built.{Accepts};
 ghost use Rattle.hc_forms.specs.Forms.{is_target_byte};

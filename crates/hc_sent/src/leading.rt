@@ -1,5 +1,5 @@
 //! Where a location leads.
-ghost use Rattle.std.specs.Prelude.{◌≡◌, [], IfOk, List, OnOk, length};
+ghost use Rattle.std.specs.Prelude.{[], IfOk, List, OnOk};
 ghost use Rattle.hc_pat_lang.specs.Sets.{AcceptsOnly};
 ghost use Rattle.hc_sent.specs.Joints.{AreJoints};
 ghost use Rattle.hc_sent.specs.Sites.{Adds, LeadsTo};
@@ -19,24 +19,22 @@ use std::alloc::Global;
 /// Where a location leads.
 #[derive(Drop)]
 pub enum Led {
-    /// To the own server of this number, with a path and a query of these sets, each by itself.
+    /// To this own server, with a path and a query of these sets, each by itself.
     On {
-        host: usize,
+        origin: Origin,
         paths: Dfa,
         queries: Dfa,
     },
-    /// To the own server of this number, where what comes may be outside.
-    Outside {
-        host: usize,
-    },
+    /// To an own server, where what comes may be outside.
+    Outside,
     /// To no own server.
     Away,
 }
 
-/// Which server a location leads to.
+/// Whether a location leads to an own server.
 #[derive(Clone, Copy)]
 pub enum Reach {
-    Own(usize),
+    Own,
     Away,
 }
 
@@ -47,28 +45,26 @@ pub fn leads(alloc: Global, hosts: &[Origin], parts: &[Part]) -> Result<Vec<Led>
     let joints = joints_of(alloc, parts)?;
     let mut left = joined(alloc, parts)?;
     let mut found = Vec::new(alloc);
-    for host in 0..hosts.len() {
-        let origin = &hosts[host];
+    for origin in hosts {
         let fits = fits(alloc, origin)?;
         let texts = kept(alloc, &left, &fits, Keep::Both)?;
-        add_led(alloc, &joints, origin, host, texts, &mut found)?;
+        add_led(alloc, &joints, origin, texts, &mut found)?;
         left = kept(alloc, &left, &fits, Keep::FirstOnly)?;
     }
     add(&mut found, where_any(alloc, &left, Led::Away)?)?;
     Ok(found)
 }
 
-/// The servers that it leads to.
+/// `Own` once for each own server that it leads to, and `Away` behind them.
 pub fn reached(alloc: Global, hosts: &[Origin], parts: &[Part]) -> Result<Vec<Reach>, NoMemory>
     ensures { IfOk result (λ found. AreReachedFrom parts.now [] hosts.now found.items) }
 {
     let mut left = joined(alloc, parts)?;
     let mut found = Vec::new(alloc);
-    for host in 0..hosts.len() {
-        let origin = &hosts[host];
+    for origin in hosts {
         let fits = fits(alloc, origin)?;
         let texts = kept(alloc, &left, &fits, Keep::Both)?;
-        add(&mut found, where_any(alloc, &texts, Reach::Own(host))?)?;
+        add(&mut found, where_any(alloc, &texts, Reach::Own)?)?;
         left = kept(alloc, &left, &fits, Keep::FirstOnly)?;
     }
     add(&mut found, where_any(alloc, &left, Reach::Away)?)?;
@@ -80,19 +76,22 @@ fn add_led(
     alloc: Global,
     joints: &[Joint],
     origin: &Origin,
-    host: usize,
     texts: Dfa,
     found: &mut Vec<Led>,
 ) -> Result<(), NoMemory>
     ensures { OnOk result ((parts : List Part) (before : List Origin) → AreJoints [] parts joints.now
-        → AcceptsOnly (LeadsTo parts before origin.now) texts → host ≡ length before
+        → AcceptsOnly (LeadsTo parts before origin.now) texts
         → Adds (AreLedTo parts before origin.now) found.old.items found.new.items) }
 {
     if !has_text(alloc, &texts)? {
         return Ok(());
     }
     let way = Way::new(alloc, origin, texts)?;
-    let site = Site { joints, way: &way };
-    site.add_led(alloc, host, found)?;
+    let site = Site {
+        joints,
+        way: &way,
+        origin,
+    };
+    site.add_led(alloc, found)?;
     Ok(())
 }

@@ -2,9 +2,11 @@
 //! which paths and queries the next request comes there (specs/Parts.antt, Ways.antt). Our own choice.
 //!
 //! `ruled_parts` and `redirect_parts` make the parts of a location, of a rule and of a redirect of a section; `leads`
-//! finds exactly what a location leads to, in the order of the servers; `reached` finds only which of them.
-//! `laws`: what is sent is one of the locations that the parts may be written as, and where nothing of it is outside,
-//! the own server that it leads to reads it as one of the paths and queries that `leads` finds.
+//! finds exactly what a location leads to, in the order of the servers; `reached` finds only whether it leads to own
+//! servers or away.
+//! `laws`: what is sent is one of the locations that the parts may be written as; it leads to an own server only where
+//! `reached` finds that, and where nothing of it is outside, that server reads it as one of the paths and queries that
+//! `leads` finds.
 #![tactic(auto)]
 
 mod bytes;

@@ -4,7 +4,7 @@ ghost use Rattle.hc_alias.specs.Locations.{absolute as absolute_target};
 ghost use Rattle.hc_dfa.specs.Automata.{accepts};
 ghost use Rattle.hc_pat_lang.specs.Sets.{AcceptsOnly};
 ghost use Rattle.hc_rw_sets.specs.Made.{MadeOf};
-ghost use Rattle.hc_sent.specs.Making.{AreDirected, AreRuled, Asks, Follows, IsTarget, MayBe, MayFill, MayHold};
+ghost use Rattle.hc_sent.specs.Making.{AreDirected, AreRuled, Follows, MayBe, MayFill, MayHold};
 ghost use Rattle.hc_sent.specs.Making.{AreBytes, is_of_bytes, query_writing, text_writing};
 ghost use Rattle.hc_sent.specs.Targets.{AreSetsOf, IsIfSome, MayAskBehind, fronted};
 ghost use Rattle.hc_sent.specs.declared.parts.Writing.TheVariants.{AsIs, Escaped, QueryAsIs};

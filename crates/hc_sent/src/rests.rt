@@ -1,5 +1,5 @@
 //! What stands behind an origin.
-ghost use Rattle.std.specs.Prelude.{◌≡◌, IfOk, [], ◌∷◌};
+ghost use Rattle.std.specs.Prelude.{IfOk};
 ghost use Rattle.std.proofs.Common.{rules};
 ghost use Rattle.hc_dfa.specs.Built.{Accepts};
 ghost use Rattle.hc_sent.specs.Sets.{is_place, is_rest, next_place};

@@ -1,9 +1,9 @@
 //! What comes of the locations that lead to one own server.
-ghost use Rattle.std.specs.Prelude.{◌≡◌, length, IfOk, OnOk};
+ghost use Rattle.std.specs.Prelude.{IfOk, OnOk};
 ghost use Rattle.hc_pat_lang.specs.Sets.{AcceptsOnly};
 ghost use Rattle.hc_sent.specs.Sites.{Adds, IsOnward, IsOutward, Knowing, Says, Whenever};
-ghost use Rattle.hc_sent.specs.Ways.{AreLedTo, GoesAsking, GoesTo, HasPathByte, HasQueryByte, HidesQuestion};
-ghost use Rattle.hc_sent.specs.Ways.{IsHigh, IsOpen, MayFail, MayStay};
+ghost use Rattle.hc_sent.specs.Ways.{AreLedTo, GoesAsking, GoesTo, HasPathByte, HidesQuestion, IsHigh, IsOpen};
+ghost use Rattle.hc_sent.specs.Ways.{MayFail, MayStay};
 
 use crate::bytes::{Bytes, texts_of};
 use crate::clean::normal_paths;
@@ -14,6 +14,7 @@ use crate::sets::{add, has_other, has_text, kept};
 use crate::ways::Way;
 use hc_base::NoMemory;
 use hc_dfa::{Dfa, Keep};
+use hc_follow::Origin;
 use std::alloc::Global;
 
 /// The parts of locations, and those that lead to one own server.
@@ -21,6 +22,7 @@ use std::alloc::Global;
 pub struct Site<'a> {
     pub joints: &'a [Joint],
     pub way: &'a Way,
+    pub origin: &'a Origin,
 }
 
 impl<'a> Site<'a> {
@@ -61,25 +63,11 @@ impl<'a> Site<'a> {
         Ok(has)
     }
 
-    fn has_query_byte(&self, alloc: Global, escapes: bool) -> Result<bool, NoMemory>
-        ensures { IfOk result (λ is. Knowing self.now escapes (Says HasQueryByte is)) }
-    {
-        if escapes {
-            return Ok(false);
-        }
-        let targets = texts_of(alloc, Bytes::Target)?;
-        let has = has_other(alloc, &self.way.queries, &targets)?;
-        Ok(has)
-    }
-
     /// Whether what comes may be outside.
-    fn may_fail(&self, alloc: Global, escapes: bool) -> Result<bool, NoMemory>
-        ensures { IfOk result (λ is. Knowing self.now escapes (Says MayFail is)) }
+    fn may_fail(&self, alloc: Global) -> Result<bool, NoMemory>
+        ensures { IfOk result (λ is. Whenever self.now (Says MayFail is)) }
     {
         if self.has_path_byte(alloc)? {
-            return Ok(true);
-        }
-        if self.has_query_byte(alloc, escapes)? {
             return Ok(true);
         }
         if self.hides_question(alloc)? {
@@ -116,9 +104,9 @@ impl<'a> Site<'a> {
     }
 
     /// Where a next request may come, what it leads to there.
-    fn onward(&self, alloc: Global, escapes: bool, host: usize) -> Result<Option<Led>, NoMemory>
+    fn onward(&self, alloc: Global, escapes: bool) -> Result<Option<Led>, NoMemory>
         ensures { IfOk result (λ found. Knowing self.now escapes
-            (λ parts before origin. host ≡ length before → IsOnward parts before origin found)) }
+            (λ parts before origin. IsOnward parts before origin found)) }
     {
         let paths = self.next_paths(alloc)?;
         if !has_text(alloc, &paths)? {
@@ -128,31 +116,32 @@ impl<'a> Site<'a> {
         if !has_text(alloc, &queries)? {
             return Ok(None);
         }
+        let origin = self.origin.clone()?;
         Ok(Some(Led::On {
-            host,
+            origin,
             paths,
             queries,
         }))
     }
 
-    fn outward(&self, alloc: Global, escapes: bool, host: usize) -> Result<Option<Led>, NoMemory>
-        ensures { IfOk result (λ found. Knowing self.now escapes
-            (λ parts before origin. host ≡ length before → IsOutward parts before origin found)) }
+    fn outward(&self, alloc: Global) -> Result<Option<Led>, NoMemory>
+        ensures { IfOk result (λ found. Whenever self.now
+            (λ parts before origin. IsOutward parts before origin found)) }
     {
-        if !self.may_fail(alloc, escapes)? {
+        if !self.may_fail(alloc)? {
             return Ok(None);
         }
-        Ok(Some(Led::Outside { host }))
+        Ok(Some(Led::Outside))
     }
 
-    /// Adds what they lead to at the server of this number.
-    pub fn add_led(&self, alloc: Global, host: usize, found: &mut Vec<Led>) -> Result<(), NoMemory>
-        ensures { OnOk result (Whenever self.now (λ parts before origin. host ≡ length before
-            → Adds (AreLedTo parts before origin) found.old.items found.new.items)) }
+    /// Adds what they lead to at the server.
+    pub fn add_led(&self, alloc: Global, found: &mut Vec<Led>) -> Result<(), NoMemory>
+        ensures { OnOk result (Whenever self.now
+            (λ parts before origin. Adds (AreLedTo parts before origin) found.old.items found.new.items)) }
     {
         let escapes = self.is_open(alloc)?;
-        add(found, self.onward(alloc, escapes, host)?)?;
-        add(found, self.outward(alloc, escapes, host)?)?;
+        add(found, self.onward(alloc, escapes)?)?;
+        add(found, self.outward(alloc)?)?;
         Ok(())
     }
 }

@@ -1,5 +1,5 @@
 //! The locations that lead to one own server.
-ghost use Rattle.std.specs.Prelude.{◌≡◌, IfOk, List, Some};
+ghost use Rattle.std.specs.Prelude.{IfOk, List};
 ghost use Rattle.hc_dfa.specs.Automata.{accepts};
 ghost use Rattle.hc_pat_lang.specs.Sets.{AcceptsOnly};
 ghost use Rattle.hc_sent.specs.Sites.{IsLeft, IsWay, LeadsTo};

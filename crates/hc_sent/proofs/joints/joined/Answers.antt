@@ -1,6 +1,7 @@
-use Rattle.std.proofs.Common.{◌∙◌, ◌++◌, ◌∷◌, [], ap, sym, subst, take}
-use Rattle.std.proofs.lemmas.List.{take_all, take_more}
+use Rattle.std.proofs.Common.{◌++◌, ◌∷◌, [], sym, subst, take}
+use Rattle.std.proofs.lemmas.List.{take_all}
 use Rattle.hc_pat_lang.specs.Sets.{AcceptsOnly}
+use Rattle.hc_sent.proofs.Chaining.{one_taken}
 use Rattle.hc_sent.proofs.Joining.{AreBare, all_joined, zip_push}
 use Rattle.hc_sent.specs.Joints.{IsBare}
 use Rattle.hc_sent.proofs.joints.joined.Goals as goal
@@ -10,8 +11,7 @@ loop-part-preserved c =
     let parts = c.args.parts.now in
     let at = c.loop-part.part-index in
     subst (λ front. AreBare front c.push.new.self.items)
-    (sym (take_more parts at c.part-item.result c.loop-part-test.true
-    ∙ ap (λ part. take at parts ++ part ∷ []) (sym c.part-item.is)))
+    (sym (one_taken parts at c.part-item.result c.loop-part-test.true c.part-item.is))
     (subst (AreBare (take at parts ++ c.part-item.result ∷ [])) (sym c.in_ok-push.ensures.items)
     (zip_push (λ part set. AcceptsOnly (IsBare part) set) (take at parts) c.loop-part.sets.items c.part-item.result
     c.in_ok-bare.field-0 c.loop-part.invariant c.in_ok-bare.ensures))

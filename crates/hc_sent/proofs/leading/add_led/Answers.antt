@@ -1,10 +1,10 @@
-use Rattle.std.proofs.Common.{append-nil, sym, []}
+use Rattle.std.proofs.Common.{append-nil, refl, sym, []}
 use Rattle.hc_sent.proofs.Meeting.{nothing_led}
 use Rattle.hc_sent.proofs.Texts.{parts_text}
 use Rattle.hc_sent.proofs.leading.add_led.Goals as goal
 
 pub returns-then-not-branch : goal.returns-then-not-branch
-returns-then-not-branch c parts before joints leads number =
+returns-then-not-branch c parts before joints leads =
     let none = rw c.if-not-branch.true at c.in_ok-has_text.ensures in (
       [],
       sym (append-nil c.args.found.now.items),
@@ -13,6 +13,6 @@ returns-then-not-branch c parts before joints leads number =
     )
 
 pub returns : goal.returns
-returns c parts before joints leads number =
+returns c parts before joints leads =
     c.in_ok-add_led.ensures parts before c.args.origin.now
-    (record { joints = joints; way = c.in_ok-way.ensures parts before leads }) number
+    (record { joints = joints; way = c.in_ok-way.ensures parts before leads; own = refl })

@@ -5,8 +5,8 @@ use Rattle.hc_sent.specs.Ways.{AreReachedFrom}
 use Rattle.hc_sent.proofs.Chaining.{GoesOn}
 use Rattle.hc_sent.proofs.leading.reached.Given as goal
 
-abbrev pub invariant-loop-host : goal.invariant-loop-host
-invariant-loop-host l = record {
-  left : AcceptsOnly (FitsNone l.parts (take l.host l.hosts)) l.left;
-  found : GoesOn (AreReachedFrom l.parts) l.hosts l.host l.found.items;
+abbrev pub invariant-loop-origin : goal.invariant-loop-origin
+invariant-loop-origin l = record {
+  left : AcceptsOnly (FitsNone l.parts (take l.origin-index l.hosts)) l.left;
+  found : GoesOn (AreReachedFrom l.parts) l.hosts l.origin-index l.found.items;
 }
