@@ -1,0 +1,14 @@
+pub mod Adding
+pub mod Answering
+pub mod Chained
+pub mod Closing
+pub mod Fitting
+pub mod Following
+pub mod Gathering
+pub mod Having
+pub mod Members
+pub mod Outcomes
+pub mod Parts
+pub mod Reaching
+pub mod Stopping
+pub mod Tried

@@ -1,0 +1,10 @@
+pub mod Asking
+pub mod Breaking
+pub mod Chains
+pub mod Deciding
+pub mod Finding
+pub mod Holding
+pub mod Lending
+pub mod Sending
+pub mod Trying
+pub mod Walking
