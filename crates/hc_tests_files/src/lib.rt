@@ -11,6 +11,8 @@ mod flat;
 #[cfg(test)]
 mod htaccess;
 #[cfg(test)]
+mod kept;
+#[cfg(test)]
 mod lines;
 #[cfg(test)]
 mod nodes;

@@ -17,17 +17,21 @@ fn show_line(shown: &mut String, line: &Line) -> Result<(), NoMemory> {
     push_all(shown, &[line.text.as_str(), "|"])
 }
 
-// The lines of a text, or the refusal.
-fn show_lines(alloc: Global, source: Source) -> Result<String, NoMemory> {
-    let lines = match lines_of(alloc, source) {
-        Ok(lines) => lines,
-        Err(fault) => return show_fault(alloc, fault),
-    };
+/// Lines, one behind the other.
+pub fn show_all(alloc: Global, lines: &[Line]) -> Result<String, NoMemory> {
     let mut shown = String::new(alloc);
-    for line in &lines {
+    for line in lines {
         show_line(&mut shown, line)?;
     }
     Ok(shown)
+}
+
+/// The lines of a text, or the refusal.
+pub fn show_lines(alloc: Global, source: Source) -> Result<String, NoMemory> {
+    match lines_of(alloc, source) {
+        Ok(lines) => show_all(alloc, &lines),
+        Err(fault) => show_fault(alloc, fault),
+    }
 }
 
 // A text, and its lines in both kinds of file.
