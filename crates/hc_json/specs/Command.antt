@@ -1,8 +1,9 @@
 -- The commands of a script: what JSON a line is, and which command that is. Our own choice.
-use Rattle.std.specs.Prelude.{ℕ, List, [], ◌∷◌, if◌then◌else◌, Option, Some, None}
+use Rattle.std.specs.Prelude.{ℕ, List, [], ◌∷◌, Bool, false, if◌then◌else◌, Option, Some, None, option_and_then}
 use Rattle.std.specs.Prelude.{Result, Ok, Err, codes}
 use Rattle.std.specs.Str.{bytes_eq, is_utf8}
 use Rattle.serde_json.specs.Data.{Data}
+use Rattle.serde_json.specs.Find.{as_str, get}
 use Rattle.serde_json.specs.Read.{read}
 use Rattle.hc_base.specs.declared.codes.TheConstants.{BAD_COMMAND, BAD_JSON}
 use Rattle.hc_base.specs.declared.place.Refusal.{Refusal}
@@ -11,7 +12,7 @@ use Rattle.hc_json.specs.Cells.{CellForm, cells_in}
 use Rattle.hc_json.specs.Claims.{ClaimForm, ScopeForm, claim_in, scope_in}
 use Rattle.hc_json.specs.Fields.{no_other, required, ◌>>=◌}
 use Rattle.hc_json.specs.Forms.{line_in}
-use Rattle.hc_json.specs.Hosts.{HostForm, hosts_in}
+use Rattle.hc_json.specs.Hosts.{HostForm, ending_in, hosts_in}
 use Rattle.hc_model.specs.declared.request.Request.{Request}
 use Rattle.hc_world.specs.declared.world.ListKind.{ListKind}
 use Rattle.hc_world.specs.declared.world.ListKind.TheVariants.{File, Dir}
@@ -30,7 +31,9 @@ pub data Command : Type 0 where
   follow : Request → List HostForm → Command
   -- what is claimed, and of which requests
   decide : ClaimForm → ScopeForm → Command
-  -- the same, and the cells that may show it
+  -- the own servers to which chains of redirects are followed, of which it is claimed that they end
+  ends : List HostForm → ScopeForm → Command
+  -- a claim and its requests, and the cells that may show it
   verify : ClaimForm → ScopeForm → List CellForm → Command
   stats : Command
   end : Command
@@ -78,8 +81,22 @@ ask_in d = asked_in d >>= λ question. Ok (ask question)
 abbrev pub follow_in : Data → Result Command (List ℕ)
 follow_in d = request_in d >>= λ request. hosts_in d >>= λ hosts. Ok (follow request hosts)
 
+abbrev pub is_ends : Option (List ℕ) → Bool
+is_ends None = false
+is_ends (Some kind) = bytes_eq kind (codes "ends")
+
+-- Whether the claim is of the kind `ends`.
+abbrev pub claims_end : Data → Bool
+claims_end d = is_ends (option_and_then as_str (option_and_then (get (codes "kind")) (get (codes "claim") d)))
+
+abbrev pub claimed_in : Data → Result Command (List ℕ)
+claimed_in d = claim_in d >>= λ claim. scope_in d >>= λ scope. Ok (decide claim scope)
+
+abbrev pub ends_in : Data → Result Command (List ℕ)
+ends_in d = ending_in d >>= λ hosts. scope_in d >>= λ scope. Ok (ends hosts scope)
+
 abbrev pub decide_in : Data → Result Command (List ℕ)
-decide_in d = claim_in d >>= λ claim. scope_in d >>= λ scope. Ok (decide claim scope)
+decide_in d = if claims_end d then ends_in d else claimed_in d
 
 abbrev pub verify_in : Data → Result Command (List ℕ)
 verify_in d =

@@ -39,7 +39,7 @@ use Rattle.hc_json.specs.declared.command.Command.{Command}
 use Rattle.hc_json.specs.declared.command.NoCommand.{NoCommand}
 use Rattle.hc_json.specs.declared.command.NoCommand.TheVariants as wrong
 use Rattle.hc_json.specs.declared.command.Command.TheVariants.{Put, ListPath, DropPath, Edit, Main, Check, Ask, Stats}
-use Rattle.hc_json.specs.declared.command.Command.TheVariants.{Decide, End, Follow, Verify}
+use Rattle.hc_json.specs.declared.command.Command.TheVariants.{Decide, End, Ends, Follow, Verify}
 
 abbrev pub headers_view : Option (Bor (BTreeMap (String Global) Value)) → List Header
 headers_view None = []
@@ -126,6 +126,7 @@ command_view Check = spec.check
 command_view (Ask asked) = spec.ask (question_view asked)
 command_view (Follow request values) = spec.follow (request_view request) (hosts_of (items_view values.now.items))
 command_view (Decide claim scope) = spec.decide (claim_view claim) (scope_view scope)
+command_view (Ends values scope) = spec.ends (hosts_of (items_view values.now.items)) (scope_view scope)
 command_view (Verify claim scope values) =
     spec.verify (claim_view claim) (scope_view scope) (cells_of (items_view values.now.items))
 command_view Stats = spec.stats

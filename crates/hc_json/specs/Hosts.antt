@@ -1,10 +1,12 @@
--- The own servers of a `follow`, as they are written. Our own choice.
-use Rattle.std.specs.Prelude.{ℕ, List, [], ◌∷◌, length, Bool, true, ◌&&◌, nat_le, Option, Some, None, is_some}
+-- The own servers of a `follow`, and of the claim that chains of redirects end, as they are written. Our own choice.
+use Rattle.std.specs.Prelude.{◌≡◌, ℕ, List, [], ◌∷◌, length, Bool, true, ◌&&◌, nat_le, Option, Some, None, is_some}
 use Rattle.std.specs.Prelude.{option_map, Result, Ok, codes}
+use Rattle.std.specs.List.{list_all}
 use Rattle.std.specs.Result.{result_ok}
 use Rattle.serde_json.specs.Data.{Data, Items, no_items, item}
 use Rattle.serde_json.specs.Find.{as_array}
-use Rattle.hc_forms.specs.Forms.{is_host}
+use Rattle.hc_forms.specs.Forms.{is_host, is_host_byte}
+use Rattle.hc_json.specs.Claims.{blaming}
 use Rattle.hc_json.specs.Fields.{no_other, wanted, ◌>>=◌}
 use Rattle.hc_json.specs.Forms.{port_from, scheme_from, such_that, text_where}
 use Rattle.hc_json.specs.declared.hosts.TheConstants.{MOST_HOSTS}
@@ -54,3 +56,17 @@ hosts_from d = option_map hosts_of (such_that are_hosts (as_array d))
 -- Whatever is wrong within them, `hosts` is the wrong field.
 abbrev pub hosts_in : Data → Result (List HostForm) (List ℕ)
 hosts_in d = wanted (codes "hosts") hosts_from d
+
+-- Their names have letters, digits, dots and dashes.
+abbrev pub AreNamed : List HostForm → Type 0
+AreNamed hosts = list_all (λ own. list_all is_host_byte own.host) hosts ≡ true
+
+-- ---- the claim that chains of redirects end
+
+abbrev pub ending_fields : List (List ℕ)
+ending_fields = codes "kind" ∷ codes "hosts" ∷ []
+
+-- Its own servers. Whatever is wrong within it, `claim` is the wrong field.
+abbrev pub ending_in : Data → Result (List HostForm) (List ℕ)
+ending_in d =
+    wanted (codes "claim") Some d >>= λ own. blaming (codes "claim") (no_other ending_fields own (hosts_in own))

@@ -1,7 +1,9 @@
-ghost use Rattle.std.specs.Prelude.{◌≡◌, IfOk, true};
-ghost use Rattle.std.specs.Option.{option_map};
+ghost use Rattle.std.specs.Prelude.{◌≡◌, IfOk, codes, true};
+ghost use Rattle.std.specs.Option.{option_and_then, option_map};
+ghost use Rattle.serde_json.specs.Find.{as_str, get};
 ghost use Rattle.serde_json.specs.View.{view};
-ghost use Rattle.hc_json.specs.Command.{ask_fields, ask_in, bad_line, command_in, command_named, command_of_json};
+ghost use Rattle.hc_json.specs.Command.{ask_fields, ask_in, bad_line, claimed_in, claims_end, command_in};
+ghost use Rattle.hc_json.specs.Command.{command_named, command_of_json, ends_in, is_ends};
 ghost use Rattle.hc_json.specs.Command.{decide_fields, decide_in, drop_in, edit_fields, edit_in, json_of, list_fields};
 ghost use Rattle.hc_json.specs.Command.{follow_fields, follow_in, list_in, list_kind, main_in, path_fields};
 ghost use Rattle.hc_json.specs.Command.{put_fields, put_in};
@@ -11,14 +13,14 @@ ghost use Rattle.hc_json.specs.Cells.{cells_in};
 ghost use Rattle.hc_json.specs.CommandView.{IsAskable, cells_field_view, command_view, hosts_field_view, line_view};
 ghost use Rattle.hc_json.specs.CommandView.{read_view, request_field_view, value_view};
 ghost use Rattle.hc_json.specs.Fields.{unknown_field};
-ghost use Rattle.hc_json.specs.Hosts.{hosts_in};
+ghost use Rattle.hc_json.specs.Hosts.{ending_in, hosts_in};
 ghost use Rattle.hc_base.specs.Paths.{begins_with_slash};
 
 use crate::asked::{Asked, RequestForm, read_asked, request_in};
 use crate::cells::cells_in;
 use crate::claim::{ClaimForm, claim_in};
 use crate::fields::{BadField, line_in, required, unknown_field};
-use crate::hosts::hosts_in;
+use crate::hosts::{ending_in, hosts_in};
 use crate::scope::{ScopeForm, scope_in};
 use hc_base::{NoMemory, Place, Refusal, Text};
 use hc_world::ListKind;
@@ -66,6 +68,12 @@ pub enum Command<'v> {
     /// Asks whether a claim holds of all requests of a scope.
     Decide {
         claim: ClaimForm<'v>,
+        scope: ScopeForm<'v>,
+    },
+    /// Asks whether all chains of redirects end that begin with a request of a scope.
+    Ends {
+        /// Values, each an own server: `hosts_of` reads them.
+        hosts: &'v Vec<Value>,
         scope: ScopeForm<'v>,
     },
     /// Asks whether cells show that a claim holds of all requests of a scope.
@@ -170,7 +178,7 @@ fn command_named<'v>(
         "check" => Ok(without_fields(Command::Check, value)),
         "ask" => read_ask(alloc, value),
         "follow" => read_follow(alloc, value),
-        "decide" => Ok(read_decide(value)),
+        "decide" => read_decide(alloc, value),
         "verify" => read_verify(alloc, value),
         "stats" => Ok(without_fields(Command::Stats, value)),
         "end" => Ok(without_fields(Command::End, value)),
@@ -306,16 +314,61 @@ fn follow_with<'v>(
     Ok(Command::Follow { request, hosts })
 }
 
-fn read_decide(value: &Value) -> Result<Command<'_>, BadField<'_>>
-    ensures command { read_view result ≡ with_fields decide_fields decide_in (view value.now) }
-    ensures askable { IfOk result IsAskable }
+fn read_decide(alloc: Global, value: &Value) -> Result<Result<Command<'_>, BadField<'_>>, NoMemory>
+    ensures command { IfOk result (λ read. read_view read ≡ with_fields decide_fields decide_in (view value.now)) }
+    ensures askable { IfOk result (λ read. IfOk read IsAskable) }
 {
     if let Some(field) = unknown_field(value, &["do", "claim", "scope"]) {
-        return Err(BadField(field));
+        return Ok(Err(BadField(field)));
     }
+    if claims_end(value) {
+        let hosts = ending_in(alloc, value)?;
+        Ok(ends_with(value, hosts))
+    } else {
+        Ok(read_claimed(value))
+    }
+}
+
+// Whether the claim is of the kind `ends`.
+fn claims_end(value: &Value) -> bool
+    ensures { result ≡ claims_end (view value.now) }
+{
+    match value.get("claim") {
+        Some(own) => is_ends(own),
+        None => false,
+    }
+}
+
+fn is_ends(own: &Value) -> bool
+    ensures { result ≡ is_ends (option_and_then as_str (get (codes "kind") (view own.now))) }
+{
+    match own.get("kind").and_then(Value::as_str) {
+        Some(kind) => kind == "ends",
+        None => false,
+    }
+}
+
+fn read_claimed(value: &Value) -> Result<Command<'_>, BadField<'_>>
+    ensures command { read_view result ≡ claimed_in (view value.now) }
+    ensures askable { IfOk result IsAskable }
+{
     let claim = claim_in(value)?;
     let scope = scope_in(value)?;
     Ok(Command::Decide { claim, scope })
+}
+
+// The claim that chains of redirects end, with what its own servers are read as.
+fn ends_with<'v>(
+    value: &'v Value,
+    hosts: Result<&'v Vec<Value>, BadField<'v>>,
+) -> Result<Command<'v>, BadField<'v>>
+    requires hosts { hosts_field_view hosts ≡ ending_in (view value.now) }
+    ensures command { read_view result ≡ ends_in (view value.now) }
+    ensures askable { IfOk result IsAskable }
+{
+    let hosts = hosts?;
+    let scope = scope_in(value)?;
+    Ok(Command::Ends { hosts, scope })
 }
 
 fn read_verify(alloc: Global, value: &Value) -> Result<Result<Command<'_>, BadField<'_>>, NoMemory>

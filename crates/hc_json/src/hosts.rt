@@ -1,10 +1,12 @@
-ghost use Rattle.std.specs.Prelude.{◌≡◌, IfOk, codes, map, option_map};
+ghost use Rattle.std.specs.Prelude.{◌≡◌, IfOk, IfSome, codes, map, option_map, true};
 ghost use Rattle.serde_json.specs.View.{items_view, view};
 ghost use Rattle.hc_json.specs.CommandView.{field_view, host_field_view, host_view, hosts_field_view, value_view};
 ghost use Rattle.hc_json.specs.Fields.{wanted};
 ghost use Rattle.hc_json.specs.Forms.{port_from, scheme_from, text_where};
-ghost use Rattle.hc_json.specs.Hosts.{are_hosts, are_servers, fields_of_host, host_from, hosts_in, hosts_of};
-ghost use Rattle.hc_forms.specs.Forms.{is_host};
+ghost use Rattle.hc_json.specs.Hosts.{AreNamed, are_hosts, are_servers, ending_in, fields_of_host, host_from, hosts_in};
+ghost use Rattle.hc_json.specs.Hosts.{hosts_of};
+ghost use Rattle.hc_forms.specs.Forms.{is_host, is_host_byte};
+ghost use Rattle.std.specs.List.{list_all};
 
 use crate::asked::{port_from, scheme_from};
 use crate::fields::{BadField, unknown_field};
@@ -42,6 +44,25 @@ pub(crate) fn hosts_in(
     }
 }
 
+/// The own servers of the claim that chains of redirects end. Whatever is wrong within it, `claim` is the wrong field.
+pub(crate) fn ending_in(
+    alloc: Global,
+    value: &Value,
+) -> Result<Result<&Vec<Value>, BadField<'_>>, NoMemory>
+    ensures { IfOk result (λ read. hosts_field_view read ≡ ending_in (view value.now)) }
+{
+    let Some(own) = value.get("claim") else {
+        return Ok(Err(BadField("claim")));
+    };
+    if unknown_field(own, &["kind", "hosts"]).is_some() {
+        return Ok(Err(BadField("claim")));
+    }
+    match hosts_in(alloc, own)? {
+        Ok(hosts) => Ok(Ok(hosts)),
+        Err(_) => Ok(Err(BadField("claim"))),
+    }
+}
+
 fn are_hosts(alloc: Global, values: &[Value]) -> Result<bool, NoMemory>
     ensures { IfOk result (λ are. are ≡ are_hosts (items_view values.now)) }
 {
@@ -62,7 +83,8 @@ fn are_servers(values: &[Value]) -> bool
 
 /// The own servers among values, in their order.
 pub fn hosts_of(alloc: Global, values: &[Value]) -> Result<Vec<HostForm<'_>>, NoMemory>
-    ensures { IfOk result (λ hosts. map host_view hosts.items ≡ hosts_of (items_view values.now)) }
+    ensures hosts { IfOk result (λ hosts. map host_view hosts.items ≡ hosts_of (items_view values.now)) }
+    ensures named { IfOk result (λ hosts. AreNamed (map host_view hosts.items)) }
 {
     let mut hosts = Vec::new(alloc);
     for value in values {
@@ -75,7 +97,8 @@ pub fn hosts_of(alloc: Global, values: &[Value]) -> Result<Vec<HostForm<'_>>, No
 
 // The server that a value is.
 fn host_from(value: &Value) -> Option<HostForm<'_>>
-    ensures { option_map host_view result ≡ host_from (view value.now) }
+    ensures host { option_map host_view result ≡ host_from (view value.now) }
+    ensures named { IfSome result (λ own. list_all is_host_byte own.host.now ≡ true) }
 {
     if unknown_field(value, &["host", "port", "scheme"]).is_some() {
         return None;
@@ -84,7 +107,8 @@ fn host_from(value: &Value) -> Option<HostForm<'_>>
 }
 
 fn fields_of_host(value: &Value) -> Result<HostForm<'_>, BadField<'_>>
-    ensures { host_field_view result ≡ fields_of_host (view value.now) }
+    ensures fields { host_field_view result ≡ fields_of_host (view value.now) }
+    ensures named { IfOk result (λ own. list_all is_host_byte own.host.now ≡ true) }
 {
     let host = own_host(value)?;
     let port = own_port(value)?;
@@ -93,7 +117,8 @@ fn fields_of_host(value: &Value) -> Result<HostForm<'_>, BadField<'_>>
 }
 
 fn own_host(value: &Value) -> Result<&str, BadField<'_>>
-    ensures { field_view result ≡ wanted (codes "host") (text_where is_host) (view value.now) }
+    ensures field { field_view result ≡ wanted (codes "host") (text_where is_host) (view value.now) }
+    ensures named { IfOk result (λ host. list_all is_host_byte host.now ≡ true) }
 {
     match value.get("host").and_then(Value::as_str) {
         Some(host) if is_host(host.as_bytes()) => Ok(host),

@@ -1,8 +1,8 @@
 //! The lines of a script as commands, and the lines of its replies. Our own choice.
 //!
 //! `command_in` gives the command that a JSON value is, or its refusal with the first wrong field
-//! (specs/Command.antt, Claims.antt, Cells.antt, Hosts.antt). `hosts_of` gives the own servers of a `follow`, `cells_of`
-//! the cells of a `verify`, and `slot_named` the slot of a name. `print_reply`, `print_outcome`, `print_trailed`,
+//! (specs/Command.antt, Claims.antt, Cells.antt, Hosts.antt). `hosts_of` gives the own servers of a `follow` and of
+//! the claim that chains of redirects end, `cells_of` the cells of a `verify`, and `slot_named` the slot of a name. `print_reply`, `print_outcome`, `print_trailed`,
 //! `print_followed`, `print_refuted`, `print_undecided` and `print_rejected` give the bytes of a reply
 //! (specs/Reply.antt, Trail.antt, Claimed.antt). JSON is read and printed by `serde_json`, and the clauses rest on its
 //! definitions.
