@@ -13,8 +13,10 @@ use Rattle.serde_json.proofs.OnLiterals.{serde_json_on_literals}
 use Rattle.hc_json.specs.Reply.{Reply, no_memory, reply_line}
 use Rattle.hc_base.specs.declared.place.Refusal.{Refusal}
 use Rattle.hc_follow.specs.declared.chain.TheConstants.{MOST_STEPS}
-use Rattle.hc_json.specs.Command.{Command, command_of, decide, follow, verify}
-use Rattle.hc_session.specs.Session.{CountsCommand, LineTurn, MayEvaluate, MayRead, ReadsCommand, Says}
+use Rattle.hc_json.specs.Command.{Command, command_of, decide, ends, follow, verify}
+use Rattle.hc_session.specs.Deciding.{MayTry}
+use Rattle.hc_session.specs.Ending.{MayFollow}
+use Rattle.hc_session.specs.Session.{CountsCommand, CountsRuns, LineTurn, MayEvaluate, MayRead, ReadsCommand, Says}
 use Rattle.hc_session.specs.Session.{command_bytes, command_evals, is_no_memory}
 use Rattle.hc_session.specs.declared.stepped.Stepped.{Stepped}
 use Rattle.hc_session.proofs.Known.{appends_none, appends_more}
@@ -76,9 +78,19 @@ pub record Took (old new : State) (command : Result Command Refusal) (said : Rep
 pub none_counted : (state : State) (command : Result Command Refusal) (fault : NoMemory) (count : ℕ)
     → CountsCommand {A = Stepped} (Err fault) state command state count count
 none_counted state (Ok (decide claim scope)) fault count = (refl, 0, omega arith, inl refl)
+none_counted state (Ok (ends hosts scope)) fault count = (refl, 0, omega arith, inl refl)
 none_counted state command fault count = (omega arith, omega arith)
 
 module _ (old new : State) (k n : Work) where
+  -- Candidates were run.
+  spent_runs : (said : Reply) (May : ℕ → Type 0) (counts : CountsRuns May old new k.evals n.evals)
+      → IsSpent old new (said ∷ []) (work counts.1 n.bytes) k n
+  spent_runs said May counts = record {
+    rises = omega (arith, counts.2);
+    evals = omega (arith, counts.2, counts.0);
+    bytes = λ none. omega arith;
+  }
+
   -- No memory was found for it.
   pub took_refused : (command : Result Command Refusal) (fault : NoMemory) → new ≡ old
       → CountsCommand {A = Stepped} (Err fault) old command new k.evals n.evals → Took old new command no_memory k n
@@ -86,11 +98,13 @@ module _ (old new : State) (k n : Work) where
     own = work counts.1 n.bytes;
     evals = counts.3;
     bytes = tt;
-    spent = record {
-      rises = omega (arith, counts.2);
-      evals = omega (arith, counts.2, counts.0);
-      bytes = λ none. absurd (omega (arith, none));
-    };
+    spent = spent_runs no_memory (MayTry old claim scope) counts;
+  }
+  took_refused (Ok (ends hosts scope)) fault same counts = record {
+    own = work counts.1 n.bytes;
+    evals = counts.3;
+    bytes = tt;
+    spent = spent_runs no_memory (MayFollow old hosts scope) counts;
   }
   took_refused (Ok (follow request hosts)) fault same counts = record {
     own = work (MOST_STEPS + 1) n.bytes;
@@ -131,11 +145,13 @@ module _ (old new : State) (k n : Work) where
     own = work counts.1 n.bytes;
     evals = counts.3;
     bytes = tt;
-    spent = record {
-      rises = omega (arith, counts.2);
-      evals = omega (arith, counts.2, counts.0);
-      bytes = λ none. omega arith;
-    };
+    spent = spent_runs said (MayTry old claim scope) counts;
+  }
+  took_answered (Ok (ends hosts scope)) said stepped counts reads = record {
+    own = work counts.1 n.bytes;
+    evals = counts.3;
+    bytes = tt;
+    spent = spent_runs said (MayFollow old hosts scope) counts;
   }
   took_answered (Ok (follow request hosts)) said stepped counts reads = record {
     own = work (if is_no_memory said then MOST_STEPS + 1 else 0) n.bytes;

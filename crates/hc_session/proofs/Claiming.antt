@@ -8,6 +8,10 @@ use Rattle.hc_absolute.specs.Absolute.{AreAbsolute}
 use Rattle.hc_abs_pass.proofs.Listable.{all_listed}
 use Rattle.hc_abs_pass.specs.Walks.{IsListed}
 use Rattle.hc_base.specs.declared.place.Refusal.{Refusal}
+use Rattle.hc_ends.specs.Asking.{Site}
+use Rattle.hc_ends.specs.Deciding as ends
+use Rattle.hc_ends.specs.Holding as ends
+use Rattle.hc_ends.specs.declared.decided.DecidedEnds.{DecidedEnds}
 use Rattle.hc_held.specs.Verdicts.{IsVerdict, Verdict}
 use Rattle.hc_held.specs.Claims.{Answers, Asked, Decided, Holds, MayRun, Runs}
 use Rattle.hc_claim_lines.specs.declared.lines.ClaimLines.{ClaimLines}
@@ -15,12 +19,14 @@ use Rattle.hc_held.proofs.Accepting.{verdicts_hold}
 use Rattle.hc_include.specs.Flat.{flat_of}
 use Rattle.hc_invariant.specs.declared.named.NamedCell.{NamedCell}
 use Rattle.hc_json.specs.Claims.{ClaimForm, guarded, shadowed, stops}
+use Rattle.hc_json.specs.CommandView.{scope_view}
 use Rattle.hc_json.specs.Reply.{Reply}
 use Rattle.hc_kept.specs.Site.{configuration}
 use Rattle.hc_model.specs.World.{IsWorld, World}
 use Rattle.hc_model.specs.declared.config.Config.{Config}
 use Rattle.hc_scope.specs.declared.claim.Claim.{Claim}
 use Rattle.hc_scope.specs.declared.claim.Claim.TheVariants as claim
+use Rattle.hc_scope.specs.declared.claim.Scope.{Scope}
 use Rattle.hc_stated.specs.CellViews.{cells_view}
 use Rattle.hc_stated.specs.Cells.{AreCells, CellSets}
 use Rattle.hc_stated.specs.Stated.{IsClaim, IsScope, Sets, bad_pattern}
@@ -29,11 +35,14 @@ use Rattle.hc_stated.specs.declared.stated.Stated.{Stated}
 use Rattle.hc_steps.specs.Shown.{shown_by}
 use Rattle.hc_session.specs.Deciding.{IsAnswered, IsAsked, IsTried, Posed, SaysOfLine, SaysOfSets, SaysUnder, Tries}
 use Rattle.hc_session.specs.Deciding.{decided_reply, has_line}
+use Rattle.hc_session.specs.Ending.{CountsFollowed, SaysOfEnds, ends_reply, site_under}
 use Rattle.hc_session.specs.Session.{Says}
+use Rattle.hc_session.specs.Stating.{HasSets, chained_at, sets_of_ending}
 use Rattle.hc_session.specs.Stating.{CountsTries, IsConfiguration, IsRead, Replies, asked_at, claim_in, has_line_in}
 use Rattle.hc_session.specs.Stating.{posed_at, scope_in, sets_of_stating}
 use Rattle.hc_session.specs.declared.deciding.Scene.{Scene}
 use Rattle.hc_session.specs.declared.deciding.Stating.{Stating}
+use Rattle.hc_session.specs.declared.ends.Ending.{Ending}
 use Rattle.hc_session.specs.declared.stepped.Stepped.{Stepped}
 use Rattle.hc_session.specs.declared.verifying.Verifying.{Verifying}
 use Rattle.hc_session.specs.Verifying.{IsVerified, VerifiesLine, verdict_reply}
@@ -101,6 +110,43 @@ module _ (scene : Scene) (stating : Stating) (stated : Stated)
 
 pub tries_none : (posed : Posed) (built : Result Config Refusal) (count : ℕ) → CountsTries posed built count count
 tries_none posed built count = (0, omega arith, inl refl)
+
+-- ---- the claim that chains end
+
+module _ (scene : Scene) (ending : Ending) (scope : Scope)
+    (is : IsScope (scope_view ending.scope) (sets_of_ending ending) scope) where
+  abbrev site : Site
+  site = site_under (chained_at scene ending) scene.config.now
+
+  pub ends_answered : (old new : ℕ) (decided : DecidedEnds) (stepped : Stepped)
+      → ends.Answers site scope scene.limit old new decided → ends.Holds site scope decided
+      → Says (ends_reply decided) stepped
+      → Replies (SaysOfEnds (chained_at scene ending) scene.config.now (sets_of_ending ending) None) stepped
+  ends_answered old new decided stepped answers holds says = (
+    ends_reply decided,
+    (
+      scope,
+      is,
+      record { answer = decided; spent = answers.0; is = answers.2; holds = holds; says = refl },
+    ),
+    says,
+  )
+
+  pub chains_followed : (before after : ℕ) → HasSets ending → ends.Runs site scope before after
+      → CountsFollowed (chained_at scene ending) (Ok scene.config.now) before after
+  chains_followed before after has (spent, rises, may) = (
+    spent,
+    rises,
+    inr (record {
+      sets = sets_of_ending ending;
+      are_sets = has;
+      config = scene.config.now;
+      is_built = refl;
+      scope = scope;
+      is = is;
+      may = may;
+    }),
+  )
 
 -- ---- an invariant
 

@@ -2,6 +2,7 @@ pub mod Asking
 pub mod Changes
 pub mod Conversation
 pub mod Deciding
+pub mod Ending
 pub mod Following
 pub mod Inside
 pub mod Laws

@@ -5,10 +5,9 @@ use Rattle.std.specs.Prelude.{Err, ⊤}
 use Rattle.std.specs.Str.{bytes_eq}
 use Rattle.hc_base.specs.declared.codes.TheConstants.{PATH_FORM}
 use Rattle.hc_base.specs.declared.place.Refusal.{Refusal}
-use Rattle.hc_json.specs.Claims.{ClaimForm, ScopeForm}
 use Rattle.hc_follow.specs.declared.chain.TheConstants.{MOST_STEPS}
-use Rattle.hc_json.specs.Command.{Command, put, list, drop, edit, main, check, ask, follow, decide, verify, stats, end}
-use Rattle.hc_json.specs.Command.{bad_line, command_of}
+use Rattle.hc_json.specs.Command.{Command, put, list, drop, edit, main, check, ask, follow, decide, ends, verify, stats}
+use Rattle.hc_json.specs.Command.{bad_line, command_of, end}
 use Rattle.hc_json.specs.Reply as reply
 use Rattle.hc_json.specs.Reply.{Reply, reply_line}
 use Rattle.hc_json.specs.declared.reply.Done.{Done}
@@ -27,6 +26,7 @@ use Rattle.hc_world.specs.Edits.{IsAccepted, dropped, lines_edited, listed}
 pub use Rattle.hc_session.specs.Asking.{answer_of, answer_reply, ask_turn, asked, evaluated, is_kept, kept_answer}
 pub use Rattle.hc_session.specs.Asking.{same_request, served}
 use Rattle.hc_session.specs.Deciding.{DecideTurn, MayTry}
+use Rattle.hc_session.specs.Ending.{EndsTurn, MayFollow}
 use Rattle.hc_session.specs.Following.{FollowTurn}
 use Rattle.hc_session.specs.Verifying.{VerifyTurn}
 pub use Rattle.hc_session.specs.State.{IsTurn, Kept, State, Turn, present, refusing, saying, start}
@@ -83,6 +83,7 @@ CommandTurn old (Ok check) said new = IsTurn (check_turn old) said new
 CommandTurn old (Ok (ask question)) said new = IsTurn (ask_turn old question (present old)) said new
 CommandTurn old (Ok (follow request hosts)) said new = FollowTurn old request hosts said new
 CommandTurn old (Ok (decide claim scope)) said new = DecideTurn old claim scope said new
+CommandTurn old (Ok (ends hosts scope)) said new = EndsTurn old hosts scope said new
 CommandTurn old (Ok (verify claim scope cells)) said new = VerifyTurn old claim scope cells said new
 CommandTurn old (Ok stats) said new = IsTurn (stats_turn old) said new
 CommandTurn old (Ok end) said new = IsTurn (end_turn old) said new
@@ -151,12 +152,14 @@ is_no_memory other = false
 -- claim.
 abbrev pub MayEvaluate : State → Result Command Refusal → Reply → ℕ → Type 0
 MayEvaluate old (Ok (decide claim scope)) said count = MayTry old claim scope count
+MayEvaluate old (Ok (ends hosts scope)) said count = MayFollow old hosts scope count
 MayEvaluate old command said count = count ≡ (if is_no_memory said then command_evals command else 0)
 
 -- The bytes of the texts that it may read; of a `follow`, a `decide` and a `verify` nothing is said.
 abbrev pub MayRead : State → Result Command Refusal → ℕ → Type 0
 MayRead old (Ok (follow request hosts)) count = ⊤
 MayRead old (Ok (decide claim scope)) count = ⊤
+MayRead old (Ok (ends hosts scope)) count = ⊤
 MayRead old (Ok (verify claim scope cells)) count = ⊤
 MayRead old command count = count ≡ command_bytes old command
 
@@ -211,6 +214,7 @@ abbrev pub reads_nothing : State → Result Command Refusal → Bool
 reads_nothing state (Ok check) = false
 reads_nothing state (Ok (follow request hosts)) = false
 reads_nothing state (Ok (decide claim scope)) = false
+reads_nothing state (Ok (ends hosts scope)) = false
 reads_nothing state (Ok (verify claim scope cells)) = false
 reads_nothing state (Ok (ask question)) = is_kept state question.request
 reads_nothing state other = true
@@ -242,12 +246,15 @@ Counts (Ok made) most old new before after =
 Counts (Err _) most old new before after = (before ≤ after) × (after ≤ before + most)
 
 -- The runs of a `decide` are no evaluations of the session.
-abbrev pub CountsRuns : State → ClaimForm → ScopeForm → State → ℕ → ℕ → Type 0
-CountsRuns old claim scope new before after =
-    (new.evaluations ≡ old.evaluations) × (spent : ℕ) × (after ≡ before + spent) × MayTry old claim scope spent
+abbrev pub CountsRuns : (ℕ → Type 0) → State → State → ℕ → ℕ → Type 0
+CountsRuns May old new before after =
+    (new.evaluations ≡ old.evaluations) × (spent : ℕ) × (after ≡ before + spent) × May spent
 
 abbrev pub CountsCommand : {A : Type 0} → Result A NoMemory → State → Result Command Refusal → State → ℕ → ℕ → Type 0
-CountsCommand result old (Ok (decide claim scope)) new before after = CountsRuns old claim scope new before after
+CountsCommand result old (Ok (decide claim scope)) new before after =
+    CountsRuns (MayTry old claim scope) old new before after
+CountsCommand result old (Ok (ends hosts scope)) new before after =
+    CountsRuns (MayFollow old hosts scope) old new before after
 CountsCommand result old command new before after = Counts result (command_evals command) old new before after
 
 -- The counter of bytes rises by no more than the command may read; of a `follow`, a `decide` and a `verify` nothing is
@@ -255,5 +262,6 @@ CountsCommand result old command new before after = Counts result (command_evals
 abbrev pub ReadsCommand : State → Result Command Refusal → ℕ → ℕ → Type 0
 ReadsCommand old (Ok (follow request hosts)) before after = ⊤
 ReadsCommand old (Ok (decide claim scope)) before after = ⊤
+ReadsCommand old (Ok (ends hosts scope)) before after = ⊤
 ReadsCommand old (Ok (verify claim scope cells)) before after = ⊤
 ReadsCommand old command before after = after ≤ before + command_bytes old command

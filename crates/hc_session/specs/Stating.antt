@@ -1,4 +1,4 @@
--- What code has of a claim that it decides, and of an invariant that it checks.
+-- What code has of a claim that it decides, of an invariant that it checks, and of the claim that chains end.
 use Rattle.std.specs.Prelude.{◌≡◌, ℕ, ◌+◌, Bool, true, Result, Ok}
 use Rattle.hc_base.specs.declared.place.Refusal.{Refusal}
 use Rattle.hc_held.specs.Claims.{Asked}
@@ -18,9 +18,11 @@ use Rattle.hc_stated.specs.Views.{sets_in}
 use Rattle.hc_stated.specs.declared.stated.Stated.{Stated}
 use Rattle.hc_steps.specs.Step.{Path}
 use Rattle.hc_session.specs.Deciding.{Posed, Tries, is_there, posed}
+use Rattle.hc_session.specs.Ending.{Chained, EndsUnder, sets_within}
 use Rattle.hc_session.specs.Session.{Says as SaysIn}
 use Rattle.hc_session.specs.declared.deciding.Scene.{Scene}
 use Rattle.hc_session.specs.declared.deciding.Stating.{Stating}
+use Rattle.hc_session.specs.declared.ends.Ending.{Ending}
 use Rattle.hc_session.specs.declared.stepped.Stepped.{Stepped}
 use Rattle.hc_session.specs.declared.verifying.Verifying.{Verifying}
 use Rattle.hc_session.specs.State.{State, present}
@@ -77,4 +79,26 @@ abbrev pub VerifiesWith : State → Verifying → Reply → State → Type 0
 VerifiesWith state verifying said new =
     VerifiesUnder (posed state (claim_in verifying.stating) (scope_in verifying.stating))
     (sets_of_stating verifying.stating) (cells_view verifying.cells.now) (present state) said
+    × (new ≡ state)
+
+-- ---- the claim that chains end
+
+abbrev pub sets_of_ending : Ending → Sets
+sets_of_ending ending = sets_in ending.sets.now
+
+-- Its sets are those of its scope.
+abbrev pub HasSets : Ending → Type 0
+HasSets ending = sets_within (scope_view ending.scope) ≡ Ok (sets_of_ending ending)
+
+abbrev pub chained_in : World → ℕ → Ending → Chained
+chained_in world limit ending =
+    record { hosts = ending.hosts.now; scope = scope_view ending.scope; world = world; limit = limit }
+
+abbrev pub chained_at : Scene → Ending → Chained
+chained_at scene ending = chained_in scene.world.now.files scene.limit ending
+
+-- What the claim is answered, with its sets as they are written.
+abbrev pub EndsWith : State → Ending → Reply → State → Type 0
+EndsWith state ending said new =
+    EndsUnder (chained_in state.world.files state.limit ending) (sets_of_ending ending) (present state) said
     × (new ≡ state)

@@ -1,5 +1,6 @@
 //! The own servers to which redirects are followed.
 ghost use Rattle.std.specs.Prelude.{◌≡◌, IfOk, map};
+ghost use Rattle.hc_ends.specs.Asking.{HaveNames};
 ghost use Rattle.serde_json.specs.View.{items_view};
 ghost use Rattle.hc_json.specs.CommandView.{host_view};
 ghost use Rattle.hc_json.specs.Hosts.{hosts_of};
@@ -13,7 +14,8 @@ use std::alloc::Global;
 
 /// The own servers that these values are.
 pub(crate) fn origins_in(alloc: Global, values: &[Value]) -> Result<Vec<Origin>, NoMemory>
-    ensures { IfOk result (λ origins. origins.items ≡ map origin_of (hosts_of (items_view values.now))) }
+    ensures origins { IfOk result (λ origins. origins.items ≡ map origin_of (hosts_of (items_view values.now))) }
+    ensures named { IfOk result (λ origins. HaveNames origins.items) }
 {
     let forms = hosts_of(alloc, values)?;
     origins_of(alloc, forms.as_slice())

@@ -8,15 +8,15 @@
 //! and after a refusal or `no_memory` files, number of edits, main file, kept answers and counts are as before. A
 //! step counts an evaluation exactly where an ask is answered and no answer to its request is kept of which no
 //! later edit changed a read, so too for each request of a `follow`, and none at a `decide`, which runs 16 requests at
-//! most for each branch that may break its claim (`evals`). A line that is no `check`, no such ask, no `follow`, no
+//! most for each branch that may break its claim, and of the claim that chains end the chains of 16 (`evals`). A line that is no `check`, no such ask, no `follow`, no
 //! `decide` and no `verify` reads nothing (`idle`);
 //! a `check` reads at most the texts of the configuration, each time that one is included, and such an ask those
 //! and the `.htaccess` texts that its request looks at, each time that it does, unless its reply is `no_memory`
 //! (`bytes`). That a kept answer is that of the present files is the session's invariant (specs/Sound.antt): an
 //! edit that leaves all reads of an answer as they were leaves the configuration and the answer. The requests of a
 //! `follow` are a chain of hc_follow, each asked behind the one before (specs/Following.antt). A `decide` is
-//! answered by hc_claim over the present files (specs/Deciding.antt), a `verify` by hc_cert (specs/Verifying.antt),
-//! and what its answer says holds. With `trail` the reply is the number of the events, the first 200, each with the
+//! answered by hc_claim over the present files (specs/Deciding.antt), and of the claim that chains of redirects end by
+//! hc_ends (specs/Ending.antt); a `verify` by hc_cert (specs/Verifying.antt); and what its answer says holds. With `trail` the reply is the number of the events, the first 200, each with the
 //! text of its line as the file has it, and the reads. `Status::code` and `Status::message` are the table of the
 //! README. `laws`: an answer rests on its reads alone.
 #![tactic(auto)]
@@ -25,6 +25,7 @@ mod asking;
 mod changes;
 mod conversation;
 mod deciding;
+mod ends;
 mod following;
 pub mod laws;
 mod limits;

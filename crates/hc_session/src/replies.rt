@@ -7,6 +7,7 @@ ghost use Rattle.hc_json.specs.Reply as reply;
 ghost use Rattle.hc_json.specs.ReplyView.{reply_view};
 ghost use Rattle.hc_stated.specs.Stated.{field_name};
 ghost use Rattle.hc_session.specs.Deciding.{bad_pattern_line, decided_reply};
+ghost use Rattle.hc_session.specs.Ending.{ends_reply};
 ghost use Rattle.hc_session.specs.Following.{chain_reply, stop_told};
 ghost use Rattle.hc_session.specs.Session.{Says, answer_reply, check_reply, said_of_outcome};
 ghost use Rattle.hc_session.specs.Verifying.{told_as, verdict_reply};
@@ -15,13 +16,14 @@ use crate::limits::FORBIDDEN;
 use crate::stepped::{Said, Stepped};
 use hc_base::codes::{BAD_COMMAND, BAD_JSON, SET_SYNTAX};
 use hc_base::{NoMemory, Refusal};
+use hc_ends::DecidedEnds;
 use hc_follow::Chain;
 use hc_held::{Decided, Verdict};
 use hc_json::{
     Condition, NoCommand, Rejection, Reply, Stop, Trail, bad_line, print_followed, print_outcome,
     print_refuted, print_rejected, print_reply, print_trailed, print_undecided,
 };
-use hc_model::{Config, Outcome};
+use hc_model::{Config, Decision, Outcome, Request};
 use hc_serve::Answer;
 use hc_stated::{BadPattern, Field};
 use hc_world::World;
@@ -126,15 +128,41 @@ pub(crate) fn decided(alloc: Global, answer: &Decided) -> Result<Stepped, NoMemo
     match answer {
         Decided::Proved => replied(alloc, &Reply::Proved),
         Decided::TooMany { count } => replied(alloc, &Reply::TooMany(*count)),
-        Decided::Refuted { request, run } => Ok(Stepped {
-            line: print_refuted(alloc, &run.outcome, request)?,
-            said: Said::Other,
-        }),
-        Decided::Undecided { branch } => Ok(Stepped {
-            line: print_undecided(alloc, branch.as_slice())?,
-            said: Said::Other,
-        }),
+        Decided::Refuted { request, run } => refuted(alloc, &run.outcome, request),
+        Decided::Undecided { branch } => undecided(alloc, branch.as_slice()),
     }
+}
+
+/// The answer to the claim that chains of redirects end.
+pub(crate) fn ended(alloc: Global, answer: &DecidedEnds) -> Result<Stepped, NoMemory>
+    ensures { IfOk result (Says (ends_reply answer.now)) }
+{
+    match answer {
+        DecidedEnds::Proved => replied(alloc, &Reply::Proved),
+        DecidedEnds::TooMany { count } => replied(alloc, &Reply::TooMany(*count)),
+        DecidedEnds::Refuted { request, chain } => refuted(alloc, &chain.last.outcome, request),
+        DecidedEnds::Undecided { branch } => undecided(alloc, branch.as_slice()),
+    }
+}
+
+// The request that breaks a claim, and what it receives at last.
+fn refuted(alloc: Global, outcome: &Outcome, request: &Request) -> Result<Stepped, NoMemory>
+    ensures { IfOk result (Says (reply.refuted outcome.now request.now)) }
+{
+    Ok(Stepped {
+        line: print_refuted(alloc, outcome, request)?,
+        said: Said::Other,
+    })
+}
+
+// What was decided on the way to an end that may break a claim.
+fn undecided(alloc: Global, branch: &[Decision]) -> Result<Stepped, NoMemory>
+    ensures { IfOk result (Says (reply.undecided branch.now)) }
+{
+    Ok(Stepped {
+        line: print_undecided(alloc, branch)?,
+        said: Said::Other,
+    })
 }
 
 /// The verdict on an invariant.

@@ -2,6 +2,7 @@ ghost use Rattle.std.specs.Prelude.{◌≡◌, ◌+◌, ◌<◌, ◌≤◌, ◌-
 ghost use Rattle.std.specs.Prelude.{IfSome, OnErr, OnOk};
 ghost use Rattle.serde_json.specs.View.{items_view};
 ghost use Rattle.hc_base.specs.Paths.{begins_with_slash};
+ghost use Rattle.hc_ends.specs.Asking.{HaveNames};
 ghost use Rattle.hc_json.specs.Cells.{cells_of};
 ghost use Rattle.hc_json.specs.Command.{command_of};
 ghost use Rattle.hc_json.specs.CommandView.{claim_view, question_view, request_view, scope_view};
@@ -10,7 +11,8 @@ ghost use Rattle.hc_kept.specs.Files.{AreFilesOf};
 ghost use Rattle.hc_kept.specs.Site.{is_current_site};
 ghost use Rattle.hc_session.specs.Asking.{answer_of, asked, evaluated};
 ghost use Rattle.hc_session.specs.Changes.{changed_by, done_of};
-ghost use Rattle.hc_session.specs.Deciding.{DecideTurn, present_lines};
+ghost use Rattle.hc_session.specs.Deciding.{DecideTurn, MayTry, present_lines};
+ghost use Rattle.hc_session.specs.Ending.{EndsTurn, Follows, MayFollow};
 ghost use Rattle.hc_session.specs.Following.{FollowTurn, FollowUnder, IsFollowed};
 ghost use Rattle.hc_session.specs.Session.{Counts, CountsCommand, CountsRuns, EditTurn, Gave, IsTurn, ReadsCommand};
 ghost use Rattle.hc_session.specs.Session.{StepTurn, ask_bytes, ask_turn, check_turn, end_turn};
@@ -18,12 +20,14 @@ ghost use Rattle.hc_session.specs.Session.{evaluated_turn, is_kept, kept_turn, m
 ghost use Rattle.hc_session.specs.Session.{reads_nothing};
 ghost use Rattle.hc_session.specs.Session.{site_bytes, start, stats_turn};
 ghost use Rattle.hc_session.specs.Sound.{IsAnswerOf, IsAskedIn, IsKeptAnswer, IsSite};
-ghost use Rattle.hc_session.specs.Stating.{IsRead, Replies, VerifiesWith, claim_in, scope_in};
+ghost use Rattle.hc_session.specs.Stating.{EndsWith, HasSets, IsRead, Replies, VerifiesWith, chained_in, claim_in};
+ghost use Rattle.hc_session.specs.Stating.{scope_in};
 ghost use Rattle.hc_session.specs.Verifying.{VerifyTurn};
 
 use crate::asking::{answer, find_answer};
 use crate::changes::{Change, done_of, make};
 use crate::deciding::{Stating, decide_at};
+use crate::ends::{Ending, ends_at};
 use crate::following::origins_in;
 use crate::limits::{KEPT_ANSWERS, MOST_ASKS};
 use crate::replies::{answered, checked, followed, no_command, no_set, refused, refusing, replied};
@@ -161,6 +165,7 @@ impl Session {
             Ok(Command::Ask(asked)) => self.ask(&asked, evals, bytes),
             Ok(Command::Follow { request, hosts }) => self.follow(request, hosts, evals, bytes),
             Ok(Command::Decide { claim, scope }) => self.decide(claim, scope, evals, bytes),
+            Ok(Command::Ends { hosts, scope }) => self.decide_ends(hosts, scope, evals, bytes),
             Ok(
                 Command::Verify {
                     claim,
@@ -492,7 +497,7 @@ impl Session {
     ) -> Result<Stepped, NoMemory>
         ensures turned { Gave result (DecideTurn self.old (claim_view claim.entry) (scope_view scope.entry))
             self.old self.new }
-        ensures evals { CountsRuns self.old (claim_view claim.entry) (scope_view scope.entry) self.new
+        ensures evals { CountsRuns (MayTry self.old (claim_view claim.entry) (scope_view scope.entry)) self.old self.new
             evals.old evals.new }
     {
         match sets_in(self.alloc, claim, scope)? {
@@ -519,7 +524,7 @@ impl Session {
         requires sets { IsRead stating }
         ensures turned { Gave result (DecideTurn self.old (claim_in stating.entry) (scope_in stating.entry))
             self.old self.new }
-        ensures evals { CountsRuns self.old (claim_in stating.entry) (scope_in stating.entry) self.new
+        ensures evals { CountsRuns (MayTry self.old (claim_in stating.entry) (scope_in stating.entry)) self.old self.new
             evals.old evals.new }
     {
         let mut site = self.take_site(bytes)?;
@@ -528,6 +533,59 @@ impl Session {
             &self.world,
             &mut site,
             stating,
+            self.limit,
+            evals,
+            bytes,
+        );
+        put_back(&mut self.site, site);
+        stepped
+    }
+
+    // Decides whether chains of redirects end.
+    fn decide_ends<E: Ledger, L: Ledger>(
+        &mut self,
+        hosts: &[Value],
+        scope: ScopeForm<'_>,
+        evals: &mut Counter<E>,
+        bytes: &mut Counter<L>,
+    ) -> Result<Stepped, NoMemory>
+        ensures turned { Gave result (EndsTurn self.old (hosts_of (items_view hosts.now)) (scope_view scope.entry))
+            self.old self.new }
+        ensures evals { CountsRuns (MayFollow self.old (hosts_of (items_view hosts.now)) (scope_view scope.entry))
+            self.old self.new evals.old evals.new }
+    {
+        let sets = match sets_in(self.alloc, ClaimForm::Stops, scope)? {
+            Ok(sets) => sets,
+            Err(field) => return no_set(self.alloc, field),
+        };
+        let hosts = origins_in(self.alloc, hosts)?;
+        let ending = Ending {
+            hosts: hosts.as_slice(),
+            scope,
+            sets: &sets,
+        };
+        self.ends_with(ending, evals, bytes)
+    }
+
+    // The same with its sets as they are written.
+    fn ends_with<E: Ledger, L: Ledger>(
+        &mut self,
+        ending: Ending<'_>,
+        evals: &mut Counter<E>,
+        bytes: &mut Counter<L>,
+    ) -> Result<Stepped, NoMemory>
+        requires sets { HasSets ending }
+        requires named { HaveNames ending.hosts.now }
+        ensures turned { Gave result (EndsWith self.old ending.entry) self.old self.new }
+        ensures evals { CountsRuns (Follows (chained_in self.old.world.files self.old.limit ending.entry)
+            (present self.old)) self.old self.new evals.old evals.new }
+    {
+        let mut site = self.take_site(bytes)?;
+        let stepped = ends_at(
+            self.alloc,
+            &self.world,
+            &mut site,
+            ending,
             self.limit,
             evals,
             bytes,
