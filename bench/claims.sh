@@ -6,7 +6,7 @@
 # Each world is put, and one claim on all its requests is decided; what that takes is the run with it less the one without. Beside
 # it stands how many branches the claim has: the least `--cells` for which it isn't too many. Worlds: a site whose `.htaccess` has
 # the rules that WordPress writes, alone, with 100 files and with 20 such folders; 1,000 files; 50 rules of a server and a
-# `Require`; and eleven rules of which each doubles the branches, where 200 and 2,000 are too many. The invariant has ten cells, over
+# `Require`; 100 redirects to the site itself, of which it is claimed that each chain ends; and eleven rules of which each doubles the branches, where 200 and 2,000 are too many. The invariant has ten cells, over
 # the world of WordPress with its 100 files. Nothing is built here.
 source "$(dirname -- "$(readlink -f -- "$0")")/program.sh"
 
@@ -59,12 +59,18 @@ def rules():
     return [put(MAIN_FILE, main), put("/srv/new7/k", "")]
 
 
+def redirects():
+    moved = "".join(f"Redirect /old{at} http://localhost/new{at}\n" for at in range(100))
+    return [put(MAIN_FILE, f"DocumentRoot /srv\n{moved}"), put("/srv/new7/k", "")]
+
+
 def doubling():
     each = "".join(f"RewriteCond %{{HTTP:h{at}}} ^$\nRewriteRule ^ - [E=v{at}:1]\n" for at in range(11))
     return [put(MAIN_FILE, f"DocumentRoot /srv\nRewriteEngine On\n{each}")]
 
 
 STOPS = {"kind": "stops"}
+ENDS = {"kind": "ends", "hosts": [{"host": "localhost", "port": 80, "scheme": "http"}]}
 GUARDED = {"kind": "guarded", "target": {"pattern": "^/srv/new7/"}, "file": MAIN_FILE, "line": 54}
 
 # Ten cells where a pass begins: the front controller's, eight by the first letter of a path, and all.
@@ -83,6 +89,7 @@ CLAIMS = [
     ("20 such folders", blogs(), STOPS, 5),
     ("1,000 files", plain(1_000), STOPS, None),
     ("50 rules, guarded", rules(), GUARDED, None),
+    ("100 redirects", redirects(), ENDS, None),
 ]
 
 

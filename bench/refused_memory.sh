@@ -120,6 +120,9 @@ CLAIMS = r"""
 {"do":"decide","claim":{"kind":"shadowed","file":"/etc/httpd/conf/httpd.conf","line":3},"scope":{"path":{"pattern":"^/x/k$"}}}
 {"do":"verify","claim":{"kind":"stops"},"scope":{"path":{"pattern":"^/a$"}},"cells":[{"at":"pass","rank":0,"slots":{"path":{"pattern":"^/a$"}}},{"at":"server","rank":0,"slots":{"text":{"pattern":"^/a$"}}}]}
 {"do":"ask","target":"/o"}
+{"do":"put","path":"/etc/httpd/conf/httpd.conf","text":"DocumentRoot /srv\nRedirect /a http://localhost/b\nRedirect /c http://localhost/c\n"}
+{"do":"decide","claim":{"kind":"ends","hosts":[{"host":"localhost","port":80,"scheme":"http"}]},"scope":{"path":{"pattern":"^/[ab]$"}}}
+{"do":"decide","claim":{"kind":"ends","hosts":[{"host":"localhost","port":80,"scheme":"http"}]},"scope":{"path":{"pattern":"^/c$"}}}
 """.strip().splitlines()
 
 

@@ -2,6 +2,7 @@
 //!
 //! - `decide stops FIELD=VALUE ..`, `decide shadowed FILE:LINE FIELD=VALUE ..`, `decide guarded PATTERN FILE:LINE
 //!   FIELD=VALUE ..`, where paths and queries are patterns, and methods stand with commas between them
+//! - `decide ends ORIGIN, ..: FIELD=VALUE ..`, where an origin is `SCHEME HOST PORT`
 //!
 //! The replies in short:
 //!
@@ -10,6 +11,7 @@
 //! - `undecided cond:FILE:LINE:true rule:FILE:LINE:false ..`
 
 use crate::dialogue::parts;
+use crate::follows::hosts;
 use hc_base::NoMemory;
 use std::alloc::Global;
 
@@ -28,6 +30,11 @@ fn shadowed(alloc: Global, at: &str) -> Result<String, NoMemory> {
 fn guarded(alloc: Global, target: &str, at: &str) -> Result<String, NoMemory> {
     let place = place(alloc, at)?;
     format!(in alloc; r#"{{"kind":"guarded","target":{{"pattern":"{target}"}},{place}}}"#)
+}
+
+fn ends(alloc: Global, origins: &str) -> Result<String, NoMemory> {
+    let hosts = hosts(alloc, origins)?;
+    format!(in alloc; r#"{{"kind":"ends","hosts":[{hosts}]}}"#)
 }
 
 fn methods(alloc: Global, names: &str) -> Result<String, NoMemory> {
@@ -69,6 +76,10 @@ pub fn decide(alloc: Global, text: &str) -> Result<String, NoMemory> {
         "guarded" => {
             let (at, fields) = parts(behind, " ");
             decided(alloc, &guarded(alloc, first, at)?, fields)
+        },
+        "ends" => {
+            let (origins, fields) = parts(rest, ": ");
+            decided(alloc, &ends(alloc, origins)?, fields)
         },
         _ => decided(alloc, r#"{"kind":"stops"}"#, rest),
     }

@@ -11,9 +11,8 @@ fn origin(alloc: Global, text: &str) -> Result<String, NoMemory> {
     format!(in alloc; r#"{{"host":"{host}","port":{port},"scheme":"{scheme}"}}"#)
 }
 
-/// The line of a `follow`.
-pub fn follow(alloc: Global, text: &str) -> Result<String, NoMemory> {
-    let (origins, asked) = parts(text, ": ");
+/// Origins as a list.
+pub fn hosts(alloc: Global, origins: &str) -> Result<String, NoMemory> {
     let mut hosts = String::new(alloc);
     for own in origins.split(", ") {
         if !hosts.is_empty() {
@@ -21,6 +20,13 @@ pub fn follow(alloc: Global, text: &str) -> Result<String, NoMemory> {
         }
         hosts.push_str(&origin(alloc, own)?)?;
     }
+    Ok(hosts)
+}
+
+/// The line of a `follow`.
+pub fn follow(alloc: Global, text: &str) -> Result<String, NoMemory> {
+    let (origins, asked) = parts(text, ": ");
+    let hosts = hosts(alloc, origins)?;
     let (target, fields) = parts(asked, " ");
     let mut line = format!(in alloc; r#"{{"do":"follow","hosts":[{hosts}],"target":"{target}""#)?;
     for text in fields.split_whitespace() {

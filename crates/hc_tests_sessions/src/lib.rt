@@ -22,6 +22,8 @@ mod directory_rules;
 #[cfg(test)]
 mod edits;
 #[cfg(test)]
+mod ends;
+#[cfg(test)]
 mod extremes;
 #[cfg(test)]
 mod folder_files;
