@@ -19,6 +19,7 @@ from hc_report_requests import (
     place_in,
     request_of,
     scope_words,
+    servers_of,
     subject,
 )
 from hc_report_texts import Code, capital, counted, listed, plain, say
@@ -26,6 +27,8 @@ from hc_report_trails import branch_part, reads_sentence, trail_steps
 from hc_report_words import (
     BREAKS,
     CONDITIONS,
+    ENDS_ADVICE,
+    MANY_ENDS_ADVICE,
     OUTSIDE_BREAKS,
     REJECTED_MEANING,
     STOPS,
@@ -171,17 +174,19 @@ def _refuted(asked, value):
     if request is None:
         raise Unknown
     kind, words, parts = outcome_words(asked, outcome)
-    entry = Entry(asked.number, "refuted", subject(request) + say(" breaks the claim: it ") + words + (".",))
+    servers = servers_of(asked.fields.get("claim"))
+    who = "the last request of its chain" if servers else "it"
+    entry = Entry(asked.number, "refuted", subject(request) + (f" breaks the claim: {who} ",) + words + (".",))
     entry.parts += [*asked.claim_parts(), *came(request, fields), *parts]
     claim = asked.fields.get("claim") if asked.claim else {}
     breaks = OUTSIDE_BREAKS if kind == "outside" else BREAKS.get(claim.get("kind"))
     entry.parts += [means(breaks)] if breaks else []
-    entry.parts += [*curl_parts(request), *_why_parts(request)]
+    entry.parts += [*curl_parts(request), *_why_parts(request, servers)]
     return entry
 
 
-def _why_parts(request):
-    line = ask_line(request)
+def _why_parts(request, servers):
+    line = ask_line(request, servers)
     return [Shell(say("To be told why, give hc this line:"), line)] if line else []
 
 
@@ -191,7 +196,8 @@ def _undecided(asked, value):
     this = "this holds: " if plain(claim).startswith("whenever") else ""
     title = (f"It isn't known whether {this}", *claim, ".")
     decided = branch_part(asked, branch, say("The branch decides"))
-    parts = [*asked.scope_parts(), means(UNDECIDED_MEANING), decided, do(UNDECIDED_ADVICE)]
+    advice = ENDS_ADVICE if servers_of(asked.fields.get("claim")) else UNDECIDED_ADVICE
+    parts = [*asked.scope_parts(), means(UNDECIDED_MEANING), decided, do(advice)]
     return Entry(asked.number, "undecided", title, parts)
 
 
@@ -199,7 +205,8 @@ def _too_many(asked, value):
     if type(value) is not int:
         raise Unknown
     title = say("The claim has {} branches or more, so it wasn't decided.", value)
-    return Entry(asked.number, "too_many", title, [*asked.claim_parts(), do(TOO_MANY_ADVICE)])
+    advice = MANY_ENDS_ADVICE if servers_of(asked.fields.get("claim")) else TOO_MANY_ADVICE
+    return Entry(asked.number, "too_many", title, [*asked.claim_parts(), do(advice)])
 
 
 def _rejected(asked, value):

@@ -139,9 +139,11 @@ def _quoted(text):
     return quoted if quoted != text else f"'{text}'"
 
 
-def ask_line(request):
-    """The line that asks hc for a request with its trail; None where there is none."""
-    line = json.dumps({"do": "ask", **vars(request), "trail": True})
+def ask_line(request, servers=()):
+    """The line that asks hc for a request with its trail, or for its chain of redirects among servers; None where there
+    is none."""
+    asked = {"do": "follow", "hosts": list(servers)} if servers else {"do": "ask", "trail": True}
+    line = json.dumps({**asked, **vars(request)})
     return line if _is_formed(request) and len(line) <= LONGEST_LINE else None
 
 
@@ -194,11 +196,28 @@ def place_in(fields):
     return (data_of(path), line) if isinstance(path, str) and type(line) is int else None
 
 
+def _is_server(own):
+    return (
+        isinstance(own, dict)
+        and all(isinstance(own.get(name), str) for name in ("scheme", "host"))
+        and type(own.get("port")) is int
+    )
+
+
+def servers_of(claim):
+    """The own servers of a claim on chains; none where it is another one, or has no such form."""
+    hosts = claim.get("hosts") if isinstance(claim, dict) and claim.get("kind") == "ends" else None
+    return hosts if isinstance(hosts, list) and all(_is_server(own) for own in hosts) else []
+
+
 def claim_words(claim):
     """What a claim says of the requests of its scope; None where it has no such form."""
     if not isinstance(claim, dict):
         return None
-    kind, place = claim.get("kind"), place_in(claim)
+    kind, place, servers = claim.get("kind"), place_in(claim), servers_of(claim)
+    if servers:
+        named = [say("{}", f"{own['scheme']}://{own['host']}:{own['port']}") for own in servers]
+        return say("whenever a request of the scope is redirected among ") + listed(named) + (", that comes to an end",)
     if kind == "stops":
         return say("no request of the scope runs into a limit of rounds or of restarts")
     if kind == "shadowed" and place:

@@ -121,6 +121,8 @@ UNDECIDED_ADVICE = (
     "Narrow the scope to the paths that matter, split it (one path or one method each), or state an invariant with"
     " `verify`: docs/RULES.md (Claims) and docs/INVARIANTS.md say how."
 )
+MANY_ENDS_ADVICE = "Narrow the scope, split it, or allow more with `--cells`."
+ENDS_ADVICE = "Narrow the scope to the paths that matter, or split it (one path or one method each)."
 TOO_MANY_ADVICE = (
     "Narrow the scope, split it, allow more with `--cells`, or state an invariant with `verify` (docs/INVARIANTS.md)."
 )
@@ -128,6 +130,7 @@ BREAKS = {
     "stops": "So a request of the scope runs into a limit.",
     "shadowed": "The rule matches on its way.",
     "guarded": "That `Require` wasn't asked for it.",
+    "ends": "The redirects go on behind the 20th, or lead to what is no request.",
 }
 OUTSIDE_BREAKS = "A request that ends outside breaks each claim, since nothing is known of it."
 REJECTED_MEANING = "A rejected invariant says nothing of the claim itself."

@@ -713,6 +713,24 @@ class Claims(Case):
         text = text_of([{"undecided": {"branch": []}}])
         self.assertIn("The branch decides nothing: no rule and no condition stood on its way.", text)
 
+    def test_chains(self):
+        hosts = [{"host": "a", "port": 80, "scheme": "http"}, {"host": "b", "port": 443, "scheme": "https"}]
+        decide = {"do": "decide", "claim": {"kind": "ends", "hosts": hosts}, "scope": {}}
+        text = text_of([{"proved": True}], [decide])
+        self.assertIn("[1] Proved: Whenever a request of the scope is redirected among http://a:80 and https://b:443,"
+                      " that comes to an end.", text)
+        text = text_of([{"undecided": {"branch": []}}], [decide])
+        self.assert_in_each(["this holds: whenever a request", "Narrow the scope"], text)
+        self.assertNotIn("INVARIANTS", text + text_of([{"too_many": 3}], [decide]))
+        request = {"client": "0.0.0.0", "headers": {}, "host": "a", "method": "GET", "port": 80, "scheme": "http",
+                   "server": "192.0.2.1", "target": "/x"}
+        outcome = {"redirect": {"location": "http://a/x", "status": 302}}
+        text = text_of([{"refuted": {"outcome": outcome, "request": request}}], [decide])
+        self.assert_in_each(["GET http://a/x breaks the claim: the last request of its chain is sent to http://a/x",
+                             "go on behind the 20th", '{"do": "follow", "hosts": [{"host": "a"'], text)
+        decide["claim"]["hosts"] = [{"host": "a"}]
+        self.assertIn("[1] Proved: The claim holds", text_of([{"proved": True}], [decide]))
+
     def test_too_many(self):
         text = text_of([{"too_many": 20000}], [self.STOPS])
         self.assertIn("[1] Too many branches: The claim has 20,000 branches or more, so it wasn't decided.", text)
