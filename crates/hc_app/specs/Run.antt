@@ -1,11 +1,8 @@
 -- What a run of the program does. Our own choice.
 use Rattle.std.specs.Prelude.{◌≡◌, ◌⊎◌, ℕ, List, Option, Some, None}
 use Rattle.std.specs.Io.KnownBytes.{Appends}
+use Rattle.hc_generate.specs.Sessions.{AppendsFront, Done, Status, Work, WriteFault}
 use Rattle.hc_generate.specs.Summary.{IsSummary}
-use Rattle.hc_session.specs.Sending.{AppendsFront}
-use Rattle.hc_session.specs.Session.{Work}
-use Rattle.hc_session.specs.declared.status.Status.{Status}
-use Rattle.hc_session.specs.declared.status.Status.TheVariants.{Done, WriteFault}
 use Rattle.hc_words.specs.declared.words.Words.{Words}
 
 -- The words are read, and ask to serve the source, with so many branches for a claim.

@@ -1,10 +1,9 @@
 ghost use Rattle.std.specs.Prelude.{◌≡◌, ◌≢◌, ◌<◌, ◌^◌, ◌-◌};
-ghost use Rattle.hc_session.specs.Session.{work};
+ghost use Rattle.hc_generate.specs.Sessions.{work};
 ghost use Rattle.hc_app.specs.Run.{Generated};
 
 use hc_base::{Counter, Failed, Sink};
-use hc_generate::summary;
-use hc_session::{Status, send};
+use hc_generate::{Status, send, summary};
 use std::alloc::Global;
 use std::sync::ledger::Ledger;
 

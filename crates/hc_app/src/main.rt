@@ -21,7 +21,7 @@ mod run;
 mod tests;
 
 use hc_base::{Counter, Sink, Source, StdSink, StdSource};
-use hc_session::Status;
+use hc_generate::Status;
 pub use run::run;
 use std::alloc::Global;
 use std::env;

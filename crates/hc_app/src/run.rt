@@ -1,13 +1,12 @@
 ghost use Rattle.std.specs.Prelude.{◌≡◌, ◌≢◌, ◌⊎◌, ◌<◌, ◌^◌, ◌-◌, ℕ, None, map};
 ghost use Rattle.std.specs.Prelude.{string_bytes};
-ghost use Rattle.hc_session.specs.Conversation.{Completes, Served};
-ghost use Rattle.hc_session.specs.Session.{start, work};
+ghost use Rattle.hc_generate.specs.Sessions.{Completes, Served, start, work};
 ghost use Rattle.hc_words.specs.Words.{words_of};
 ghost use Rattle.hc_app.specs.Run.{AsksFor, AsksToServe, Generated};
 
 use crate::generate::generate;
 use hc_base::{Counter, Sink, Source};
-use hc_session::{Status, serve_session};
+use hc_generate::{Status, serve_session};
 use hc_words::{WordsFault, read_words};
 use std::alloc::Global;
 use std::sync::ledger::Ledger;

@@ -4,7 +4,7 @@ ghost use Rattle.std.specs.Prelude.{None};
 
 use crate::run_counted;
 use hc_base::{Failed, NoMemory, Source, VecSink};
-use hc_session::Status;
+use hc_generate::Status;
 use std::alloc::Global;
 use std::marker::Brand;
 use std::process::Abort;

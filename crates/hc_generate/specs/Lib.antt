@@ -2,4 +2,5 @@ pub mod Draws
 pub mod Lines
 pub mod Run
 pub mod Script
+pub mod Sessions
 pub mod Summary

@@ -10,7 +10,7 @@ use Rattle.hc_abs_pass.specs.Walks.{IsListed}
 use Rattle.hc_base.specs.declared.place.Refusal.{Refusal}
 use Rattle.hc_ends.specs.Asking.{Site}
 use Rattle.hc_ends.specs.Deciding as ends
-use Rattle.hc_ends.specs.Holding as ends
+use Rattle.hc_ends.specs.Holding as held
 use Rattle.hc_ends.specs.declared.decided.DecidedEnds.{DecidedEnds}
 use Rattle.hc_held.specs.Verdicts.{IsVerdict, Verdict}
 use Rattle.hc_held.specs.Claims.{Answers, Asked, Decided, Holds, MayRun, Runs}
@@ -119,7 +119,7 @@ module _ (scene : Scene) (ending : Ending) (scope : Scope)
   site = site_under (chained_at scene ending) scene.config.now
 
   pub ends_answered : (old new : ℕ) (decided : DecidedEnds) (stepped : Stepped)
-      → ends.Answers site scope scene.limit old new decided → ends.Holds site scope decided
+      → ends.Answers site scope scene.limit old new decided → held.Holds site scope decided
       → Says (ends_reply decided) stepped
       → Replies (SaysOfEnds (chained_at scene ending) scene.config.now (sets_of_ending ending) None) stepped
   ends_answered old new decided stepped answers holds says = (

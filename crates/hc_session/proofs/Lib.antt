@@ -6,6 +6,7 @@ pub mod Chained
 pub mod Completing
 pub mod Claiming
 pub mod Known
+pub mod Named
 pub mod Requests
 pub mod Serving
 pub mod Standing

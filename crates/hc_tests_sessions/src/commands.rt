@@ -3,7 +3,7 @@
 use crate::dialogue::{hold, hold_each};
 use crate::session::{check, session_over};
 use hc_base::NoMemory;
-use hc_session::Status;
+use hc_generate::Status;
 
 // Lines that are no command, or may not be done, and the field that is wrong; lines that are no JSON, and arrays
 // within each other: so deep is no JSON, and one less is a value that is no command.

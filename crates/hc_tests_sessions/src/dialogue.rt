@@ -24,7 +24,7 @@ use crate::claims::{decide, refuted, undecided};
 use crate::follows::{follow, followed};
 use crate::session::{LONGEST_REPLIES, check, session_within};
 use hc_base::NoMemory;
-use hc_session::{MAIN_FILE, Status};
+use hc_generate::{MAIN_FILE, Status};
 use hc_words::DEFAULT_CELLS;
 use std::alloc::Global;
 use std::process::Abort;

@@ -3,7 +3,7 @@
 ghost use Rattle.std.specs.Prelude.{◌≡◌, ◌-◌, ◌<◌, ◌≤◌, ◌^◌};
 
 use hc_base::{Counter, NoMemory, Sink, Source, VecSink, VecSource};
-use hc_session::{Status, serve_session};
+use hc_generate::{Status, serve_session};
 use hc_words::DEFAULT_CELLS;
 use std::alloc::Global;
 use std::marker::Brand;

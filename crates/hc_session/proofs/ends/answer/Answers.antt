@@ -23,3 +23,13 @@ pub returns-clause-evals : goal.returns-clause-evals
 returns-clause-evals g c =
     chains_followed c.args.scene c.args.ending c.args.scope.now c.requires.scope c.args.evals.now
     c.answer_by.new.evals c.requires.sets c.answer_by.ensures.evals
+
+pub returns-in_err-answer-clause-evals : goal.returns-in_err-answer-clause-evals
+returns-in_err-answer-clause-evals g c =
+    chains_followed c.args.scene c.args.ending c.args.scope.now c.requires.scope c.args.evals.now
+    c.answer_by.new.evals c.requires.sets c.answer_by.ensures.evals
+
+pub returns-in_err-keep-clause-evals : goal.returns-in_err-keep-clause-evals
+returns-in_err-keep-clause-evals g c =
+    chains_followed c.args.scene c.args.ending c.args.scope.now c.requires.scope c.args.evals.now
+    c.answer_by.new.evals c.requires.sets c.answer_by.ensures.evals

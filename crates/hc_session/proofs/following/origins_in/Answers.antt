@@ -1,12 +1,13 @@
-use Rattle.std.proofs.Common.{map, ◌∙◌}
-use Rattle.std.proofs.lemmas.List.Folds.{list_all-map}
+use Rattle.std.proofs.Common.{map, subst, sym}
 use Rattle.std.proofs.lemmas.Result.{IfOk-weaker}
 use Rattle.hc_json.specs.CommandView.{host_view}
-use Rattle.hc_session.specs.Following.{origin_of}
+use Rattle.hc_json.specs.Hosts.{AreNamed}
+use Rattle.hc_session.proofs.Named.{have_names}
 use Rattle.hc_session.proofs.following.origins_in.Goals as goal
 
 pub returns-clause-named : goal.returns-clause-named
-returns-clause-named g c =
+returns-clause-named c =
+    let named =
+    subst (λ forms. AreNamed (map host_view forms)) (sym c.as_slice.ensures.value) c.in_ok-forms.ensures.named in
     IfOk-weaker c.origins_of.result _ _
-    (λ origins are. rw are (list_all-map _ origin_of (map host_view c.in_ok-forms.forms.items)
-    ∙ c.in_ok-forms.ensures.named)) c.origins_of.ensures
+    (λ origins are. have_names origins.items (map host_view c.as_slice.result.now) are named) c.origins_of.ensures
