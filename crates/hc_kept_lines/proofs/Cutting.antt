@@ -1,18 +1,19 @@
 -- A text is cut into logical lines from its front on.
 use Rattle.std.proofs.Common.{◌≡◌, ℕ, ◌+◌, ◌<◌, ◌≤◌, List, [], ◌∷◌, ◌++◌, length, take}
 use Rattle.std.proofs.Common.{drop}
-use Rattle.std.proofs.Common.{Bool, true, false, ◌||◌, refl, sym, ◌∙◌, ap, arith, length-append, length-drop}
+use Rattle.std.proofs.Common.{Bool, true, false, ◌||◌, refl, sym, ◌∙◌, ap, arith, append_assoc, length-append}
 use Rattle.std.proofs.Math.Bool.{or-true}
 use Rattle.std.proofs.Math.Seq.{drop-length, take-length}
-use Rattle.std.proofs.lemmas.List.{drop-drop, drop-take, length-take-le, take-append-drop, take-take, take_all}
+use Rattle.std.proofs.lemmas.List.{drop-take, length-take-le, take-append-drop, take-take, take_all}
 use Rattle.std.proofs.lemmas.List.{drop_all}
-use Rattle.hc_lines.specs.Logical.{runs}
-use Rattle.hc_lines.specs.declared.line.FileKind.{FileKind}
+use Rattle.hc_base.specs.Lines.{pieces}
+use Rattle.hc_lines.specs.Logical.{size}
 use Rattle.hc_kept_lines.specs.Edit.{is_ended}
-use Rattle.hc_kept_lines.specs.Runs.{AreKept, AreUnread, IsKeptRun, IsLineLen, IsUncut, Parts, unread}
+use Rattle.hc_kept_lines.specs.Runs.{AreKept, IsKeptRun, IsLineLen, IsReadAs, IsUncut, Parts}
 use Rattle.hc_kept_lines.specs.declared.runs.KeptRun.{KeptRun}
+use Rattle.hc_kept_lines.specs.declared.runs.Reading.{Reading}
 use Rattle.hc_kept_lines.proofs.Ending.{ended-behind, runs-single}
-use Rattle.hc_kept_lines.proofs.Keeping.{Parts-ended, Parts-front, owed-append, together}
+use Rattle.hc_kept_lines.proofs.Keeping.{Parts-ended, Parts-front, together}
 
 -- ---- the first logical line
 
@@ -57,55 +58,50 @@ Parts-next front (m ∷ mid) (b ∷ back) some first second =
     ended true h = refl
     ended false h = h
 
--- Behind a logical line at a place of a text.
-pub Parts-step : (text : List ℕ) (at n : ℕ) → 0 < n → at + n ≤ length text
-    → Parts (take at text) (drop at text)
-    → Parts (take n (drop at text)) (drop n (drop at text)) → Parts (take (at + n) text) (drop (at + n) text)
-Parts-step text at n some inside first second =
-    rw (take_sum at n text, ← drop-drop n at text)
-    (Parts-next (take at text) (take n (drop at text)) (drop n (drop at text))
-    (omega (arith, length-take-le n (drop at text) (omega (arith, length-drop at text))))
-    (rw (take-append-drop n (drop at text)) first) second)
-
-pub kept_alone : (file : FileKind) (line : List ℕ) (run : KeptRun) → IsKeptRun file line [] run
-    → AreKept file line (run ∷ [])
-kept_alone file line run kept =
+pub kept_alone : (line : List ℕ) (run : KeptRun) → IsKeptRun line [] run
+    → AreKept line (run ∷ [])
+kept_alone line run kept =
     let all : length line ≤ run.bytes = omega (arith, kept.bytes) in
     rw (take_all run.bytes line all, drop_all run.bytes line all) (kept, refl)
 
-unread-kept : (file : FileKind) (line : List ℕ) → 0 < length line → IsUncut line
-    → IsKeptRun file line [] (unread line)
-unread-kept file line some uncut = record {
+-- a logical line that is read
+pub one_kept : (line : List ℕ) (count size_of : ℕ) (read : Reading) → 0 < length line → IsUncut line
+    → count ≡ length (pieces line) → size_of ≡ size count line
+    → IsReadAs line (size (length (pieces line)) line) read
+    → IsKeptRun line [] (record { bytes = length line; count = count; size = size_of; read = read })
+one_kept line count size_of read some uncut counts sizes is = record {
   bytes = refl;
   some = some;
   single = runs-single line some uncut;
-  count = refl;
+  count = counts;
   ended = or-true (is_ended line);
-  read = tt;
+  read = rw (sizes, counts) is;
 }
 
-pub record IsCutTo (text : List ℕ) (at : ℕ) (runs : List KeptRun) : Type 0 where
-  pub inside : at ≤ length text
-  pub parts : Parts (take at text) (drop at text)
-  pub cut : AreUnread (take at text) runs
+-- ---- the lines so far
 
-pub IsCutTo-more : (text : List ℕ) (at n : ℕ) (runs more : List KeptRun) (run : KeptRun) → IsCutTo text at runs
-    → IsLineLen (drop at text) n → run ≡ unread (take n (drop at text)) → more ≡ runs ++ run ∷ []
-    → IsCutTo text (at + n) more
-IsCutTo-more text at n runs more run cut is same e =
-    let line = take n (drop at text) in
-    let size : length line ≡ n = length-take-le n (drop at text) is.inside in
-    let inside : at + n ≤ length text = omega (arith, is.inside, is.some, length-drop at text) in
-    let some : 0 < length line = omega (arith, is.some) in
-    let front : Parts (take at text) line = Parts-front (take at text) line (drop n (drop at text))
-    (rw (take-append-drop n (drop at text)) cut.parts) in
-    rw (e, same) (record {
-      inside = inside;
-      parts = Parts-step text at n is.some inside cut.parts is.parts;
-      cut = rw (take_sum at n text) (record {
-        kept = λ file. together file (take at text) line runs (unread line ∷ []) front (cut.cut.kept file)
-            (kept_alone file line (unread line) (unread-kept file line some is.uncut));
-        unread = owed-append runs (unread line ∷ [])
-            ∙ omega (arith, cut.cut.unread, length-append (take at text) line);
-      });
+-- The logical lines of a text up to a place are read, and so many bytes were counted.
+pub record ReadTo (text rest : List ℕ) (made : List KeptRun) (first now : ℕ) : Type 0 where
+  pub front : List ℕ
+  pub whole : front ++ rest ≡ text
+  pub parts : Parts front rest
+  pub kept : AreKept front made
+  pub counted : now ≡ first + length front
+
+pub ReadTo-more : (text rest behind : List ℕ) (made more : List KeptRun) (run : KeptRun) (n first now now' : ℕ)
+    → ReadTo text rest made first now → IsLineLen rest n → IsKeptRun (take n rest) [] run
+    → more ≡ made ++ run ∷ [] → now' ≡ now + length (take n rest) → behind ≡ drop n rest
+    → ReadTo text behind more first now'
+ReadTo-more text rest behind made more run n first now now' to is kept e counts later =
+    let line = take n rest in
+    let size : length line ≡ n = length-take-le n rest is.inside in
+    let parts : Parts to.front (line ++ drop n rest) = rw (take-append-drop n rest) to.parts in
+    rw (e, later) (record {
+      front = to.front ++ line;
+      whole = append_assoc to.front line (drop n rest) ∙ ap (λ l. to.front ++ l) (take-append-drop n rest)
+          ∙ to.whole;
+      parts = Parts-next to.front line (drop n rest) (omega (arith, size, is.some)) parts is.parts;
+      kept = together to.front line made (run ∷ []) (Parts-front to.front line (drop n rest) parts) to.kept
+          (kept_alone line run kept);
+      counted = omega (arith, counts, to.counted, length-append to.front line);
     })

@@ -1,7 +1,7 @@
 -- Where a logical line ends: texts byte by byte.
 use Rattle.std.proofs.Common.{◌≡◌, ℕ, zero, suc, ◌+◌, ◌-◌, ◌<◌, ◌≤◌, List, [], ◌∷◌}
-use Rattle.std.proofs.Common.{◌++◌, length, take}
-use Rattle.std.proofs.Common.{Bool, true, false, ◌&&◌, ◌||◌, ◌==◌, nat_eq, refl, sym, ◌∙◌, ap, arith}
+use Rattle.std.proofs.Common.{◌++◌, length, take, slice_index_or}
+use Rattle.std.proofs.Common.{Bool, true, false, not, ◌&&◌, ◌||◌, ◌==◌, nat_eq, refl, sym, ◌∙◌, ap, arith}
 use Rattle.std.proofs.Common.{eqb-true}
 use Rattle.std.proofs.Common.{true≢false, append-nil, cond, map, count_by, get_or}
 use Rattle.std.specs.List.{concat}
@@ -97,6 +97,46 @@ ended-behind (a ∷ c ∷ []) b back is = ended-later a c b back
     ∙ ended-behind (c ∷ []) b back (ended-tail a (c ∷ []) is)
 ended-behind (a ∷ c ∷ d ∷ front) b back is = ended-later a c d (front ++ b ∷ back)
     ∙ ended-behind (c ∷ d ∷ front) b back (ended-tail a (c ∷ d ∷ front) is)
+
+-- Of a text in front, its last byte alone matters, and only before a single byte.
+ended-two : (front : List ℕ) (b c : ℕ) (back : List ℕ)
+    → is_ended (front ++ b ∷ c ∷ back) ≡ is_ended (b ∷ c ∷ back)
+ended-two [] b c back = refl
+ended-two (a ∷ []) b c back = ended-later a b c back
+ended-two (a ∷ d ∷ []) b c back = ended-later a d b (c ∷ back) ∙ ended-two (d ∷ []) b c back
+ended-two (a ∷ d ∷ e ∷ front) b c back = ended-later a d e (front ++ b ∷ c ∷ back)
+    ∙ ended-two (d ∷ e ∷ front) b c back
+
+ended-last : (front : List ℕ) (b : ℕ) → is_ended (front ++ b ∷ []) ≡ (is_lf b && not (ends_with backslash front))
+ended-last [] b = ended-one b ∙ sym (and_true (is_lf b)) where
+  and_true : (v : Bool) → (v && true) ≡ v
+  and_true true = refl
+  and_true false = refl
+ended-last (a ∷ []) b = rw (joins-two a b) (by (is_lf b) (a == backslash)) where
+  by : (v w : Bool) → (v && not (w && v)) ≡ (v && not w)
+  by true true = refl
+  by true false = refl
+  by false w = refl
+ended-last (a ∷ c ∷ []) b = ended-later a c b [] ∙ ended-last (c ∷ []) b
+ended-last (a ∷ c ∷ d ∷ front) b = ended-later a c d (front ++ b ∷ []) ∙ ended-last (c ∷ d ∷ front) b
+
+pub one_behind : (front back : List ℕ) → length back ≡ 1 → (v : Bool) → is_lf (slice_index_or back 0 0) ≡ v
+    → is_ended (front ++ back) ≡ (v && not (ends_with backslash front))
+one_behind front [] size v e = absurd (omega (arith, size))
+one_behind front (b ∷ []) size v e = ended-last front b ∙ ap (λ w. w && not (ends_with backslash front)) e
+one_behind front (b ∷ c ∷ back) size v e = absurd (omega (arith, size))
+
+pub lf_isnt : (b : ℕ) → (b ≡ lf → ⊥) → is_lf b ≡ false
+lf_isnt b isnt = by _ refl
+  where
+    by : (v : Bool) → is_lf b ≡ v → is_lf b ≡ false
+    by true e = absurd (isnt (eqb-true b lf e))
+    by false e = e
+
+pub two_behind : (front back : List ℕ) → 2 ≤ length back → is_ended (front ++ back) ≡ is_ended back
+two_behind front [] size = absurd (omega (arith, size))
+two_behind front (b ∷ []) size = absurd (omega (arith, size))
+two_behind front (b ∷ c ∷ back) size = ended-two front b c back
 
 -- ---- the logical lines, byte by byte
 

@@ -10,11 +10,10 @@ use Rattle.std.proofs.lemmas.Bool.Decides.{nat_tests}
 use Rattle.std.proofs.lemmas.List.{drop-append-le, length-take, take-append-drop, take-append-le}
 use Rattle.hc_base.specs.Lines.{pieces}
 use Rattle.hc_lines.specs.Logical.{is_nothing, runs}
-use Rattle.hc_lines.specs.declared.line.FileKind.{FileKind}
 use Rattle.hc_kept_lines.specs.Edit.{is_ended}
-use Rattle.hc_kept_lines.specs.Runs.{AreKept, IsKeptRun, Parts, owed, within}
+use Rattle.hc_kept_lines.specs.Runs.{AreKept, IsKeptRun, Parts, within}
 use Rattle.hc_kept_lines.specs.declared.runs.KeptRun.{KeptRun}
-use Rattle.hc_kept_lines.proofs.Ending.{ended-back, runs-append, some_runs}
+use Rattle.hc_kept_lines.proofs.Ending.{ended-back, ended-behind, runs-append, some_runs}
 
 -- ---- parts
 
@@ -66,9 +65,9 @@ nil-left [] ys e = refl
 nil-left (x ∷ xs) ys e = cc
 
 -- A logical line that begins with a part lies within it.
-fits : (file : FileKind) (x : ℕ) (xs ys more : List ℕ) (run : KeptRun) → Parts (x ∷ xs) ys
-    → IsKeptRun file (take run.bytes (x ∷ xs ++ ys)) more run → length (x ∷ xs) < run.bytes → ⊥
-fits file x xs ys more run parts kept large = by ys (run.bytes - length (x ∷ xs)) parts (omega arith) whole
+fits : (x : ℕ) (xs ys more : List ℕ) (run : KeptRun) → Parts (x ∷ xs) ys
+    → IsKeptRun (take run.bytes (x ∷ xs ++ ys)) more run → length (x ∷ xs) < run.bytes → ⊥
+fits x xs ys more run parts kept large = by ys (run.bytes - length (x ∷ xs)) parts (omega arith) whole
     (subst (λ line. (length line ≡ run.bytes) × (runs (pieces line) ≡ pieces line ∷ [])) whole
     (kept.bytes, kept.single))
   where
@@ -91,14 +90,14 @@ fits file x xs ys more run parts kept large = by ys (run.bytes - length (x ∷ x
 
 -- ---- kept lines of two parts
 
-pub record AreApart (file : FileKind) (xs ys : List ℕ) (runs : List KeptRun) : Type 0 where
-  pub front : AreKept file xs (take (within runs (length xs)) runs)
-  pub back : AreKept file ys (drop (within runs (length xs)) runs)
+pub record AreApart (xs ys : List ℕ) (runs : List KeptRun) : Type 0 where
+  pub front : AreKept xs (take (within runs (length xs)) runs)
+  pub back : AreKept ys (drop (within runs (length xs)) runs)
 
 -- the same logical line before less
-pub before-less : (file : FileKind) (line mid back : List ℕ) (run : KeptRun) → IsKeptRun file line (mid ++ back) run
-    → IsKeptRun file line mid run
-before-less file line mid back run kept = record {
+pub before-less : (line mid back : List ℕ) (run : KeptRun) → IsKeptRun line (mid ++ back) run
+    → IsKeptRun line mid run
+before-less line mid back run kept = record {
   bytes = kept.bytes;
   some = kept.some;
   single = kept.single;
@@ -107,19 +106,19 @@ before-less file line mid back run kept = record {
   read = kept.read;
 }
 
-apart_none : (file : FileKind) (xs ys : List ℕ) (run : KeptRun) (more : List KeptRun) → Parts xs ys
-    → AreKept file (xs ++ ys) (run ∷ more) → length xs < run.bytes → AreApart file xs ys (run ∷ more)
-apart_none file [] ys run more parts kept small =
+apart_none : (xs ys : List ℕ) (run : KeptRun) (more : List KeptRun) → Parts xs ys
+    → AreKept (xs ++ ys) (run ∷ more) → length xs < run.bytes → AreApart xs ys (run ∷ more)
+apart_none [] ys run more parts kept small =
     let e : nat_lt 0 run.bytes ≡ true = grind (arith, nat_tests) in
     record { front = rw e refl; back = rw e kept }
-apart_none file (x ∷ xs) ys run more parts kept small = absurd (fits file x xs ys _ run parts kept.0 small)
+apart_none (x ∷ xs) ys run more parts kept small = absurd (fits x xs ys _ run parts kept.0 small)
 
-apart_more : (file : FileKind) (xs ys : List ℕ) (run : KeptRun) (more : List KeptRun)
-    → AreKept file (xs ++ ys) (run ∷ more) → nat_lt (length xs) run.bytes ≡ false
-    → AreApart file (drop run.bytes xs) ys more → AreApart file xs ys (run ∷ more)
-apart_more file xs ys run more kept e later =
+apart_more : (xs ys : List ℕ) (run : KeptRun) (more : List KeptRun)
+    → AreKept (xs ++ ys) (run ∷ more) → nat_lt (length xs) run.bytes ≡ false
+    → AreApart (drop run.bytes xs) ys more → AreApart xs ys (run ∷ more)
+apart_more xs ys run more kept e later =
     let n : run.bytes ≤ length xs = ltb-false _ _ e in
-    let here = before-less file (take run.bytes xs) (drop run.bytes xs) ys run
+    let here = before-less (take run.bytes xs) (drop run.bytes xs) ys run
     (rw (take-append-le run.bytes xs ys n, drop-append-le run.bytes xs ys n) at kept.0) in
     let size = length-drop run.bytes xs in
     record {
@@ -128,31 +127,31 @@ apart_more file xs ys run more kept e later =
     }
 
 -- The kept lines of a text in two parts are those of each.
-pub apart : (file : FileKind) (xs ys : List ℕ) (runs : List KeptRun) → Parts xs ys → AreKept file (xs ++ ys) runs
-    → AreApart file xs ys runs
-apart file xs ys [] parts kept =
+pub apart : (xs ys : List ℕ) (runs : List KeptRun) → Parts xs ys → AreKept (xs ++ ys) runs
+    → AreApart xs ys runs
+apart xs ys [] parts kept =
     let none = nil-left xs ys kept in
     record { front = none; back = subst (λ l. l ++ ys ≡ []) none kept }
-apart file xs ys (run ∷ more) parts kept = by _ refl
-    (λ (n : run.bytes ≤ length xs). apart file (drop run.bytes xs) ys more (later n) (kept_later n))
+apart xs ys (run ∷ more) parts kept = by _ refl
+    (λ (n : run.bytes ≤ length xs). apart (drop run.bytes xs) ys more (later n) (kept_later n))
   where
     later : run.bytes ≤ length xs → Parts (drop run.bytes xs) ys
     later n = Parts-back (take run.bytes xs) (drop run.bytes xs) ys
         (subst (λ l. Parts l ys) (sym (take-append-drop run.bytes xs)) parts)
 
-    kept_later : run.bytes ≤ length xs → AreKept file (drop run.bytes xs ++ ys) more
+    kept_later : run.bytes ≤ length xs → AreKept (drop run.bytes xs ++ ys) more
     kept_later n = rw (drop-append-le run.bytes xs ys n) at kept.1
 
     by : (v : Bool) → nat_lt (length xs) run.bytes ≡ v
-        → (run.bytes ≤ length xs → AreApart file (drop run.bytes xs) ys more)
-        → AreApart file xs ys (run ∷ more)
-    by true e more_apart = apart_none file xs ys run more parts kept (ltb-true _ _ e)
-    by false e more_apart = apart_more file xs ys run more kept e (more_apart (ltb-false _ _ e))
+        → (run.bytes ≤ length xs → AreApart (drop run.bytes xs) ys more)
+        → AreApart xs ys (run ∷ more)
+    by true e more_apart = apart_none xs ys run more parts kept (ltb-true _ _ e)
+    by false e more_apart = apart_more xs ys run more kept e (more_apart (ltb-false _ _ e))
 
 -- the same logical line before more
-before-more : (file : FileKind) (line mid back : List ℕ) (run : KeptRun) → IsKeptRun file line mid run
-    → Parts (line ++ mid) back → IsKeptRun file line (mid ++ back) run
-before-more file line mid back run kept parts = record {
+before-more : (line mid back : List ℕ) (run : KeptRun) → IsKeptRun line mid run
+    → Parts (line ++ mid) back → IsKeptRun line (mid ++ back) run
+before-more line mid back run kept parts = record {
   bytes = kept.bytes;
   some = kept.some;
   single = kept.single;
@@ -162,45 +161,26 @@ before-more file line mid back run kept parts = record {
 }
 
 -- The kept lines of two parts are those of the text that they make.
-pub together : (file : FileKind) (xs ys : List ℕ) (runs more : List KeptRun) → Parts xs ys → AreKept file xs runs
-    → AreKept file ys more → AreKept file (xs ++ ys) (runs ++ more)
-together file xs ys [] more parts kept later = rw kept later
-together file xs ys (run ∷ runs) more parts kept later =
+pub together : (xs ys : List ℕ) (runs more : List KeptRun) → Parts xs ys → AreKept xs runs
+    → AreKept ys more → AreKept (xs ++ ys) (runs ++ more)
+together xs ys [] more parts kept later = rw kept later
+together xs ys (run ∷ runs) more parts kept later =
     let line = take run.bytes xs in
     let mid = drop run.bytes xs in
     let size = kept.0.bytes in
     let n : run.bytes ≤ length xs = size_of in
     let whole : Parts (line ++ mid) ys = subst (λ l. Parts l ys) (sym (take-append-drop run.bytes xs)) parts in (
       rw (take-append-le run.bytes xs ys n, drop-append-le run.bytes xs ys n)
-          (before-more file line mid ys run kept.0 whole),
+          (before-more line mid ys run kept.0 whole),
       rw (drop-append-le run.bytes xs ys n)
-          (together file mid ys runs more (Parts-back line mid ys whole) kept.1 later),
+          (together mid ys runs more (Parts-back line mid ys whole) kept.1 later),
     )
   where
     size_of : run.bytes ≤ length xs
     size_of = omega (arith, kept.0.bytes, length-take run.bytes xs)
 
--- ---- what is owed
+-- ---- a part behind an ended text
 
-pub owed-append : (runs more : List KeptRun) → owed (runs ++ more) ≡ owed runs + owed more
-owed-append [] more = omega arith
-owed-append (run ∷ runs) more = omega (arith, owed-append runs more)
-
-pub owed-take : (runs : List KeptRun) (i j : ℕ) → i ≤ j → owed (take i runs) ≤ owed (take j runs)
-owed-take runs zero j less = omega arith
-owed-take [] (suc i) zero less = absurd (omega arith)
-owed-take [] (suc i) (suc j) less = omega arith
-owed-take (run ∷ runs) (suc i) zero less = absurd (omega arith)
-owed-take (run ∷ runs) (suc i) (suc j) less = omega (arith, owed-take runs i j (omega arith))
-
-pub within-le : (runs : List KeptRun) (m n : ℕ) → m ≤ n → within runs m ≤ within runs n
-within-le [] m n less = omega arith
-within-le (run ∷ runs) m n less = by _ _ refl refl (λ h. within-le runs (m - run.bytes) (n - run.bytes)
-    (omega arith))
-  where
-    by : (v w : Bool) → nat_lt m run.bytes ≡ v → nat_lt n run.bytes ≡ w
-        → (run.bytes ≤ n → within runs (m - run.bytes) ≤ within runs (n - run.bytes))
-        → within (run ∷ runs) m ≤ within (run ∷ runs) n
-    by true w e f more = rw e (omega arith)
-    by false true e f more = absurd (omega (arith, ltb-false _ _ e, ltb-true _ _ f))
-    by false false e f more = rw (e, f) (omega (arith, more (ltb-false _ _ f)))
+pub ended-front : (front back : List ℕ) → is_ended front ≡ true → is_ended (front ++ back) ≡ is_ended back
+ended-front front [] is = ap is_ended (append-nil front) ∙ is
+ended-front front (b ∷ back) is = ended-behind front b back is

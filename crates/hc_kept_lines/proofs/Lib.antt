@@ -1,10 +1,9 @@
-mod Editing
+pub mod Editing
 mod Ending
 mod Cutting
 mod Joins
 mod Keeping
-mod Pieces
-mod Spanning
+pub mod Pieces
 mod Touching
 mod Trimming
 mod Walking

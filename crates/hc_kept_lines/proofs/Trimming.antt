@@ -11,7 +11,7 @@ use Rattle.std.proofs.lemmas.Str.{IsCharBoundary-start}
 use Rattle.hc_base.proofs.Shared.{blank_ascii}
 use Rattle.hc_base.specs.Bytes.{backslash, cr, ends_with, lf}
 use Rattle.hc_base.specs.Lines.{is_blank, is_lf}
-use Rattle.hc_lines.specs.Logical.{from_first, indent, is_join, is_nothing, source, up_to_last, without_end}
+use Rattle.hc_lines.specs.Logical.{from_first, indent, is_join, is_nothing, size, source, up_to_last, without_end}
 use Rattle.hc_lines.specs.Logical.{without_last}
 
 abbrev pub AllAscii : List ℕ → Type 0
@@ -180,3 +180,24 @@ is_source line whole =
       last = rw two at (before_ascii (g.front ++ said) (h.back ++ f.back) line
           (e ∙ sym (append_assoc g.front said (h.back ++ f.back))) (AllAscii-append h.back f.back h.ascii f.ascii));
     })
+
+-- ---- without its end
+
+pub without_last-ended : (byte : ℕ) (bs : List ℕ) → ends_with byte bs ≡ true
+    → take (length bs - 1) bs ≡ without_last byte bs
+without_last-ended byte [] is = refl
+without_last-ended byte (b ∷ []) is = rw is refl
+without_last-ended byte (b ∷ c ∷ bs) is =
+    let e : suc (suc (length bs)) - 1 ≡ suc (suc (length bs) - 1) = omega arith in
+    rw e (ap (λ l. b ∷ l) (without_last-ended byte (c ∷ bs) is))
+
+pub without_last-same : (byte : ℕ) (bs : List ℕ) → ends_with byte bs ≡ false → bs ≡ without_last byte bs
+without_last-same byte [] isnt = refl
+without_last-same byte (b ∷ []) isnt = rw isnt refl
+without_last-same byte (b ∷ c ∷ bs) isnt = ap (λ l. b ∷ l) (without_last-same byte (c ∷ bs) isnt)
+
+-- a line has no larger size than bytes
+pub size-within : (count : ℕ) (line : List ℕ) → size count line ≤ length line
+size-within count line =
+    let body = without_end-front line in
+    omega (arith, ap length body.is, length-append (without_end line) body.back)

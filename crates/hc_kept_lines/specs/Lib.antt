@@ -1,4 +1,3 @@
 pub mod Edit
-pub mod Kept
 pub mod Places
 pub mod Runs

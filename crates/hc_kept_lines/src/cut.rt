@@ -1,35 +1,20 @@
-ghost use Rattle.std.specs.Prelude.{◌≡◌, ◌^◌, ◌<◌, length, IfOk};
-ghost use Rattle.hc_kept_lines.specs.Runs.{AreUnread, unread};
+ghost use Rattle.std.specs.Prelude.{◌≡◌, ◌≤◌, length, take, drop};
+ghost use Rattle.hc_kept_lines.specs.Runs.{Parts};
 
-use crate::ends::{count_lines, line_len};
-use crate::runs::{KeptRun, Reading};
-use hc_base::NoMemory;
-use std::alloc::Global;
+use hc_lines::cut_behind;
 
-/// The logical lines of a text, none of which is read.
-pub(crate) fn cut_runs(alloc: Global, text: &[u8]) -> Result<Vec<KeptRun>, NoMemory>
-    requires { length text.now < 2 ^ 32 }
-    ensures { IfOk result (λ runs. AreUnread text.now runs.items) }
+/// A text before a place at which a logical line ends, and behind it.
+pub(crate) fn split_line(text: &str, at: usize) -> (&str, &str)
+    requires inside { at ≤ length text.now }
+    requires parts { Parts (take at text.now) (drop at text.now) }
+    ensures line { result.0.now ≡ take at text.now }
+    ensures behind { result.1.now ≡ drop at text.now }
 {
-    let mut runs = Vec::new(alloc);
-    let mut at = 0;
-    'lines: while at < text.len() {
-        let rest = &text[at..];
-        let bytes = line_len(rest);
-        runs.push(unread(&rest[..bytes]))?;
-        at += bytes;
+    if at == 0 {
+        return ("", text);
     }
-    Ok(runs)
-}
-
-// A logical line that isn't read.
-fn unread(line: &[u8]) -> KeptRun
-    requires { length line.now < 2 ^ 32 }
-    ensures { result ≡ unread line.now }
-{
-    KeptRun {
-        bytes: line.len() as u32,
-        count: count_lines(line) as u32,
-        read: Reading::Unread,
+    if at == text.len() {
+        return (text, "");
     }
+    cut_behind(text, at - 1)
 }

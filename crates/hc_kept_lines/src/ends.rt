@@ -1,4 +1,4 @@
-ghost use Rattle.std.specs.Prelude.{◌≡◌, ◌<◌, ◌≤◌, length, count_by};
+ghost use Rattle.std.specs.Prelude.{◌≡◌, ◌<◌, ◌++◌, length, count_by};
 ghost use Rattle.hc_base.specs.Lines.{is_lf, pieces};
 ghost use Rattle.hc_lines.specs.Logical.{joins};
 ghost use Rattle.hc_kept_lines.specs.Edit.{is_ended};
@@ -15,6 +15,17 @@ pub(crate) fn is_ended(text: &[u8]) -> bool
         return true;
     }
     ends_with(text, b'\n') && !joins(text)
+}
+
+/// No logical line goes on behind a text and more behind it.
+pub(crate) fn is_ended_behind(front: &[u8], back: &[u8]) -> bool
+    ensures { result ≡ is_ended (front.now ++ back.now) }
+{
+    match back {
+        [] => is_ended(front),
+        [byte] => *byte == b'\n' && !ends_with(front, b'\\'),
+        _ => is_ended(back),
+    }
 }
 
 // The bytes end in a backslash and LF.

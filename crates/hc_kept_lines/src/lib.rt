@@ -1,21 +1,19 @@
-//! A configuration text that is edited by physical lines, and whose logical lines are read once.
+//! What the logical lines of a configuration text are read as, kept beside a text that is edited by physical lines.
 //!
-//! `KeptFile::replace` leaves exactly the edited text (`text`), and owes at most the bytes of the logical lines that
-//! the edit makes beside what it owed (`owed`, with `anew` in specs/Edit.antt); an error leaves all as it was (`err`).
-//! `KeptFile::refresh` is Ok exactly where the present text has lines, and else gives its refusal (`answer`); what it
-//! counts is no longer owed, whatever it answers but that memory was refused (`counted`), and it never counts more than
-//! was owed (`spent`). `KeptFile::lines` gives exactly the lines of the present text (`lines`), with their spans in
-//! order and apart (`spans`).
+//! `KeptLines::of` reads each logical line of a text, for both kinds of file at once. `KeptLines::edited` gives those of the
+//! edited text (`lines`), and counts at most the bytes of the logical lines that the edit makes (`bytes`, with `anew` in
+//! specs/Edit.antt): all others are taken over. `KeptLines::lines` gives exactly the lines of the text as one of either kind,
+//! or its first refusal, and reads nothing.
 #![tactic(auto)]
 
 mod cut;
 mod edit;
 mod ends;
-mod file;
+mod lines;
 mod places;
 mod read;
 mod runs;
 mod told;
 mod unjoin;
 
-pub use file::KeptFile;
+pub use lines::KeptLines;

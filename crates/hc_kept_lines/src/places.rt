@@ -1,11 +1,11 @@
-ghost use Rattle.std.specs.Prelude.{◌≡◌, ◌+◌, ◌≤◌, true, length, take, drop, ◌&&◌};
+ghost use Rattle.std.specs.Prelude.{◌≡◌, ◌≤◌, ◌++◌, true, length, take, drop, ◌&&◌};
 ghost use Rattle.std.specs.List.{position};
 ghost use Rattle.hc_base.specs.Lines.{is_lf, pieces};
 ghost use Rattle.hc_kept_lines.specs.Edit.{is_ended, open_line, touched};
 ghost use Rattle.hc_kept_lines.specs.Places.{IsBehind, piece_len};
 ghost use Rattle.hc_kept_lines.specs.Runs.{Parts};
 
-use crate::ends::is_ended;
+use crate::ends::{is_ended, is_ended_behind};
 
 /// The last place of a text at which a logical line ends; what stands behind it is open.
 pub(crate) fn open_start(text: &[u8]) -> usize
@@ -20,30 +20,26 @@ pub(crate) fn open_start(text: &[u8]) -> usize
     end
 }
 
-/// How many bytes behind a place of the old text, and the same bytes behind one of the new text, stand
-/// before the first place at which a logical line ends in both.
-pub(crate) fn touched_len(old: &[u8], end: usize, new: &[u8], stop: usize) -> usize
-    requires old { end ≤ length old.now }
-    requires new { stop ≤ length new.now }
-    requires same { drop end old.now ≡ drop stop new.now }
-    ensures value { result ≡ length (touched (take end old.now) (take stop new.now) (drop stop new.now)) }
-    ensures inside { stop + result ≤ length new.now }
-    ensures old { Parts (take (end + result) old.now) (drop (end + result) old.now) }
-    ensures new { Parts (take (stop + result) new.now) (drop (stop + result) new.now) }
+/// How many bytes behind an old and a new text stand before the first place at which a logical line
+/// ends in both.
+pub(crate) fn touched_len(was: &[u8], now: &[u8], back: &[u8]) -> usize
+    ensures value { result ≡ length (touched was.now now.now back.now) }
+    ensures inside { result ≤ length back.now }
+    ensures was { Parts (was.now ++ take result back.now) (drop result back.now) }
+    ensures now { Parts (now.now ++ take result back.now) (drop result back.now) }
 {
-    let back = new.len() - stop;
-    for more in 0..back {
-        if are_ended(&old[..end + more], &new[..stop + more]) {
+    for more in 0..back.len() {
+        if are_ended(was, now, &back[..more]) {
             return more;
         }
     }
-    back
+    back.len()
 }
 
-fn are_ended(old: &[u8], new: &[u8]) -> bool
-    ensures { result ≡ (is_ended old.now && is_ended new.now) }
+fn are_ended(was: &[u8], now: &[u8], more: &[u8]) -> bool
+    ensures { result ≡ (is_ended (was.now ++ more.now) && is_ended (now.now ++ more.now)) }
 {
-    is_ended(old) && is_ended(new)
+    is_ended_behind(was, more) && is_ended_behind(now, more)
 }
 
 /// The place behind so many physical lines.

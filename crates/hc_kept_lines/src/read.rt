@@ -1,99 +1,76 @@
-ghost use Rattle.std.specs.Prelude.{◌≡◌, ℕ, ◌+◌, ◌<◌, ◌≤◌, [], ◌∷◌, length, take, drop};
-ghost use Rattle.std.specs.Prelude.{IfOk, OnOk};
+ghost use Rattle.std.specs.Prelude.{◌≡◌, ◌+◌, ◌^◌, ◌<◌, ◌≤◌, [], ◌∷◌, length, IfOk};
 ghost use Rattle.hc_base.specs.Lines.{pieces};
-ghost use Rattle.hc_lines.specs.Logical.{lines_of, runs};
-ghost use Rattle.hc_kept_lines.specs.Kept.{Answers, Counts};
-ghost use Rattle.hc_kept_lines.specs.Runs.{IsKept, IsReadAs, Parts, owed, owed_by, reading_of};
+ghost use Rattle.hc_lines.specs.Logical.{runs, size, without_end, without_last};
+ghost use Rattle.hc_kept_lines.specs.Runs.{AreKept, IsKeptRun, IsReadAs, IsUncut, reading_of};
 
+use crate::cut::split_line;
+use crate::ends::{count_lines, line_len};
 use crate::runs::{KeptRun, Reading};
-use hc_base::{AtLine, Counter, Fault, NoMemory};
-use hc_lines::{FileKind, Line, LineFault, cut_behind, logical_lines};
+use hc_base::bytes::ends_with;
+use hc_base::{Counter, Fault, NoMemory};
+use hc_lines::{FileKind, Line, logical_lines};
 use std::alloc::Global;
 use std::sync::ledger::Ledger;
 
-/// Reads the logical lines that aren't read yet, up to the first that is refused.
+/// Reads each logical line of a text.
 pub(crate) fn read_runs<L: Ledger>(
     alloc: Global,
-    file: FileKind,
     text: &str,
-    runs: &mut [KeptRun],
     bytes: &mut Counter<L>,
-) -> Result<(), LineFault>
-    requires { IsKept file text.now runs.old }
-    ensures kept { IsKept file text.now runs.new }
-    ensures answer { Answers result (lines_of file text.now) }
-    ensures all { OnOk result (owed runs.new ≡ 0) }
-    ensures less { owed runs.new ≤ owed runs.old }
-    ensures spent { bytes.new ≤ bytes.old + owed runs.old }
-    ensures counted { Counts result (bytes.old + owed runs.old) (bytes.new + owed runs.new) }
+) -> Result<Vec<KeptRun>, NoMemory>
+    requires { length text.now < 2 ^ 32 }
+    ensures kept { IfOk result (λ made. AreKept text.now made.items) }
+    ensures rise { bytes.old ≤ bytes.new }
+    ensures bytes { bytes.new ≤ bytes.old + length text.now }
 {
-    let mut number = 1usize;
+    let mut runs = Vec::new(alloc);
     let mut rest = text;
-    for index in 0..runs.len() {
-        let run = runs[index];
-        let (line, behind) = split_line(rest, run.bytes as usize);
-        let read = read_run(alloc, file, line, run.read, bytes)?;
-        runs[index] = KeptRun { read, ..run };
-        if let Reading::Refused(code) = read {
-            return Err(Fault::Refused(AtLine {
-                code,
-                line: number as u32,
-            }));
-        }
-        number += run.count as usize;
+    'lines: while !rest.is_empty() {
+        let (line, behind) = split_line(rest, line_len(rest.as_bytes()));
+        let run = read_run(alloc, line, bytes)?;
+        runs.push(run)?;
         rest = behind;
     }
-    Ok(())
+    Ok(runs)
 }
 
-/// The first logical line of a text, which has so many bytes, and what follows it.
-pub(crate) fn split_line(text: &str, bytes: usize) -> (&str, &str)
-    requires some { 0 < bytes }
-    requires inside { bytes ≤ length text.now }
-    requires parts { Parts (take bytes text.now) (drop bytes text.now) }
-    ensures line { result.0.now ≡ take bytes text.now }
-    ensures behind { result.1.now ≡ drop bytes text.now }
-{
-    if bytes == text.len() {
-        return (text, "");
-    }
-    cut_behind(text, bytes - 1)
-}
-
-// What a logical line is read as, which is read only where it wasn't.
+// Reads one logical line.
 fn read_run<L: Ledger>(
     alloc: Global,
-    file: FileKind,
     line: &str,
-    read: Reading,
     bytes: &mut Counter<L>,
-) -> Result<Reading, NoMemory>
-    requires single { runs (pieces line.now) ≡ pieces line.now ∷ [] }
-    requires read { IsReadAs file line.now read }
-    ensures read { IfOk result (λ now. IsReadAs file line.now now) }
-    ensures known { IfOk result (λ now. (n : ℕ) → owed_by now n ≡ 0) }
-    ensures bytes { bytes.new ≡ bytes.old + owed_by read (length line.now) }
+) -> Result<KeptRun, NoMemory>
+    requires small { length line.now < 2 ^ 32 }
+    requires some { 0 < length line.now }
+    requires uncut { IsUncut line.now }
+    ensures kept { IfOk result (IsKeptRun line.now []) }
+    ensures bytes { bytes.new ≡ bytes.old + length line.now }
 {
-    match read {
-        Reading::Unread => read_line(alloc, file, line, bytes),
-        _ => Ok(read),
-    }
+    let read = read_line(alloc, line, bytes)?;
+    let count = count_lines(line.as_bytes());
+    let size = size(line.as_bytes(), count);
+    Ok(KeptRun {
+        bytes: line.len() as u32,
+        count: count as u32,
+        size: size as u32,
+        read,
+    })
 }
 
+// What a logical line is read as where it isn't too long. A line that is too long for either kind is
+// read as what it may.
 fn read_line<L: Ledger>(
     alloc: Global,
-    file: FileKind,
     line: &str,
     bytes: &mut Counter<L>,
 ) -> Result<Reading, NoMemory>
     requires { runs (pieces line.now) ≡ pieces line.now ∷ [] }
-    ensures read { IfOk result (λ read. IsReadAs file line.now read) }
-    ensures known { IfOk result (λ read. (n : ℕ) → owed_by read n ≡ 0) }
+    ensures read { IfOk result (IsReadAs line.now (size (length (pieces line.now)) line.now)) }
     ensures bytes { bytes.new ≡ bytes.old + length line.now }
 {
-    match logical_lines(alloc, line, file, bytes) {
+    match logical_lines(alloc, line, FileKind::Config, bytes) {
         Ok(lines) => Ok(reading_of(&lines)),
-        Err(Fault::Refused(refusal)) => Ok(Reading::Refused(refusal.code)),
+        Err(Fault::Refused(_)) => Ok(Reading::Forbidden),
         Err(Fault::NoMemory) => Err(NoMemory),
     }
 }
@@ -107,5 +84,35 @@ fn reading_of(lines: &[Line]) -> Reading
             start: line.span.start,
             end: line.span.end,
         },
+    }
+}
+
+// How many bytes a logical line of so many physical lines has without its end and its joins.
+fn size(line: &[u8], count: usize) -> usize
+    requires { count ≤ length line.now }
+    ensures { result ≡ size count line.now }
+{
+    let joins = count.saturating_sub(1);
+    without_end(line).len().saturating_sub(2 * joins)
+}
+
+// A text without the LF, or the CR and LF, that ends it.
+fn without_end(text: &[u8]) -> &[u8]
+    ensures { result.now ≡ without_end text.now }
+{
+    if ends_with(text, b'\n') {
+        without_last(without_last(text, b'\n'), b'\r')
+    } else {
+        text
+    }
+}
+
+fn without_last(text: &[u8], byte: u8) -> &[u8]
+    ensures { result.now ≡ without_last byte text.now }
+{
+    if ends_with(text, byte) {
+        &text[..text.len() - 1]
+    } else {
+        text
     }
 }

@@ -4,23 +4,24 @@ ghost use Rattle.hc_kept_lines.specs.Runs.{within};
 use hc_base::NoMemory;
 use std::alloc::Global;
 
-/// What a logical line was read as.
+/// What a logical line was read as where it isn't too long.
 #[derive(Clone, Copy)]
 pub(crate) enum Reading {
-    Unread,
     // Blank or a comment.
     Nothing,
     // The line is said from one byte of the logical line up to and without another.
     Said { start: u32, end: u32 },
-    // The number of the rule that it breaks.
-    Refused(u8),
+    // It has a control byte.
+    Forbidden,
 }
 
-/// A logical line of a text: its bytes, its physical lines, and what it was read as.
+/// A logical line of a text: its bytes, its physical lines, its bytes without its end and its joins,
+/// and what it was read as.
 #[derive(Clone, Copy)]
 pub(crate) struct KeptRun {
     pub(crate) bytes: u32,
     pub(crate) count: u32,
+    pub(crate) size: u32,
     pub(crate) read: Reading,
 }
 
@@ -42,6 +43,15 @@ pub(crate) fn with_runs(
     made.extend_from_slice(front)?;
     made.extend_from_slice(fresh)?;
     made.extend_from_slice(back)?;
+    Ok(made)
+}
+
+/// The same ones.
+pub(crate) fn copied(alloc: Global, runs: &[KeptRun]) -> Result<Vec<KeptRun>, NoMemory>
+    ensures { IfOk result (λ made. made.items ≡ runs.now) }
+{
+    let mut made = Vec::with_capacity(alloc, runs.len())?;
+    made.extend_from_slice(runs)?;
     Ok(made)
 }
 

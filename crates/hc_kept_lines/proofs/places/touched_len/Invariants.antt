@@ -2,4 +2,4 @@ use Rattle.hc_kept_lines.proofs.Touching.{TouchedTo}
 use Rattle.hc_kept_lines.proofs.places.touched_len.Given as goal
 
 abbrev pub invariant-loop-more : goal.invariant-loop-more
-invariant-loop-more l = TouchedTo l.old l.end l.new l.stop l.more
+invariant-loop-more l = TouchedTo l.was l.now l.back l.more

@@ -1,7 +1,7 @@
 use Rattle.std.proofs.Common.{arith}
 use Rattle.hc_kept_lines.proofs.Walking.{parts_ascii}
-use Rattle.hc_kept_lines.proofs.read.split_line.Goals as goal
+use Rattle.hc_kept_lines.proofs.cut.split_line.Goals as goal
 
 pub cut_behind-requires-clause-ascii : goal.cut_behind-requires-clause-ascii
 cut_behind-requires-clause-ascii c =
-    parts_ascii c.args.text.now c.args.bytes c.requires.some (omega arith) c.requires.parts
+    parts_ascii c.args.text.now c.args.at (omega arith) (omega arith) c.requires.parts
